@@ -1,0 +1,1 @@
+// Facts on numbers and lists that the kit's library lacks; the crate has no code.

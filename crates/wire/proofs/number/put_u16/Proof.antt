@@ -1,0 +1,47 @@
+-- The upper half is stored, then the lower one behind it; past the end nothing is stored.
+use mathlib.Core.Path.{sym}
+use denote.Ref.{now}
+use Rattle.wire.specs.Number.{bytesOf}
+use Rattle.wire.specs.NumberLaws.{past-kept, stored-joined}
+use borrow.Author.Needs.{needs}
+use Rattle.wire.proofs.number.put_u16.Statement.{statement}
+use Rattle.wire.proofs.number.put_u16.Tie as tie
+
+cast-put-u8 : tie.Need-cast-put-u8
+cast-put-u8 c = search needs
+
+put-u8-requires : tie.Need-put-u8-requires
+put-u8-requires c κs = search needs
+
+add-put-u8 : tie.Need-add-put-u8
+add-put-u8 c = search needs
+
+cast-put-u8-2 : tie.Need-cast-put-u8-2
+cast-put-u8-2 c = search needs
+
+put-u8-requires-2 : tie.Need-put-u8-requires-2
+put-u8-requires-2 c κs = search needs
+
+same-length : tie.Need-same-length
+same-length c = search needs
+
+returns : tie.Need-returns
+returns c =
+    let a = c .before .before .before .before .before .before .before .before .before .before .args in
+    rw (stored-joined 1 1 (a .number) (now (a .s)) (a .at), ← c .before .before .before .before .before .before .put-u8 .ensures) (c .before .before .put-u82 .ensures)
+
+returns-2 : tie.Need-returns-2
+returns-2 c = sym (past-kept (bytesOf 2 (c .before .before .args .number)) (now (c .before .before .args .s)) _ (c .if1 .left))
+
+pub put-u16-spec : {M : Type 1} → statement M
+put-u16-spec =
+    tie.close
+    (tie.spec
+    cast-put-u8
+    put-u8-requires
+    add-put-u8
+    cast-put-u8-2
+    put-u8-requires-2
+    same-length
+    returns
+    returns-2)

@@ -1,0 +1,50 @@
+-- Two numbers of two bytes, one behind the other.
+use mathlib.Core.Path.{sym}
+use denote.Ref.{now}
+use Rattle.wire.specs.NumberLaws.{past-zero, joined}
+use borrow.Author.Needs.{needs}
+use Rattle.wire.proofs.number.u32_at.Statement.{statement}
+use Rattle.wire.proofs.number.u32_at.Tie as tie
+
+u16-at-requires : tie.Need-u16-at-requires
+u16-at-requires c κs = search needs
+
+cast-result : tie.Need-cast-result
+cast-result c = search needs
+
+mul-result : tie.Need-mul-result
+mul-result c = search needs
+
+add-u16-at : tie.Need-add-u16-at
+add-u16-at c = search needs
+
+u16-at-requires-2 : tie.Need-u16-at-requires-2
+u16-at-requires-2 c κs = search needs
+
+cast-result-2 : tie.Need-cast-result-2
+cast-result-2 c = search needs
+
+add-result : tie.Need-add-result
+add-result c = search needs
+
+returns : tie.Need-returns
+returns c =
+    let a = c .before .before .before .before .args in
+    rw (joined 2 2 (now (a .s)) (a .at), ← c .before .u16-at .ensures, ← c .u16-at2 .ensures)
+
+returns-2 : tie.Need-returns-2
+returns-2 c = sym (past-zero 4 (now (c .before .before .args .s)) _ (c .if1 .left))
+
+pub u32-at-spec : {M : Type 1} → statement M
+u32-at-spec =
+    tie.close
+    (tie.spec
+    u16-at-requires
+    cast-result
+    mul-result
+    add-u16-at
+    u16-at-requires-2
+    cast-result-2
+    add-result
+    returns
+    returns-2)

@@ -1,0 +1,5 @@
+pub mod Cases
+pub mod Checksum
+pub mod ChecksumLaws
+pub mod Number
+pub mod NumberLaws

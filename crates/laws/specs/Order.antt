@@ -1,5 +1,5 @@
 -- Two numbers stand in one order or the other: the split that a proof goes by.
-use Prim.Native.Nat.{ℕ, _≤_, _<_}
+use Prim.Native.Nat.{ℕ, suc, _-_, _≤_, _<_}
 use mathlib.Core.Path.{_≡_}
 use mathlib.Core.Logic.{_⊎_, inl, inr}
 use native.Mathlib.Decide.{decLe}
@@ -21,3 +21,7 @@ same a b = go (order a b) (order b a)
     go (inl h) (inr k) = inr (λ e. omega arith)
     go (inr h) (inl k) = inr (λ e. omega arith)
     go (inr h) (inr k) = inr (λ e. omega arith)
+
+-- a number above zero by the one below it
+pub one-below : (k : ℕ) → 0 < k → k ≡ suc (k - 1)
+one-below k h = omega arith

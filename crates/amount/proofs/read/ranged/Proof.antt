@@ -1,0 +1,21 @@
+-- `ranged` judges the capped amount, which is in range where the amount is.
+use borrow.Author.Tests.{le-leb, lt-leb}
+use Rattle.amount.specs.CapLaws.{inRange-cap}
+use borrow.Author.Needs.{needs}
+use Rattle.amount.proofs.read.ranged.Statement.{statement}
+use Rattle.amount.proofs.read.ranged.Tie as tie
+
+returns : tie.Need-returns
+returns c = rw (lt-leb _ _ (c .if1 .taken))
+
+scaled-requires : tie.Need-scaled-requires
+scaled-requires c κs = search needs
+
+returns-2 : tie.Need-returns-2
+returns-2 c = rw (le-leb _ _ (c .before .before .if1 .left), ← inRange-cap _ _ (c .before .before .before .pre), ← c .before .scaled .ensures, le-leb _ _ (c .if2 .taken))
+
+returns-3 : tie.Need-returns-3
+returns-3 c = rw (le-leb _ _ (c .before .before .if1 .left), ← inRange-cap _ _ (c .before .before .before .pre), ← c .before .scaled .ensures, lt-leb _ _ (c .if2 .left))
+
+pub ranged-spec : {M : Type 1} → statement M
+ranged-spec = tie.close (tie.spec returns scaled-requires returns-2 returns-3)

@@ -1,0 +1,72 @@
+-- How a number in text is read, a character at a time: 01 "Numbers in text".
+use Prim.Native.Nat.{ℕ, _+_, _-_, _*_, _^_}
+use mathlib.Core.Bool.{Bool, false, cond}
+use mathlib.Core.List.{List, [], _∷_}
+use lib.Dec.{leb, eqb}
+use Rattle.amount.specs.Denotes.{space, point, digitChar}
+use Rattle.amount.specs.declared.Number.{Number}
+use Rattle.amount.specs.declared.Number.the-variants.{None, Amount, Malformed, OutOfRange}
+use Rattle.amount.specs.declared.read.State.{State}
+use Rattle.amount.specs.declared.read.State.the-variants.{Before, Whole, Pointed, Fraction, Behind, Bad}
+
+-- the characters '0' to '9'
+abbrev pub isDigit : ℕ → Bool
+isDigit c = cond (leb (digitChar 0) c) (leb c (digitChar 9)) false
+
+-- spaces stand before the first digit and behind the last
+abbrev pub onSpace : State → State
+onSpace Before = Before
+onSpace (Whole n) = Behind n 0
+onSpace (Pointed n) = Bad
+onSpace (Fraction n k) = Behind n k
+onSpace (Behind n k) = Behind n k
+onSpace Bad = Bad
+
+-- a point stands behind the whole part, where the kind has places behind one
+abbrev pub onPoint : ℕ → State → State
+onPoint places Before = Bad
+onPoint places (Whole n) = cond (eqb places 0) Bad (Pointed n)
+onPoint places (Pointed n) = Bad
+onPoint places (Fraction n k) = Bad
+onPoint places (Behind n k) = Bad
+onPoint places Bad = Bad
+
+-- a digit begins the whole part or the fraction, or is one more of it
+abbrev pub onDigit : State → ℕ → State
+onDigit Before d = Whole d
+onDigit (Whole n) d = Whole (n * 10 + d)
+onDigit (Pointed n) d = Fraction (n * 10 + d) 1
+onDigit (Fraction n k) d = Fraction (n * 10 + d) (k + 1)
+onDigit (Behind n k) d = Bad
+onDigit Bad d = Bad
+
+-- by the character first, then by what was read before it
+unfoldable pub step : ℕ → State → ℕ → State
+step places s c =
+    cond (eqb c space) (onSpace s)
+    (cond (eqb c point) (onPoint places s) (cond (isDigit c) (onDigit s (c - digitChar 0)) Bad))
+
+unfoldable pub walk : ℕ → State → List ℕ → State
+walk places s [] = s
+walk places s (c ∷ text) = walk places (step places s c) text
+
+-- an amount of the unit, or over the largest
+abbrev pub inRange : ℕ → ℕ → Number
+inRange max n = cond (leb n max) (Amount n) OutOfRange
+
+-- n of the unit of the k-th place behind the point: so many of the kind's unit, or too fine
+abbrev pub ranged : ℕ → ℕ → ℕ → ℕ → Number
+ranged places max n k = cond (leb k places) (inRange max (n * 10 ^ (places - k))) OutOfRange
+
+-- what the text is, by what was read when it ends
+abbrev pub answer : ℕ → ℕ → State → Number
+answer places max Before = None
+answer places max (Whole n) = ranged places max n 0
+answer places max (Pointed n) = Malformed
+answer places max (Fraction n k) = ranged places max n k
+answer places max (Behind n k) = ranged places max n k
+answer places max Bad = Malformed
+
+-- 01 "Numbers in text", for a kind with so many places behind the point and that largest amount
+unfoldable pub readText : ℕ → ℕ → List ℕ → Number
+readText places max text = answer places max (walk places Before text)

@@ -1,0 +1,143 @@
+-- What characters do one after another, and what a text of the shape reads as.
+use Prim.Native.Nat.{ℕ, zero, suc, _+_, _-_, _*_, _^_, _<_, _≤_}
+use mathlib.Core.Path.{_≡_, refl, _∙_, ap}
+use mathlib.Core.Bool.{cond}
+use mathlib.Core.List.{List, [], _∷_, _++_, map}
+use mathlib.Core.Logic.{_⊎_, inl, inr, ⊎-elim}
+use native.Mathlib.Nat.{add-sub-cancel-left, mul-one, add-zero}
+use native.Mathlib.Numerals.{one-add}
+use native.Mathlib.Omega.{arith}
+use lib.Dec.{leb}
+use lib.ListN.{length, replicate}
+use borrow.Author.Tests.{le-leb, lt-leb, ne-eqb}
+use Rattle.laws.specs.Order.{order}
+use Rattle.laws.specs.Choice.{cond-same}
+use Rattle.amount.specs.Denotes.{space, point, digitChar, value, Digits, pointed, Shape, units, AllSpaces}
+use Rattle.amount.specs.DigitLaws.{followed, followed-cons, followed-scaled}
+use Rattle.amount.specs.Read.{onSpace, onPoint, onDigit, step, walk, inRange, ranged, answer, readText}
+use Rattle.amount.specs.declared.Number.{Number}
+use Rattle.amount.specs.declared.Number.the-variants.{None, OutOfRange}
+use Rattle.amount.specs.declared.read.State.{State}
+use Rattle.amount.specs.declared.read.State.the-variants.{Before, Whole, Pointed, Fraction, Behind, Bad}
+
+module _ (places : ℕ) where
+  -- ## What a character does
+
+  pub step-space : (s : State) → step places s space ≡ onSpace s
+  unfolding step
+  step-space s = refl
+
+  pub step-point : (s : State) → step places s point ≡ onPoint places s
+  unfolding step
+  step-point s = refl
+
+  pub step-digit : (s : State) (d : ℕ) → d < 10 → step places s (digitChar d) ≡ onDigit s d
+  unfolding step
+  step-digit s d h =
+      simp (
+        ne-eqb (digitChar d) space (λ e. omega arith),
+        ne-eqb (digitChar d) point (λ e. omega arith),
+        le-leb (digitChar 0) (digitChar d) (omega arith),
+        le-leb (digitChar d) (digitChar 9) (omega arith),
+        add-sub-cancel-left,
+      )
+
+  pub step-other : (s : State) (c : ℕ) → (c ≡ space → ⊥) → (c ≡ point → ⊥) → (c < digitChar 0) ⊎ (digitChar 9 < c) → step places s c ≡ Bad
+  unfolding step
+  step-other s c ns np (inl low) = simp (ne-eqb c space ns, ne-eqb c point np, lt-leb (digitChar 0) c low)
+  step-other s c ns np (inr high) = simp (ne-eqb c space ns, ne-eqb c point np, lt-leb c (digitChar 9) high, cond-same)
+
+  step-bad : (c : ℕ) → step places Bad c ≡ Bad
+  unfolding step
+  step-bad c = simp cond-same
+
+  -- ## What a run of characters does
+
+  pub walk-cons : (s : State) (c : ℕ) (t : List ℕ) → walk places s (c ∷ t) ≡ walk places (step places s c) t
+  unfolding walk
+  walk-cons s c t = refl
+
+  pub walk-nil : (s : State) → walk places s [] ≡ s
+  unfolding walk
+  walk-nil s = refl
+
+  pub walk-bad : (t : List ℕ) → walk places Bad t ≡ Bad
+  walk-bad [] = walk-nil Bad
+  walk-bad (c ∷ t) = rw (walk-cons, step-bad) (walk-bad t)
+
+  spaces-before : (k : ℕ) (t : List ℕ) → walk places Before (replicate k space ++ t) ≡ walk places Before t
+  spaces-before zero t = refl
+  spaces-before (suc k) t = rw (walk-cons, step-space) (spaces-before k t)
+
+  digits-whole : (n : ℕ) (ds t : List ℕ) → Digits ds → walk places (Whole n) (map digitChar ds ++ t) ≡ walk places (Whole (followed n ds)) t
+  digits-whole n [] t h = simp (mul-one, add-zero)
+  digits-whole n (d ∷ ds) t h = rw (walk-cons, step-digit (Whole n) d (h .0), ← followed-cons n d ds) (digits-whole (n * 10 + d) ds t (h .1))
+
+  digits-begin : (ds t : List ℕ) → 0 < length ds → Digits ds → walk places Before (map digitChar ds ++ t) ≡ walk places (Whole (value ds)) t
+  digits-begin [] t some h = absurd (omega arith)
+  digits-begin (d ∷ ds) t some h = rw (walk-cons, step-digit Before d (h .0)) (digits-whole d ds t (h .1))
+
+  digits-fraction : (n k : ℕ) (ds t : List ℕ) → Digits ds
+      → walk places (Fraction n k) (map digitChar ds ++ t) ≡ walk places (Fraction (followed n ds) (k + length ds)) t
+  digits-fraction n k [] t h = simp (mul-one, add-zero)
+  digits-fraction n k (d ∷ ds) t h =
+      let one-more : k + length (d ∷ ds) ≡ k + 1 + length ds = omega arith in
+      rw (walk-cons, step-digit (Fraction n k) d (h .0), ← followed-cons n d ds, one-more) (digits-fraction (n * 10 + d) (k + 1) ds t (h .1))
+
+  -- ## What a text of the shape reads as
+
+  module _ (max : ℕ) where
+    -- too fine, or so many units
+    abbrev pub sized : {t : List ℕ} → Shape places t → Number
+    sized s = cond (leb (length (s .fraction)) places) (inRange max (units s)) OutOfRange
+
+    answer-space : (s : State) → answer places max (onSpace s) ≡ answer places max s
+    answer-space Before = refl
+    answer-space (Whole n) = refl
+    answer-space (Pointed n) = refl
+    answer-space (Fraction n k) = refl
+    answer-space (Behind n k) = refl
+    answer-space Bad = refl
+
+    spaces-behind : (s : State) (k : ℕ) → answer places max (walk places s (replicate k space)) ≡ answer places max s
+    spaces-behind s zero = rw walk-nil
+    spaces-behind s (suc k) = rw (walk-cons, step-space) (spaces-behind (onSpace s) k ∙ answer-space s)
+
+    fraction-reads : (n k : ℕ) (ds : List ℕ) → Digits ds → (0 < length ds → 0 < places)
+        → answer places max (walk places (Whole n) (pointed ds ++ replicate k space)) ≡ ranged places max (followed n ds) (length ds)
+    fraction-reads n k [] h may = spaces-behind (Whole n) k ∙ simp (mul-one, add-zero)
+    fraction-reads n k (d ∷ ds) h may =
+        let some : 0 < places = may (omega arith) in
+        rw (
+          walk-cons,
+          step-point,
+          ne-eqb places 0 (λ e. omega arith),
+          walk-cons,
+          step-digit (Pointed n) d (h .0),
+          digits-fraction (n * 10 + d) 1 ds (replicate k space) (h .1),
+          spaces-behind,
+          followed-cons n d ds,
+          one-add,
+        )
+
+    ranged-sized : (n : ℕ) (ds : List ℕ)
+        → ranged places max (followed n ds) (length ds)
+        ≡ cond (leb (length ds) places) (inRange max (n * 10 ^ places + value ds * 10 ^ (places - length ds))) OutOfRange
+    ranged-sized n ds = ⊎-elim
+        (λ (h : length ds ≤ places). rw (followed-scaled n places ds h))
+        (λ (h : places < length ds). rw (lt-leb (length ds) places h))
+        (order (length ds) places)
+
+    pub shape-reads : (t : List ℕ) (s : Shape places t) → readText places max t ≡ sized s
+    unfolding readText
+    shape-reads t s =
+        let rest : List ℕ = pointed (s .fraction) ++ replicate (s .behind) space in
+        ap (readText places max) (s .laid-out)
+        ∙ ap (answer places max)
+        (spaces-before (s .before) (map digitChar (s .whole) ++ rest) ∙ digits-begin (s .whole) rest (s .some-digit) (s .whole-digits))
+        ∙ fraction-reads (value (s .whole)) (s .behind) (s .fraction) (s .fraction-digits) (s .may-point)
+        ∙ ranged-sized (value (s .whole)) (s .fraction)
+
+    pub spaces-read : (t : List ℕ) → AllSpaces t → readText places max t ≡ None
+    unfolding readText
+    spaces-read t h = ap (readText places max) h ∙ spaces-behind Before (length t)

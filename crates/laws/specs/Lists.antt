@@ -1,0 +1,43 @@
+-- Parts of lists.
+use Prim.Native.Nat.{ℕ, zero, suc, _+_, _-_, min, _≤_, _<_}
+use mathlib.Core.Path.{_≡_, refl, ap, sym, _∙_}
+use mathlib.Core.List.{List, [], _∷_, _++_, append-assoc}
+use mathlib.Core.Logic.{⊎-elim}
+use native.Mathlib.Omega.{arith}
+use native.Mathlib.Numerals.{sub-one}
+use native.Mathlib.Nat.{le-of-suc-le-suc, not-suc-le-zero}
+use lib.ListN.{length, getD, take, drop, set, replicate, drop-of-length-le, length-take, length-append}
+use lib.Seq.{take-all, take-suc, drop-cons, set-at, append-snoc, length-take-le}
+use Rattle.laws.specs.Order.{order}
+
+module _ {A : Type 0} where
+  -- no more can be taken than there is
+  pub take-min : (n : ℕ) (l : List A) → take (min n (length l)) l ≡ take n l
+  take-min n l =
+      ⊎-elim
+      (λ (h : n ≤ length l). let e : min n (length l) ≡ n = omega arith in ap (λ (k : ℕ). take k l) e)
+      (λ (h : length l < n). take-all (min n (length l)) l (omega arith) ∙ sym (take-all n l (omega arith)))
+      (order n (length l))
+
+  pub drop-min : (n : ℕ) (l : List A) → drop (min n (length l)) l ≡ drop n l
+  drop-min n l =
+      ⊎-elim
+      (λ (h : n ≤ length l). let e : min n (length l) ≡ n = omega arith in ap (λ (k : ℕ). drop k l) e)
+      (λ (h : length l < n). drop-of-length-le l {i = min n (length l)} (omega arith) ∙ sym (drop-of-length-le l {i = n} (omega arith)))
+      (order n (length l))
+
+  pub drop-replicate : (n : ℕ) (a : A) → drop 1 (replicate n a) ≡ replicate (n - 1) a
+  drop-replicate zero a = refl
+  drop-replicate (suc n) a = rw (sub-one (suc n))
+
+  -- one more of `s` copied over the front of `d`
+  pub copy-one : (s d : List A) (i : ℕ) (a : A) → i < length s → i < length d
+      → set (take i s ++ drop i d) i (getD s i a) ≡ take (suc i) s ++ drop (suc i) d
+  copy-one s d i a h k =
+      rw (drop-cons d i a k, set-at (take i s) (getD d i a) (drop (suc i) d) (getD s i a) i (length-take-le i s (omega arith)), take-suc s i a h, append-assoc (take i s))
+
+  -- a list filled from its end: the element before those that are there already
+  pub set-before : (l behind : List A) (i : ℕ) (a : A) → i < length l → set (take (suc i) l ++ behind) i a ≡ take i l ++ (a ∷ behind)
+  set-before [] behind i a h = absurd (not-suc-le-zero h)
+  set-before (x ∷ l) behind zero a h = refl
+  set-before (x ∷ l) behind (suc i) a h = ap (λ (t : List A). x ∷ t) (set-before l behind i a (le-of-suc-le-suc h))

@@ -1,0 +1,9 @@
+-- Quoted texts, as the cases of the papers write them.
+use Prim.Native.Nat.{ℕ}
+use Prim.Native.Char.{code}
+use Prim.Native.String.{String}
+use mathlib.Core.List.{List, [], _∷_}
+
+-- the codes of a quoted text's characters
+abbrev pub codes : String → List ℕ
+codes = elim [ String.[] ↦ [] | String._∷_ c (s → cs) ↦ code c ∷ cs ]

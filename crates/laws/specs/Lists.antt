@@ -5,9 +5,9 @@ use mathlib.Core.List.{List, [], _∷_, _++_, append-assoc}
 use mathlib.Core.Logic.{⊎-elim}
 use native.Mathlib.Omega.{arith}
 use native.Mathlib.Numerals.{sub-one}
-use native.Mathlib.Nat.{le-of-suc-le-suc, not-suc-le-zero}
+use native.Mathlib.Nat.{le-of-suc-le-suc, not-suc-le-zero, zero-add, suc-add}
 use lib.ListN.{length, getD, take, drop, set, replicate, drop-of-length-le, length-take, length-append}
-use lib.Seq.{take-all, take-suc, drop-cons, set-at, append-snoc, length-take-le}
+use lib.Seq.{take-all, take-suc, drop-cons, set-at, append-snoc, length-take-le, take-nil, drop-nil, take-take}
 use Rattle.laws.specs.Order.{order}
 
 module _ {A : Type 0} where
@@ -41,3 +41,14 @@ module _ {A : Type 0} where
   set-before [] behind i a h = absurd (not-suc-le-zero h)
   set-before (x ∷ l) behind zero a h = refl
   set-before (x ∷ l) behind (suc i) a h = ap (λ (t : List A). x ∷ t) (set-before l behind i a (le-of-suc-le-suc h))
+
+  drop-take : (b n : ℕ) (l : List A) → drop b (take (b + n) l) ≡ take n (drop b l)
+  drop-take zero n l = rw (zero-add n)
+  drop-take (suc b) n [] = rw (take-nil (suc b + n), drop-nil (suc b), take-nil n)
+  drop-take (suc b) n (x ∷ l) = rw (suc-add b n) (drop-take b n l)
+
+  -- a part that lies in the front of a list is the list's
+  pub part-of-front : (b k n : ℕ) (l : List A) → b + k ≤ n → take k (drop b (take n l)) ≡ take k (drop b l)
+  part-of-front b k n l h =
+      let e : n ≡ b + (n - b) = omega arith in
+      rw (e, drop-take b (n - b) l) (take-take k (n - b) (drop b l) (omega arith))

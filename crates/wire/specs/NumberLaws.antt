@@ -5,10 +5,10 @@ use mathlib.Core.List.{List, [], _∷_, _++_}
 use native.Mathlib.Omega.{arith}
 use native.Mathlib.Numerals.{add-one}
 use native.Mathlib.Nat.{suc-add, zero-add, add-zero, add-suc, mul-add, mul-assoc, add-mul, mod-lt, mod-one, pow-suc, div-div-eq-div-mul, mul-comm, one-le-pow, add-assoc}
-use lib.Arith.{mod-mul, digits-div, digits-mod}
+use lib.Arith.{mod-mul, digits-div, digits-mod, digits-lt}
 use lib.Pow.{pow-add}
-use lib.ListN.{length, getD, set, List·getD-eq-default, length-set}
-use lib.Seq.{sets, set-out, getD-set-same, getD-set-other}
+use lib.ListN.{length, getD, take, set, List·getD-eq-default, length-set}
+use lib.Seq.{sets, set-out, getD-set-same, getD-set-other, getD-take}
 use Rattle.wire.specs.Number.{numberAt, bytesOf}
 
 -- past the end every number is zero
@@ -88,3 +88,16 @@ read-back (suc w) n s at h =
     let rest : numberAt w (sets s′ (suc at) (bytesOf w n)) (at + 1) ≡ n % 256 ^ w =
     rw (add-one at) (read-back w n s′ (suc at) (rw (length-set s at b) (omega arith))) in
     rw (first, rest, pow-suc 256 w, mul-comm (256 ^ w) 256, mod-mul n {m = 256} (omega arith) (positive w))
+
+-- a number of so many bytes stands below that power of 256
+pub number-under : (s : List ℕ) → ((i : ℕ) → getD s i 0 < 256) → (width at : ℕ) → numberAt width s at < 256 ^ width
+number-under s byte zero at = omega arith
+number-under s byte (suc w) at =
+    let rest : numberAt w s (at + 1) < 256 ^ w = number-under s byte w (at + 1) in
+    rw (pow-suc 256 w, mul-comm (256 ^ w) 256) (digits-lt (byte at) rest)
+
+-- a number that lies in the front of a list is the list's
+pub number-of-front : (width n : ℕ) (s : List ℕ) (at : ℕ) → at + width ≤ n → numberAt width (take n s) at ≡ numberAt width s at
+number-of-front zero n s at h = refl
+number-of-front (suc w) n s at h =
+    rw (getD-take n s at 0 (omega arith), number-of-front w n s (at + 1) (omega arith))

@@ -1,0 +1,74 @@
+-- `contracts::check::body_sound` meets its contract. The loop's invariant: the keys passed are sound.
+use Prim.Native.Nat.{ℕ, _-_, _≤_, _<_}
+use mathlib.Core.Path.{_≡_, refl, sym, ap, _∙_}
+use mathlib.Core.Bool.{true}
+use native.Mathlib.Omega.{arith}
+use borrow.Author.Needs.{needs}
+use borrow.Author.Tests.{not-true, not-false}
+use denote.Ref.{now}
+use Rattle.contracts.specs.Below.{allBelow}
+use Rattle.contracts.specs.BelowLaws.{pass-on, one-fails}
+use Rattle.contracts.specs.File.{countAt}
+use Rattle.contracts.specs.Sound.{keySound, bodySound}
+use Rattle.contracts.proofs.check.body_sound.Statement.{statement}
+use Rattle.contracts.proofs.check.body_sound.Tie as tie
+
+abbrev Inv-loop : tie.InvT-loop
+Inv-loop list segment count place₀ place = (place ≤ count) × (allBelow place (keySound list segment) ≡ true)
+
+abbrev μ-loop : tie.MeasureT-loop
+μ-loop list segment count place₀ place = count - place
+
+count-at-requires : tie.Need-count-at-requires Inv-loop μ-loop
+count-at-requires c κs = search needs
+
+loop-holds : tie.Need-loop-holds Inv-loop μ-loop
+loop-holds c = (omega arith, refl)
+
+key-sound-requires : tie.Need-key-sound-requires Inv-loop μ-loop
+key-sound-requires c κs = omega arith
+
+returns : tie.Need-returns Inv-loop μ-loop
+unfolding bodySound
+returns c =
+    let at = c .before .before .before in
+    let a = at .before .before .before .args in
+    let inside : at .loop .place < countAt (now (a .list)) (a .segment) = omega arith in
+    let fails = not-true (c .before .key-sound .result) (c .if1 .taken) in
+    sym (one-fails (keySound (now (a .list)) (a .segment)) (countAt (now (a .list)) (a .segment)) (at .loop .place) inside (sym (c .before .key-sound .ensures) ∙ fails))
+
+add-place : tie.Need-add-place Inv-loop μ-loop
+add-place c = omega arith
+
+loop-less : tie.Need-loop-less Inv-loop μ-loop
+loop-less c = omega arith
+
+loop-again : tie.Need-loop-again Inv-loop μ-loop
+loop-again c =
+    let at = c .before .before .before in
+    let a = at .before .before .before .args in
+    let passes = not-false (c .before .key-sound .result) (c .if1 .left) in
+    (omega arith, pass-on (keySound (now (a .list)) (a .segment)) (at .loop .place) (at .loop .inv .1) (sym (c .before .key-sound .ensures) ∙ passes))
+
+returns-2 : tie.Need-returns-2 Inv-loop μ-loop
+unfolding bodySound
+returns-2 c =
+    let at = c .before in
+    let a = at .before .before .before .args in
+    let all : at .loop .place ≡ countAt (now (a .list)) (a .segment) = omega arith in
+    sym (at .loop .inv .1) ∙ ap (λ (k : ℕ). allBelow k (keySound (now (a .list)) (a .segment))) all
+
+pub body-sound-spec : {M : Type 1} → statement M
+body-sound-spec =
+    tie.close
+    (tie.spec
+    Inv-loop
+    μ-loop
+    count-at-requires
+    loop-holds
+    key-sound-requires
+    returns
+    add-place
+    loop-less
+    loop-again
+    returns-2)

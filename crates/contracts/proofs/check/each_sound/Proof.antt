@@ -1,0 +1,74 @@
+-- `contracts::check::each_sound` meets its contract. The loop's invariant: this part of the segments passed is sound.
+use Prim.Native.Nat.{ℕ, _-_, _≤_, _<_}
+use mathlib.Core.Path.{_≡_, refl, sym, ap, _∙_}
+use mathlib.Core.Bool.{true}
+use native.Mathlib.Omega.{arith}
+use borrow.Author.Needs.{needs}
+use borrow.Author.Tests.{not-true, not-false}
+use denote.Ref.{now}
+use Rattle.contracts.specs.Below.{allBelow}
+use Rattle.contracts.specs.BelowLaws.{pass-on, one-fails}
+use Rattle.contracts.specs.File.{segmentsOf}
+use Rattle.contracts.specs.Sound.{partSound, eachSound}
+use Rattle.contracts.proofs.check.each_sound.Statement.{statement}
+use Rattle.contracts.proofs.check.each_sound.Tie as tie
+
+abbrev Inv-loop : tie.InvT-loop
+Inv-loop list part listed i₀ i = (i ≤ listed) × (allBelow i (partSound list part) ≡ true)
+
+abbrev μ-loop : tie.MeasureT-loop
+μ-loop list part listed i₀ i = listed - i
+
+segments-requires : tie.Need-segments-requires Inv-loop μ-loop
+segments-requires c κs = search needs
+
+loop-holds : tie.Need-loop-holds Inv-loop μ-loop
+loop-holds c = (omega arith, refl)
+
+part-sound-requires : tie.Need-part-sound-requires Inv-loop μ-loop
+part-sound-requires c κs = search needs
+
+returns : tie.Need-returns Inv-loop μ-loop
+unfolding eachSound
+returns c =
+    let at = c .before .before .before in
+    let a = at .before .before .before .args in
+    let inside : at .loop .i < segmentsOf (now (a .list)) = omega arith in
+    let fails = not-true (c .before .part-sound .result) (c .if1 .taken) in
+    sym (one-fails (partSound (now (a .list)) (a .part)) (segmentsOf (now (a .list))) (at .loop .i) inside (sym (c .before .part-sound .ensures) ∙ fails))
+
+add-i : tie.Need-add-i Inv-loop μ-loop
+add-i c = omega arith
+
+loop-less : tie.Need-loop-less Inv-loop μ-loop
+loop-less c = omega arith
+
+loop-again : tie.Need-loop-again Inv-loop μ-loop
+loop-again c =
+    let at = c .before .before .before in
+    let a = at .before .before .before .args in
+    let passes = not-false (c .before .part-sound .result) (c .if1 .left) in
+    (omega arith, pass-on (partSound (now (a .list)) (a .part)) (at .loop .i) (at .loop .inv .1) (sym (c .before .part-sound .ensures) ∙ passes))
+
+returns-2 : tie.Need-returns-2 Inv-loop μ-loop
+unfolding eachSound
+returns-2 c =
+    let at = c .before in
+    let a = at .before .before .before .args in
+    let all : at .loop .i ≡ segmentsOf (now (a .list)) = omega arith in
+    sym (at .loop .inv .1) ∙ ap (λ (k : ℕ). allBelow k (partSound (now (a .list)) (a .part))) all
+
+pub each-sound-spec : {M : Type 1} → statement M
+each-sound-spec =
+    tie.close
+    (tie.spec
+    Inv-loop
+    μ-loop
+    segments-requires
+    loop-holds
+    part-sound-requires
+    returns
+    add-i
+    loop-less
+    loop-again
+    returns-2)

@@ -1,0 +1,54 @@
+-- `contracts::check::header_sound` meets its contract: where the number of segments fails, nothing else is looked at.
+use mathlib.Core.Path.{_≡_, sym, ap, ap₂, _∙_}
+use mathlib.Core.Bool.{true, false, _&&_}
+use borrow.Author.Needs.{needs}
+use lib.Dec.{eqb}
+use lib.ListN.{length}
+use denote.Ref.{now}
+use Rattle.contracts.specs.File.{segmentsOf}
+use Rattle.contracts.specs.Sound.{mostSegments, within, bodyAt, headerSound}
+use Rattle.contracts.proofs.check.header_sound.Statement.{statement}
+use Rattle.contracts.proofs.check.header_sound.Tie as tie
+
+segments-requires : tie.Need-segments-requires
+segments-requires c κs = search needs
+
+within-requires : tie.Need-within-requires
+within-requires c κs = search needs
+
+each-sound-requires : tie.Need-each-sound-requires
+each-sound-requires c κs = search needs
+
+body-at-requires : tie.Need-body-at-requires
+body-at-requires c κs = search needs
+
+-- the test of the number of segments
+tested : (c : tie.After-within) → within 1 mostSegments (segmentsOf (now (c .before .before .before .args .list))) ≡ c .within .result
+tested c = ap (within 1 mostSegments) (sym (c .before .segments .ensures)) ∙ sym (c .within .ensures)
+
+returns : tie.Need-returns
+unfolding headerSound
+returns c =
+    let d = c .before .before .before in
+    let l = now (d .before .before .before .args .list) in
+    let few : within 1 mostSegments (segmentsOf l) ≡ true = tested d ∙ c .before .before .if1 .taken in
+    rw few
+    (ap₂ _&&_ (c .before .each-sound .ensures) (ap (eqb (length l)) (c .body-at .ensures ∙ ap (bodyAt l) (d .before .segments .ensures))))
+
+returns-2 : tie.Need-returns-2
+unfolding headerSound
+returns-2 c =
+    let l = now (c .before .before .before .before .args .list) in
+    let many : within 1 mostSegments (segmentsOf l) ≡ false = tested (c .before) ∙ c .if1 .left in
+    rw many
+
+pub header-sound-spec : {M : Type 1} → statement M
+header-sound-spec =
+    tie.close
+    (tie.spec
+    segments-requires
+    within-requires
+    each-sound-requires
+    body-at-requires
+    returns
+    returns-2)

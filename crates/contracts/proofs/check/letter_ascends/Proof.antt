@@ -1,0 +1,34 @@
+-- `contracts::check::letter_ascends` meets its contract: the first letter has none before it.
+use Prim.Native.Nat.{ℕ, suc, _-_}
+use mathlib.Core.Path.{_≡_, ap₂, sym, ap, _∙_}
+use native.Mathlib.Omega.{arith}
+use borrow.Author.Needs.{needs}
+use lib.Dec.{ltb}
+use denote.Ref.{now}
+use Rattle.contracts.specs.File.{letterAt}
+use Rattle.contracts.specs.Sound.{letterAscends}
+use Rattle.contracts.proofs.check.letter_ascends.Statement.{statement}
+use Rattle.contracts.proofs.check.letter_ascends.Tie as tie
+
+returns : tie.Need-returns
+returns c = rw (c .if1 .taken)
+
+sub-letter-at : tie.Need-sub-letter-at
+sub-letter-at c = search needs
+
+letter-at-requires : tie.Need-letter-at-requires
+letter-at-requires c κs = search needs
+
+letter-at-requires-2 : tie.Need-letter-at-requires-2
+letter-at-requires-2 c κs = search needs
+
+returns-2 : tie.Need-returns-2
+returns-2 c =
+    let a = c .before .before .before .before .args in
+    let l = now (a .list) in
+    let later : a .segment ≡ suc (a .segment - 1) = omega arith in
+    ap₂ ltb (c .before .letter-at .ensures) (c .letter-at2 .ensures ∙ ap (letterAt l) later) ∙ ap (letterAscends l) (sym later)
+
+pub letter-ascends-spec : {M : Type 1} → statement M
+letter-ascends-spec =
+    tie.close (tie.spec returns sub-letter-at letter-at-requires letter-at-requires-2 returns-2)

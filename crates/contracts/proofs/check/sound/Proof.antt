@@ -1,0 +1,31 @@
+-- `contracts::check::sound` meets its contract: the bodies are looked at where the header is sound.
+use mathlib.Core.Path.{_≡_, sym, _∙_}
+use mathlib.Core.Bool.{true, false}
+use borrow.Author.Needs.{needs}
+use denote.Ref.{now}
+use Rattle.contracts.specs.Sound.{headerSound, sound}
+use Rattle.contracts.proofs.check.sound.Statement.{statement}
+use Rattle.contracts.proofs.check.sound.Tie as tie
+
+header-sound-requires : tie.Need-header-sound-requires
+header-sound-requires c κs = search needs
+
+each-sound-requires : tie.Need-each-sound-requires
+each-sound-requires c κs = search needs
+
+returns : tie.Need-returns
+unfolding sound
+returns c =
+    let header = c .before .before in
+    let passes : headerSound (now (header .before .before .args .list)) ≡ true = sym (header .header-sound .ensures) ∙ c .before .if1 .taken in
+    rw passes (c .each-sound .ensures)
+
+returns-2 : tie.Need-returns-2
+unfolding sound
+returns-2 c =
+    let header = c .before in
+    let fails : headerSound (now (header .before .before .args .list)) ≡ false = sym (header .header-sound .ensures) ∙ c .if1 .left in
+    rw fails (c .if1 .left)
+
+pub sound-spec : {M : Type 1} → statement M
+sound-spec = tie.close (tie.spec header-sound-requires each-sound-requires returns returns-2)

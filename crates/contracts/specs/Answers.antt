@@ -1,0 +1,21 @@
+-- The answers of this crate's lookups in the paper's numbers.
+use Prim.Native.Nat.{ℕ}
+use mathlib.Core.Option.{Option, none, some}
+use Rattle.contracts.specs.declared.lookup.Found.{Found}
+use Rattle.contracts.specs.declared.lookup.Found.the-variants.{At, Nowhere}
+
+-- the place that is answered
+abbrev pub placeOf : Found → Option ℕ
+placeOf (At place) = some place
+placeOf Nowhere = none
+
+-- 01, the table: 0 where it is listed; else the row's number, 6 for a letter and 13 for a key
+abbrev pub numberOf : ℕ → Found → ℕ
+numberOf refusal (At place) = 0
+numberOf refusal Nowhere = refusal
+
+abbrev pub codeRefused : ℕ
+codeRefused = 6
+
+abbrev pub contractRefused : ℕ
+contractRefused = 13

@@ -1,0 +1,63 @@
+-- 16 after start: two lists of one size that begin with the same contents pass the short check both or neither, whatever
+-- their bodies hold.
+use Prim.Native.Nat.{ℕ, zero, suc, _+_, _*_, _^_, _≤_, _<_, min}
+use mathlib.Core.Path.{_≡_, refl, ap, ap₂, sym, _∙_}
+use mathlib.Core.List.{List}
+use native.Mathlib.Omega.{arith}
+use lib.ListN.{length, getD}
+use Rattle.wire.specs.Number.{numberAt}
+use Rattle.contracts.specs.Below.{allBelow, sumBelow}
+use Rattle.contracts.specs.BelowLaws.{all-same, sum-same}
+use Rattle.contracts.specs.File.{segmentsOf, entryAt, letterAt, zeroAt, countAt, offsetAt, contractsBefore}
+use Rattle.contracts.specs.Sound.{letterAscends, entrySound, eachSound, headerSound}
+
+pub record SameContents (list other : List ℕ) : Type 0 where
+  pub size : length list ≡ length other
+  pub contents : (j : ℕ) → j < entryAt (segmentsOf list) → getD list j 0 ≡ getD other j 0
+
+module _ (list other : List ℕ) (same : SameContents list other) where
+  number-same : (width at : ℕ) → at + width ≤ entryAt (segmentsOf list) → numberAt width list at ≡ numberAt width other at
+  number-same zero at h = refl
+  number-same (suc w) at h =
+      ap₂ (λ (b n : ℕ). b * 256 ^ w + n) (same .contents at (omega arith)) (number-same w (at + 1) (omega arith))
+
+  segments-same : segmentsOf list ≡ segmentsOf other
+  unfolding segmentsOf
+  segments-same = number-same 2 0 (omega arith)
+
+  letter-same : (i : ℕ) → i < segmentsOf list → letterAt list i ≡ letterAt other i
+  unfolding letterAt
+  letter-same i h = number-same 1 (entryAt i) (omega arith)
+
+  zero-same : (i : ℕ) → i < segmentsOf list → zeroAt list i ≡ zeroAt other i
+  unfolding zeroAt
+  zero-same i h = number-same 1 (entryAt i + 1) (omega arith)
+
+  count-same : (i : ℕ) → i < segmentsOf list → countAt list i ≡ countAt other i
+  unfolding countAt
+  count-same i h = number-same 2 (entryAt i + 2) (omega arith)
+
+  offset-same : (i : ℕ) → i < segmentsOf list → offsetAt list i ≡ offsetAt other i
+  unfolding offsetAt
+  offset-same i h = number-same 4 (entryAt i + 4) (omega arith)
+
+  before-same : (i : ℕ) → contractsBefore list i ≡ contractsBefore other i
+  unfolding contractsBefore
+  before-same i =
+      sum-same (countAt list) (countAt other) (min i (segmentsOf list)) (λ j h. count-same j (omega arith))
+      ∙ ap (λ (n : ℕ). sumBelow (min i n) (countAt other)) segments-same
+
+  ascends-same : (i : ℕ) → i < segmentsOf list → letterAscends list i ≡ letterAscends other i
+  ascends-same zero h = refl
+  ascends-same (suc i) h = rw (letter-same i (omega arith), letter-same (suc i) h)
+
+  entry-same : (i : ℕ) → i < segmentsOf list → entrySound list i ≡ entrySound other i
+  unfolding entrySound
+  entry-same i h = rw (letter-same i h, ascends-same i h, zero-same i h, count-same i h, offset-same i h, segments-same, before-same i)
+
+  pub bodies-unread : headerSound list ≡ headerSound other
+  unfolding headerSound eachSound
+  bodies-unread =
+      let n : ℕ = segmentsOf list in
+      let entries = all-same (entrySound list) (entrySound other) n entry-same in
+      rw (entries, before-same n, segments-same, same .size)

@@ -1,0 +1,12 @@
+-- A place that reads as a segment's entry does.
+use Prim.Native.Nat.{ℕ, _+_, _≤_}
+use mathlib.Core.Path.{_≡_}
+use mathlib.Core.List.{List}
+use lib.ListN.{length}
+use Rattle.wire.specs.Number.{numberAt}
+use Rattle.contracts.specs.File.{entryAt}
+
+pub record EntryPlace (list : List ℕ) (i place : ℕ) : Type 0 where
+  pub reads : (width ahead : ℕ) → numberAt width list (place + ahead) ≡ numberAt width list (entryAt i + ahead)
+  -- so that a few bytes on is still a place
+  pub near : place ≤ length list + 2

@@ -1,0 +1,61 @@
+-- Laws of the file: how large its numbers are, and how contracts add up over its segments.
+use Prim.Native.Nat.{ℕ, zero, suc, _+_, _-_, _*_, _^_, _≤_, _<_, min}
+use mathlib.Core.Path.{_≡_, refl, ap, sym, _∙_}
+use mathlib.Core.List.{List}
+use native.Mathlib.Nat.{min-eq-left, zero-min}
+use native.Mathlib.Omega.{arith}
+use lib.ListN.{length, getD, take, drop, length-drop}
+use lib.Seq.{length-take-le}
+use Rattle.wire.specs.NumberLaws.{number-under}
+use Rattle.contracts.specs.Below.{sumBelow}
+use Rattle.contracts.specs.BelowLaws.{sum-on, sum-reaches, sum-under}
+use Rattle.contracts.specs.File.{segmentsOf, letterAt, countAt, offsetAt, keyFrom, keySize, contractsBefore, contractsOf}
+
+module _ (list : List ℕ) where
+  module _ (byte : (i : ℕ) → getD list i 0 < 256) where
+    pub segments-under : segmentsOf list < 65536
+    unfolding segmentsOf
+    segments-under = number-under list byte 2 0
+
+    pub count-under : (i : ℕ) → countAt list i < 65536
+    unfolding countAt
+    count-under i = number-under list byte 2 _
+
+    pub offset-under : (i : ℕ) → offsetAt list i < 2 ^ 32
+    unfolding offsetAt
+    offset-under i = number-under list byte 4 _
+
+    pub before-under : (i : ℕ) → contractsBefore list i ≤ 65535 * 65535
+    unfolding contractsBefore
+    before-under i =
+        let n : ℕ = min i (segmentsOf list) in
+        let few : n ≤ 65535 = omega (arith, segments-under) in
+        let sum = sum-under (countAt list) n 65535 (λ j h. omega (arith, count-under j)) in
+        omega arith
+
+  -- no segment stands before the first
+  pub none-before : contractsBefore list 0 ≡ 0
+  unfolding contractsBefore
+  none-before = rw (zero-min (segmentsOf list))
+
+  pub before-sum : (i : ℕ) → i ≤ segmentsOf list → contractsBefore list i ≡ sumBelow i (countAt list)
+  unfolding contractsBefore
+  before-sum i h = rw (min-eq-left h)
+
+  -- one segment more
+  pub before-next : (i : ℕ) → i < segmentsOf list → contractsBefore list (i + 1) ≡ contractsBefore list i + countAt list i
+  before-next i h =
+      before-sum (i + 1) (omega arith) ∙ sum-on (countAt list) i ∙ ap (λ (n : ℕ). n + countAt list i) (sym (before-sum i (omega arith)))
+
+  -- the contracts of a segment are among all
+  pub before-reaches : (i : ℕ) → i < segmentsOf list → contractsBefore list i + countAt list i ≤ contractsOf list
+  before-reaches i h =
+      rw (before-sum i (omega arith), before-sum (segmentsOf list) (omega arith))
+      (sum-reaches (countAt list) (segmentsOf list) i h)
+
+  -- a key that ends within the file has all its bytes
+  pub whole-key : (at : ℕ) → at + keySize ≤ length list → length (keyFrom list at) ≡ keySize
+  unfolding keyFrom
+  whole-key at h =
+      let left : length (drop at list) ≡ length list - at = length-drop at list in
+      length-take-le keySize (drop at list) (omega arith)

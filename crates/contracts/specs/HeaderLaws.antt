@@ -1,0 +1,154 @@
+-- Laws of the header: its test says exactly what the rules say, what follows from them, and that bodies aren't looked at.
+use Prim.Native.Nat.{ℕ, zero, suc, _+_, _-_, _*_, _≤_, _<_}
+use mathlib.Core.Path.{_≡_, refl, ap, sym, _∙_}
+use mathlib.Core.Logic.{_⊎_, _↔_, inl, inr, ⊎-elim}
+use mathlib.Core.Bool.{Bool, true, _&&_}
+use mathlib.Core.List.{List}
+use native.Mathlib.Numerals.{add-one}
+use native.Mathlib.Omega.{arith}
+use borrow.Author.Tests.{ltb-true, leb-true, eqb-true, lt-ltb, le-leb, eq-eqb}
+use lib.Dec.{leb, ltb, eqb}
+use lib.ListN.{length, getD}
+use Rattle.laws.specs.Order.{three, climbs}
+use Rattle.laws.specs.Tests.{both, conj, any}
+use Rattle.contracts.specs.declared.check.Part.the-variants.{Entry}
+use Rattle.contracts.specs.BelowLaws.{each-passes, all-pass, all-same, sum-under}
+use Rattle.contracts.specs.File.{segmentsOf, entryAt, letterAt, zeroAt, countAt, offsetAt, keySize, keyAt, keyOf, contractsOf}
+use Rattle.contracts.specs.FileLaws.{none-before, before-sum, before-next, before-reaches, whole-key}
+use Rattle.contracts.specs.Sound.{Header, mostSegments, mostContracts, letterD, letterT, within, isLetter, letterAscends, bodyAt, entrySound, headerSound, eachSound}
+
+pub within-facts : (low high n : ℕ) → within low high n ≡ true → (low ≤ n) × (n ≤ high)
+within-facts low high n e =
+    let h = both (leb low n) (leb n high) e in
+    (leb-true low n (h .0), leb-true n high (h .1))
+
+pub within-holds : (low high n : ℕ) → low ≤ n → n ≤ high → within low high n ≡ true
+within-holds low high n h k = conj (leb low n) (leb n high) (le-leb low n h) (le-leb n high k)
+
+-- what the test of an entry tells
+record EntryFacts (list : List ℕ) (i : ℕ) : Type 0 where
+  letter : (letterAt list i ≡ letterD) ⊎ (letterAt list i ≡ letterT)
+  ascends : letterAscends list i ≡ true
+  zero-byte : zeroAt list i ≡ 0
+  counts : (1 ≤ countAt list i) × (countAt list i ≤ mostContracts)
+  offset : offsetAt list i ≡ bodyAt list i
+
+module _ (list : List ℕ) where
+  entry-facts : (i : ℕ) → entrySound list i ≡ true → EntryFacts list i
+  unfolding entrySound
+  entry-facts i e =
+      let t₁ : Bool = isLetter (letterAt list i) in
+      let t₂ : Bool = letterAscends list i in
+      let t₃ : Bool = eqb (zeroAt list i) 0 in
+      let t₄ : Bool = within 1 mostContracts (countAt list i) in
+      let h₄ = both (t₁ && t₂ && t₃ && t₄) (eqb (offsetAt list i) (bodyAt list i)) e in
+      let h₃ = both (t₁ && t₂ && t₃) t₄ (h₄ .0) in
+      let h₂ = both (t₁ && t₂) t₃ (h₃ .0) in
+      let h₁ = both t₁ t₂ (h₂ .0) in
+      record {
+        letter =
+            ⊎-elim (λ h. inl (eqb-true (letterAt list i) letterD h)) (λ h. inr (eqb-true (letterAt list i) letterT h))
+            (any (eqb (letterAt list i) letterD) (eqb (letterAt list i) letterT) (h₁ .0));
+        ascends = h₁ .1;
+        zero-byte = eqb-true (zeroAt list i) 0 (h₂ .1);
+        counts = within-facts 1 mostContracts (countAt list i) (h₃ .1);
+        offset = eqb-true (offsetAt list i) (bodyAt list i) (h₄ .1);
+      }
+
+  entry-holds : (i : ℕ) → EntryFacts list i → entrySound list i ≡ true
+  unfolding entrySound
+  entry-holds i h =
+      let letter : isLetter (letterAt list i) ≡ true = ⊎-elim (λ e. rw e) (λ e. rw e) (h .letter) in
+      let counts = within-holds 1 mostContracts (countAt list i) (h .counts .0) (h .counts .1) in
+      rw (letter, h .ascends, eq-eqb (zeroAt list i) 0 (h .zero-byte), counts, eq-eqb (offsetAt list i) (bodyAt list i) (h .offset))
+
+  ascends-next : (i : ℕ) → letterAscends list (i + 1) ≡ ltb (letterAt list i) (letterAt list (i + 1))
+  ascends-next i = rw (add-one i)
+
+  -- the body of the last segment ends where the next would begin
+  body-next : (i : ℕ) → i < segmentsOf list → bodyAt list (i + 1) ≡ bodyAt list i + keySize * countAt list i
+  body-next i h = omega (arith, before-next list i h)
+
+  header-rules : headerSound list ≡ true → Header list
+  unfolding headerSound eachSound
+  header-rules e =
+      let n : ℕ = segmentsOf list in
+      let h₁ = both (within 1 mostSegments n) (eachSound list Entry && eqb (length list) (bodyAt list n)) e in
+      let h₂ = both (eachSound list Entry) (eqb (length list) (bodyAt list n)) (h₁ .1) in
+      let few = within-facts 1 mostSegments n (h₁ .0) in
+      let entry : (i : ℕ) → i < n → EntryFacts list i = λ i h. entry-facts i (each-passes (entrySound list) n (h₂ .0) i h) in
+      let size = eqb-true (length list) (bodyAt list n) (h₂ .1) in
+      record {
+        some-segments = few .0;
+        few-segments = few .1;
+        letters = λ i h. entry i h .letter;
+        letters-ascend = λ i h. ltb-true (letterAt list i) (letterAt list (i + 1)) (sym (ascends-next i) ∙ entry (i + 1) h .ascends);
+        zero-bytes = λ i h. entry i h .zero-byte;
+        some-contracts = λ i h. entry i h .counts .0;
+        few-contracts = λ i h. entry i h .counts .1;
+        first-body = omega (arith, entry 0 (few .0) .offset, none-before list);
+        next-body = λ i h. omega (arith, entry i (omega arith) .offset, entry (i + 1) h .offset, body-next i (omega arith));
+        file-ends = λ i h. omega (arith, ap (bodyAt list) h, size, entry i (omega arith) .offset, body-next i (omega arith));
+      }
+
+  -- each body begins where the contents and the bodies before it end
+  pub body-begins : Header list → (i : ℕ) → i < segmentsOf list → offsetAt list i ≡ bodyAt list i
+  body-begins h zero l = omega (arith, h .first-body, none-before list)
+  body-begins h (suc i) l =
+      let next : offsetAt list (suc i) ≡ offsetAt list i + keySize * countAt list i = rw (← add-one i) (h .next-body i (omega arith)) in
+      let body : bodyAt list (suc i) ≡ bodyAt list i + keySize * countAt list i = rw (← add-one i) (body-next i (omega arith)) in
+      omega (arith, body-begins h i (omega arith))
+
+  -- and the file ends where all of them do
+  pub size-is : Header list → length list ≡ bodyAt list (segmentsOf list)
+  size-is h =
+      let last : ℕ = segmentsOf list - 1 in
+      let some = h .some-segments in
+      let next : last + 1 ≡ segmentsOf list = omega arith in
+      omega (arith, ap (bodyAt list) next, h .file-ends last next, body-begins h last (omega arith), body-next last (omega arith))
+
+  letters-ascending : Header list → (i : ℕ) → i < segmentsOf list → letterAscends list i ≡ true
+  letters-ascending h zero l = refl
+  letters-ascending h (suc i) l =
+      rw (← add-one i)
+      (lt-ltb (letterAt list i) (letterAt list (i + 1)) (h .letters-ascend i (omega arith)))
+
+  header-holds : Header list → headerSound list ≡ true
+  unfolding headerSound eachSound
+  header-holds h =
+      let n : ℕ = segmentsOf list in
+      let entry : (i : ℕ) → i < n → entrySound list i ≡ true = λ i l. entry-holds i (record {
+        letter = h .letters i l;
+        ascends = letters-ascending h i l;
+        zero-byte = h .zero-bytes i l;
+        counts = (h .some-contracts i l, h .few-contracts i l);
+        offset = body-begins h i l;
+      }) in
+      rw (within-holds 1 mostSegments n (h .some-segments) (h .few-segments), all-pass (entrySound list) n entry, eq-eqb (length list) (bodyAt list n) (size-is h))
+
+  -- 16 after start: the short check passes exactly when its rules hold
+  pub header-exact : headerSound list ≡ true ↔ Header list
+  header-exact = (header-rules, header-holds)
+
+  -- every key lies inside the file
+  pub key-inside : Header list → (i k : ℕ) → i < segmentsOf list → k < countAt list i → keyAt list i k + keySize ≤ length list
+  key-inside h i k l m = omega (arith, body-begins h i l, size-is h, before-reaches list i l)
+
+  pub key-length : Header list → (i k : ℕ) → i < segmentsOf list → k < countAt list i → length (keyOf list i k) ≡ keySize
+  key-length h i k l m = whole-key list (keyAt list i k) (key-inside h i k l m)
+
+  pub contracts-few : Header list → contractsOf list ≤ mostSegments * mostContracts
+  contracts-few h =
+      let n : ℕ = segmentsOf list in
+      let few = h .few-segments in
+      let sum = sum-under (countAt list) n mostContracts (h .few-contracts) in
+      rw (before-sum list n (omega arith)) (omega arith)
+
+  -- no two segments have one letter
+  pub letters-apart : Header list → (i j : ℕ) → i < segmentsOf list → j < segmentsOf list → letterAt list i ≡ letterAt list j → i ≡ j
+  letters-apart h i j l m e =
+      let up : (a b : ℕ) → a < b → b < segmentsOf list → letterAt list a < letterAt list b =
+      climbs (λ a b. letterAt list a < letterAt list b) (λ a b c p q. omega arith) (segmentsOf list) (h .letters-ascend) in
+      ⊎-elim (λ (k : i < j). absurd (omega (arith, up i j k m)))
+      (⊎-elim (λ (k : j < i). absurd (omega (arith, up j i k l))) (λ (k : i ≡ j). k))
+      (three i j)

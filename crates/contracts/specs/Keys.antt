@@ -1,0 +1,13 @@
+-- 01 "The contract list": keys ascend. The order of keys is that of their first bytes that differ.
+use Prim.Native.Nat.{ℕ}
+use mathlib.Core.Bool.{cond}
+use mathlib.Core.List.{List, [], _∷_}
+use lib.Dec.{ltb}
+use Rattle.contracts.specs.declared.key.Order.{Order}
+use Rattle.contracts.specs.declared.key.Order.the-variants.{Below, Same, Above}
+
+abbrev pub orderOf : List ℕ → List ℕ → Order
+orderOf [] [] = Same
+orderOf [] (y ∷ ys) = Below
+orderOf (x ∷ xs) [] = Above
+orderOf (x ∷ xs) (y ∷ ys) = cond (ltb x y) Below (cond (ltb y x) Above (orderOf xs ys))

@@ -1,0 +1,114 @@
+-- Laws of the lookups: what is found is what is listed, and 6 and 13 are given exactly when it isn't.
+use Prim.Native.Nat.{ℕ, _≤_, _<_}
+use mathlib.Core.Path.{_≡_, refl, sym, ap, _∙_}
+use mathlib.Core.Logic.{_⊎_, _↔_, inl, inr, ⊎-elim}
+use mathlib.Core.List.{List}
+use mathlib.Core.Option.{Option, none, some}
+use native.Mathlib.Omega.{arith}
+use borrow.Author.Tests.{eqb-true, eqb-false}
+use lib.Dec.{eqb}
+use Rattle.laws.specs.Order.{three}
+use Rattle.laws.specs.Choice.{never}
+use Rattle.contracts.specs.declared.key.Order.the-variants.{Below, Same, Above}
+use Rattle.contracts.specs.declared.lookup.Found.{Found}
+use Rattle.contracts.specs.declared.lookup.Found.the-variants.{At, Nowhere}
+use Rattle.contracts.specs.Answers.{placeOf, numberOf, codeRefused, contractRefused}
+use Rattle.contracts.specs.Below.{firstBelow}
+use Rattle.contracts.specs.BelowLaws.{first-passes, none-passes}
+use Rattle.contracts.specs.File.{segmentsOf, letterAt, countAt, keyOf}
+use Rattle.contracts.specs.Halving.{digits}
+use Rattle.contracts.specs.HeaderLaws.{letters-apart}
+use Rattle.contracts.specs.HalvingLaws.{compared-few, found-matches, match-found}
+use Rattle.contracts.specs.Keys.{orderOf}
+use Rattle.contracts.specs.KeysLaws.{between, same-key, key-same}
+use Rattle.contracts.specs.Lookup.{segmentOf, standsTo, lookup, placeIn}
+use Rattle.contracts.specs.Sound.{Header, Sound}
+use Rattle.contracts.specs.SoundLaws.{keys-climb}
+
+-- an answer is fixed by the place that it gives
+pub same-found : (r s : Found) → placeOf r ≡ placeOf s → r ≡ s
+same-found (At i) (At j) e = cc
+same-found (At i) Nowhere e = cc
+same-found Nowhere (At j) e = cc
+same-found Nowhere Nowhere e = refl
+
+-- a lookup that answers a place exactly where something is listed answers none exactly where nothing is
+module _ (answer : Option ℕ) (Is : ℕ → Type 0) (exact : (i : ℕ) → answer ≡ some i ↔ Is i) where
+  none-exact : answer ≡ none ↔ ((i : ℕ) → Is i → ⊥)
+  none-exact = ((λ e i h. never (sym e ∙ exact i .1 h)), (λ nothing. go answer refl nothing))
+    where
+      go : (a : Option ℕ) → answer ≡ a → ((i : ℕ) → Is i → ⊥) → answer ≡ none
+      go none e nothing = e
+      go (some i) e nothing = absurd (nothing i (exact i .0 e))
+
+  -- and then its number is the refusal's
+  refused-exact : (refusal : ℕ) → 0 < refusal → (r : Found) → placeOf r ≡ answer → numberOf refusal r ≡ refusal ↔ ((i : ℕ) → Is i → ⊥)
+  refused-exact refusal h (At i) e =
+      ((λ n. absurd (omega arith)), (λ nothing. absurd (never (sym (none-exact .1 nothing) ∙ sym e))))
+  refused-exact refusal h Nowhere e = ((λ n. none-exact .0 (sym e)), (λ nothing. refl))
+
+module _ (list : List ℕ) where
+  -- a segment that is found has the letter, whatever the list is
+  pub segment-has : (letter i : ℕ) → segmentOf list letter ≡ some i → (i < segmentsOf list) × (letterAt list i ≡ letter)
+  unfolding segmentOf
+  segment-has letter i e =
+      let h = first-passes (λ j. eqb (letterAt list j) letter) (segmentsOf list) i e in
+      (h .0, eqb-true (letterAt list i) letter (h .1))
+
+  -- where the header is sound the segment with a letter is found, and it is the only one
+  pub segment-exact : Header list → (letter i : ℕ) → segmentOf list letter ≡ some i ↔ (i < segmentsOf list) × (letterAt list i ≡ letter)
+  unfolding segmentOf
+  segment-exact h letter i = (segment-has letter i, (λ l. go l (segmentOf list letter) refl))
+    where
+      go : (i < segmentsOf list) × (letterAt list i ≡ letter) → (o : Option ℕ) → segmentOf list letter ≡ o → segmentOf list letter ≡ some i
+      go l none e =
+          absurd (eqb-false (letterAt list i) letter (none-passes (λ j. eqb (letterAt list j) letter) (segmentsOf list) e i (l .0)) (l .1))
+      go l (some j) e =
+          let k = segment-has letter j e in
+          e ∙ ap some (letters-apart list h j i (k .0) (l .0) (k .1 ∙ sym (l .1)))
+
+  -- 6 is given exactly when no segment has the letter
+  pub letter-refused : Header list → (letter : ℕ) (r : Found) → placeOf r ≡ segmentOf list letter
+      → numberOf codeRefused r ≡ codeRefused ↔ ((i : ℕ) → (i < segmentsOf list) × (letterAt list i ≡ letter) → ⊥)
+  letter-refused h letter r e =
+      refused-exact (segmentOf list letter) (λ i. (i < segmentsOf list) × (letterAt list i ≡ letter)) (segment-exact h letter)
+      codeRefused (omega arith) r e
+
+  module _ (i : ℕ) (key : List ℕ) where
+    -- M-102: at most the binary digits of the segment's count
+    pub lookup-steps : lookup list i key .compared ≤ digits (countAt list i)
+    unfolding lookup
+    lookup-steps = compared-few (standsTo list i key) (countAt list i)
+
+    -- a key that is found stands at its place, whatever the bodies hold
+    pub key-at-place : (k : ℕ) → placeIn list i key ≡ some k → (k < countAt list i) × (keyOf list i k ≡ key)
+    unfolding lookup
+    key-at-place k e =
+        let h = found-matches (standsTo list i key) (countAt list i) k e in
+        (h .0, sym (same-key key (keyOf list i k) (h .1)))
+
+    -- in a sound list a key is found exactly when it is listed, at its place
+    pub key-exact : Sound list → i < segmentsOf list → (k : ℕ) → placeIn list i key ≡ some k ↔ (k < countAt list i) × (keyOf list i k ≡ key)
+    unfolding lookup
+    key-exact s l k = (
+      key-at-place k,
+      (λ h.
+          match-found (standsTo list i key) (countAt list i) k
+          (λ a b m n. between key (keyOf list i a) (keyOf list i b) (keys-climb list s i a b l m n))
+          (h .0) (ap (orderOf key) (h .1) ∙ key-same key)),
+    )
+
+    -- 13 is given exactly when the key isn't listed
+    pub key-refused : Sound list → i < segmentsOf list → (r : Found) → placeOf r ≡ placeIn list i key
+        → numberOf contractRefused r ≡ contractRefused ↔ ((k : ℕ) → (k < countAt list i) × (keyOf list i k ≡ key) → ⊥)
+    key-refused s l r e =
+        refused-exact (placeIn list i key) (λ k. (k < countAt list i) × (keyOf list i k ≡ key)) (key-exact s l)
+        contractRefused (omega arith) r e
+
+  -- no key stands twice in a segment
+  pub keys-apart : Sound list → (i j k : ℕ) → i < segmentsOf list → j < countAt list i → k < countAt list i
+      → keyOf list i j ≡ keyOf list i k → j ≡ k
+  keys-apart s i j k l m n e =
+      ⊎-elim (λ (h : j < k). cc (keys-climb list s i j k l h n, key-same (keyOf list i j)))
+      (⊎-elim (λ (h : k < j). cc (keys-climb list s i k j l h m, key-same (keyOf list i j))) (λ (h : j ≡ k). h))
+      (three j k)

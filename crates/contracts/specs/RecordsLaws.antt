@@ -1,0 +1,36 @@
+-- Every listed contract has a record of its own, and every record belongs to one.
+use Prim.Native.Nat.{ℕ, _+_, _-_, _≤_, _<_}
+use mathlib.Core.Path.{_≡_, sym, ap, _∙_}
+use mathlib.Core.Logic.{_⊎_, ⊎-elim}
+use mathlib.Core.List.{List}
+use native.Mathlib.Omega.{arith}
+use Rattle.laws.specs.Order.{three}
+use Rattle.contracts.specs.BelowLaws.{sum-reaches, sum-part}
+use Rattle.contracts.specs.File.{segmentsOf, countAt, contractsBefore, contractsOf}
+use Rattle.contracts.specs.FileLaws.{before-sum, before-reaches}
+use Rattle.contracts.specs.Records.{Listed, recordAt}
+
+module _ (list : List ℕ) where
+  -- a record is one of those kept
+  pub record-kept : (i k : ℕ) → Listed list i k → recordAt list i k < contractsOf list
+  record-kept i k h = omega (arith, h .place, before-reaches list i (h .segment))
+
+  -- the records of a segment end before those of a later one begin
+  segments-apart : (i j : ℕ) → i < j → j < segmentsOf list → contractsBefore list i + countAt list i ≤ contractsBefore list j
+  segments-apart i j h l = rw (before-sum list i (omega arith), before-sum list j (omega arith)) (sum-reaches (countAt list) j i h)
+
+  -- two contracts have two records
+  pub records-apart : (i k j l : ℕ) → Listed list i k → Listed list j l → recordAt list i k ≡ recordAt list j l → (i ≡ j) × (k ≡ l)
+  records-apart i k j l h g e =
+      ⊎-elim (λ (m : i < j). absurd (omega (arith, h .place, segments-apart i j m (g .segment))))
+      (⊎-elim (λ (m : j < i). absurd (omega (arith, g .place, segments-apart j i m (h .segment))))
+      (λ (m : i ≡ j). (m, omega (arith, ap (contractsBefore list) m))))
+      (three i j)
+
+  -- every record that is kept is some contract's
+  pub record-owned : (r : ℕ) → r < contractsOf list → (i : ℕ) × (k : ℕ) × Listed list i k × (recordAt list i k ≡ r)
+  record-owned r h =
+      let p = sum-part (countAt list) (segmentsOf list) r (rw (← before-sum list (segmentsOf list) (omega arith)) h) in
+      let i : ℕ = p .0 in
+      let before : contractsBefore list i ≡ _ = before-sum list i (omega (arith, p .1)) in
+      (i, r - contractsBefore list i, record { segment = p .1; place = omega (arith, p .2, p .3) }, omega (arith, p .2))

@@ -1,0 +1,113 @@
+-- 01 "The contract list": what a sound list is, as tests that compute and as the paper's rules one by one.
+use Prim.Native.Nat.{ℕ, zero, suc, _+_, _*_, _≤_, _<_}
+use mathlib.Core.Path.{_≡_}
+use mathlib.Core.Logic.{_⊎_}
+use mathlib.Core.Bool.{Bool, true, false, _&&_, _||_}
+use mathlib.Core.List.{List}
+use lib.Dec.{leb, ltb, eqb}
+use lib.ListN.{length, getD}
+use Rattle.contracts.specs.declared.check.Part.{Part}
+use Rattle.contracts.specs.declared.check.Part.the-variants.{Entry, Body}
+use Rattle.contracts.specs.declared.key.Order.{Order}
+use Rattle.contracts.specs.declared.key.Order.the-variants.{Below, Same, Above}
+use Rattle.contracts.specs.Below.{allBelow}
+use Rattle.contracts.specs.File.{segmentsOf, entryAt, letterAt, zeroAt, countAt, offsetAt, keySize, keyOf, contractsBefore}
+use Rattle.contracts.specs.Keys.{orderOf}
+
+-- 1 or 2 segments, and 1 to 4,096 contracts each
+abbrev pub mostSegments : ℕ
+mostSegments = 2
+
+abbrev pub mostContracts : ℕ
+mostContracts = 4096
+
+-- letters are D or T
+abbrev pub letterD : ℕ
+letterD = 68
+
+abbrev pub letterT : ℕ
+letterT = 84
+
+-- a key's bytes are 32 to 126
+abbrev pub lowestByte : ℕ
+lowestByte = 32
+
+abbrev pub highestByte : ℕ
+highestByte = 126
+
+-- the short check of the calls after start: the rules for all that stands before the bodies, and for the size
+pub record Header (list : List ℕ) : Type 0 where
+  pub some-segments : 1 ≤ segmentsOf list
+  pub few-segments : segmentsOf list ≤ mostSegments
+  pub letters : (i : ℕ) → i < segmentsOf list → (letterAt list i ≡ letterD) ⊎ (letterAt list i ≡ letterT)
+  pub letters-ascend : (i : ℕ) → i + 1 < segmentsOf list → letterAt list i < letterAt list (i + 1)
+  pub zero-bytes : (i : ℕ) → i < segmentsOf list → zeroAt list i ≡ 0
+  pub some-contracts : (i : ℕ) → i < segmentsOf list → 1 ≤ countAt list i
+  pub few-contracts : (i : ℕ) → i < segmentsOf list → countAt list i ≤ mostContracts
+  -- contents first, then the bodies without holes, and the file ends with the last
+  pub first-body : offsetAt list 0 ≡ entryAt (segmentsOf list)
+  pub next-body : (i : ℕ) → i + 1 < segmentsOf list → offsetAt list (i + 1) ≡ offsetAt list i + keySize * countAt list i
+  pub file-ends : (i : ℕ) → i + 1 ≡ segmentsOf list → length list ≡ offsetAt list i + keySize * countAt list i
+
+-- the full check of start: the keys' bytes, and their order within a segment
+pub record Sound (list : List ℕ) : Type 0 where
+  pub header : Header list
+  pub key-bytes : (i k b : ℕ) → i < segmentsOf list → k < countAt list i → b < keySize
+      → (lowestByte ≤ getD (keyOf list i k) b 0) × (getD (keyOf list i k) b 0 ≤ highestByte)
+  pub keys-ascend : (i k : ℕ) → i < segmentsOf list → k + 1 < countAt list i → orderOf (keyOf list i k) (keyOf list i (k + 1)) ≡ Below
+
+-- n is not under `low` and not above `high`
+abbrev pub within : ℕ → ℕ → ℕ → Bool
+within low high n = leb low n && leb n high
+
+abbrev pub isLetter : ℕ → Bool
+isLetter letter = eqb letter letterD || eqb letter letterT
+
+-- each letter but the first stands above the one before it
+abbrev pub letterAscends : List ℕ → ℕ → Bool
+letterAscends list zero = true
+letterAscends list (suc i) = ltb (letterAt list i) (letterAt list (suc i))
+
+-- where the body of segment i begins, with no hole behind the contents and the bodies before it
+abbrev pub bodyAt : List ℕ → ℕ → ℕ
+bodyAt list i = entryAt (segmentsOf list) + keySize * contractsBefore list i
+
+unfoldable pub entrySound : List ℕ → ℕ → Bool
+entrySound list i =
+    isLetter (letterAt list i) && letterAscends list i && eqb (zeroAt list i) 0 && within 1 mostContracts (countAt list i) && eqb (offsetAt list i) (bodyAt list i)
+
+unfoldable pub bytesSound : List ℕ → Bool
+bytesSound key = allBelow (length key) (λ b. within lowestByte highestByte (getD key b 0))
+
+abbrev pub isBelow : Order → Bool
+isBelow Below = true
+isBelow Same = false
+isBelow Above = false
+
+-- each key but the first of its segment stands above the one before it
+abbrev pub keyAscends : List ℕ → ℕ → ℕ → Bool
+keyAscends list i zero = true
+keyAscends list i (suc k) = isBelow (orderOf (keyOf list i k) (keyOf list i (suc k)))
+
+unfoldable pub keySound : List ℕ → ℕ → ℕ → Bool
+keySound list i k = bytesSound (keyOf list i k) && keyAscends list i k
+
+unfoldable pub bodySound : List ℕ → ℕ → Bool
+bodySound list i = allBelow (countAt list i) (keySound list i)
+
+-- what is looked at of segment i
+abbrev pub partSound : List ℕ → Part → ℕ → Bool
+partSound list Entry i = entrySound list i
+partSound list Body i = bodySound list i
+
+unfoldable pub eachSound : List ℕ → Part → Bool
+eachSound list part = allBelow (segmentsOf list) (partSound list part)
+
+-- true exactly when `Header` holds
+unfoldable pub headerSound : List ℕ → Bool
+headerSound list =
+    within 1 mostSegments (segmentsOf list) && (eachSound list Entry && eqb (length list) (bodyAt list (segmentsOf list)))
+
+-- true exactly when `Sound` holds
+unfoldable pub sound : List ℕ → Bool
+sound list = headerSound list && eachSound list Body

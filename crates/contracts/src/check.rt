@@ -1,0 +1,175 @@
+ghost use mathlib.Core.Path.{_≡_};
+ghost use Prim.Native.Nat.{_<_};
+ghost use Rattle.contracts.specs.File.{countAt, keyOf};
+ghost use Rattle.contracts.specs.Sound.{lowestByte, highestByte, within, isLetter, letterAscends, bodyAt, entrySound, headerSound, bytesSound, isBelow, keyAscends, keySound, bodySound, partSound, eachSound, sound};
+use crate::header;
+use crate::key;
+use crate::key::Order;
+
+const MOST_SEGMENTS: usize = 2;
+
+const MOST_CONTRACTS: usize = 4096;
+
+const LOWEST_BYTE: u8 = 32;
+
+const HIGHEST_BYTE: u8 = 126;
+
+// What is looked at of a segment: its entry in the contents, or its body.
+pub enum Part {
+    Entry,
+    Body,
+}
+
+// Tests are joined by `&` and `|`: none can fail, so that none has to wait for another.
+
+fn is_letter(letter: u8) -> bool
+    ensures { λ r. ⌜ r ≡ isLetter letter ⌝ }
+{
+    (letter == b'D') | (letter == b'T')
+}
+
+fn within(low: usize, high: usize, n: usize) -> bool
+    ensures { λ r. ⌜ r ≡ within low high n ⌝ }
+{
+    (low <= n) & (n <= high)
+}
+
+fn letter_ascends(list: &[u8], segment: usize) -> bool
+    ensures { λ r. ⌜ r ≡ letterAscends (now (list .entry)) segment ⌝ }
+{
+    if segment == 0 {
+        return true;
+    }
+    header::letter_at(list, segment - 1) < header::letter_at(list, segment)
+}
+
+// Where the body of a segment begins, with no hole before it.
+fn body_at(list: &[u8], segment: usize) -> usize
+    ensures { λ r. ⌜ r ≡ bodyAt (now (list .entry)) segment ⌝ }
+{
+    header::NUMBER
+        + header::ENTRY * header::segments(list)
+        + key::KEY * header::contracts_before(list, segment)
+}
+
+fn entry_sound(list: &[u8], segment: usize) -> bool
+    ensures { λ r. ⌜ r ≡ entrySound (now (list .entry)) segment ⌝ }
+{
+    is_letter(header::letter_at(list, segment))
+        & letter_ascends(list, segment)
+        & (header::zero_at(list, segment) == 0)
+        & within(1, MOST_CONTRACTS, header::count_at(list, segment))
+        & (header::offset_at(list, segment) == body_at(list, segment))
+}
+
+fn byte_sound(byte: u8) -> bool
+    ensures { λ r. ⌜ r ≡ within lowestByte highestByte byte ⌝ }
+{
+    (LOWEST_BYTE <= byte) & (byte <= HIGHEST_BYTE)
+}
+
+fn bytes_sound(bytes: &[u8]) -> bool
+    ensures { λ r. ⌜ r ≡ bytesSound (now (bytes .entry)) ⌝ }
+{
+    let mut i = 0;
+    while i < bytes.len() {
+        if !byte_sound(bytes[i]) {
+            return false;
+        }
+        i += 1;
+    }
+    true
+}
+
+fn key_of(list: &[u8], segment: usize, place: usize) -> &[u8]
+    requires { ⌜ place < countAt (now list) segment ⌝ }
+    ensures { λ r. ⌜ now r ≡ keyOf (now (list .entry)) segment place ⌝ }
+{
+    key::key_from(list, header::offset_at(list, segment) + key::KEY * place)
+}
+
+fn is_below(order: Order) -> bool
+    ensures { λ r. ⌜ r ≡ isBelow order ⌝ }
+{
+    match order {
+        Order::Below => true,
+        Order::Same => false,
+        Order::Above => false,
+    }
+}
+
+fn key_ascends(list: &[u8], segment: usize, place: usize) -> bool
+    requires { ⌜ place < countAt (now list) segment ⌝ }
+    ensures { λ r. ⌜ r ≡ keyAscends (now (list .entry)) segment place ⌝ }
+{
+    if place == 0 {
+        return true;
+    }
+    is_below(key::order_of(
+        key_of(list, segment, place - 1),
+        key_of(list, segment, place),
+    ))
+}
+
+fn key_sound(list: &[u8], segment: usize, place: usize) -> bool
+    requires { ⌜ place < countAt (now list) segment ⌝ }
+    ensures { λ r. ⌜ r ≡ keySound (now (list .entry)) segment place ⌝ }
+{
+    bytes_sound(key_of(list, segment, place)) & key_ascends(list, segment, place)
+}
+
+fn body_sound(list: &[u8], segment: usize) -> bool
+    ensures { λ r. ⌜ r ≡ bodySound (now (list .entry)) segment ⌝ }
+{
+    let count = header::count_at(list, segment);
+    let mut place = 0;
+    while place < count {
+        if !key_sound(list, segment, place) {
+            return false;
+        }
+        place += 1;
+    }
+    true
+}
+
+fn part_sound(list: &[u8], segment: usize, part: Part) -> bool
+    ensures { λ r. ⌜ r ≡ partSound (now (list .entry)) part segment ⌝ }
+{
+    match part {
+        Part::Entry => entry_sound(list, segment),
+        Part::Body => body_sound(list, segment),
+    }
+}
+
+fn each_sound(list: &[u8], part: Part) -> bool
+    ensures { λ r. ⌜ r ≡ eachSound (now (list .entry)) part ⌝ }
+{
+    let listed = header::segments(list);
+    let mut i = 0;
+    while i < listed {
+        if !part_sound(list, i, part) {
+            return false;
+        }
+        i += 1;
+    }
+    true
+}
+
+// The check of the calls after start: all that stands before the bodies, and the size.
+pub fn header_sound(list: &[u8]) -> bool
+    ensures { λ r. ⌜ r ≡ headerSound (now (list .entry)) ⌝ }
+{
+    let listed = header::segments(list);
+    if within(1, MOST_SEGMENTS, listed) {
+        each_sound(list, Part::Entry) & (list.len() == body_at(list, listed))
+    } else {
+        false
+    }
+}
+
+// The check of start: the bodies too.
+pub fn sound(list: &[u8]) -> bool
+    ensures { λ r. ⌜ r ≡ sound (now (list .entry)) ⌝ }
+{
+    header_sound(list) && each_sound(list, Part::Body)
+}

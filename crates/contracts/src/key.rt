@@ -1,0 +1,82 @@
+ghost use mathlib.Core.Path.{_≡_};
+ghost use Prim.Native.Nat.{_+_, _≤_};
+ghost use lib.ListN.{length, drop};
+ghost use Rattle.wire.specs.Number.{numberAt};
+ghost use Rattle.contracts.specs.File.{keyFrom};
+ghost use Rattle.contracts.specs.Keys.{orderOf};
+
+// The bytes of a key.
+pub(crate) const KEY: usize = 39;
+
+// How a key stands to another.
+pub enum Order {
+    Below,
+    Same,
+    Above,
+}
+
+// Eight bytes as one number: so keys are compared eight bytes at a time.
+fn word_at(s: &[u8], at: usize) -> u64
+    requires { ⌜ at + 8 ≤ length (now s) ⌝ }
+    ensures { λ r. ⌜ r ≡ numberAt 8 (now (s .entry)) at ⌝ }
+{
+    (wire::u32_at(s, at) as u64) * 4294967296 + (wire::u32_at(s, at + 4) as u64)
+}
+
+// The order of what is left of two keys from a byte on.
+fn order_from(a: &[u8], b: &[u8], from: usize) -> Order
+    requires { ⌜ from ≤ length (now a) ⌝ }
+    ensures { λ r. ⌜ r ≡ orderOf (drop from (now (a .entry))) (drop from (now (b .entry))) ⌝ }
+{
+    let mut i = from;
+    while i < a.len() {
+        if b.len() <= i {
+            return Order::Above;
+        }
+        if a[i] < b[i] {
+            return Order::Below;
+        }
+        if b[i] < a[i] {
+            return Order::Above;
+        }
+        i += 1;
+    }
+    if i < b.len() {
+        Order::Below
+    } else {
+        Order::Same
+    }
+}
+
+// By the first byte in which they differ; what a longer one begins with stands below it.
+pub(crate) fn order_of(a: &[u8], b: &[u8]) -> Order
+    ensures { λ r. ⌜ r ≡ orderOf (now (a .entry)) (now (b .entry)) ⌝ }
+{
+    let mut i = 0;
+    while (i + 8 <= a.len()) & (i + 8 <= b.len()) {
+        let x = word_at(a, i);
+        let y = word_at(b, i);
+        if x < y {
+            return Order::Below;
+        }
+        if y < x {
+            return Order::Above;
+        }
+        i += 8;
+    }
+    order_from(a, b, i)
+}
+
+// The key that begins at a place of the list: what stands past the end is left out.
+pub(crate) fn key_from(list: &[u8], at: usize) -> &[u8]
+    ensures { λ r. ⌜ now r ≡ keyFrom (now (list .entry)) at ⌝ }
+{
+    if list.len() <= at {
+        return &list[..0];
+    }
+    if KEY <= list.len() - at {
+        &list[at..at + KEY]
+    } else {
+        &list[at..]
+    }
+}

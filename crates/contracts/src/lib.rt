@@ -1,0 +1,17 @@
+// The contract list: checking the file, reading its header, and finding a segment's letter and a contract's key.
+mod check;
+mod header;
+mod key;
+mod lookup;
+
+pub use check::header_sound;
+pub use check::sound;
+pub use header::all_contracts;
+pub use header::contracts_before;
+pub use header::count_at;
+pub use header::letter_at;
+pub use header::offset_at;
+pub use header::segments;
+pub use lookup::Found;
+pub use lookup::place_of;
+pub use lookup::segment_of;

@@ -1,0 +1,54 @@
+ghost use mathlib.Core.Path.{_≡_};
+ghost use Rattle.contracts.specs.Answers.{placeOf};
+ghost use Rattle.contracts.specs.Lookup.{segmentOf, placeIn};
+use crate::header;
+use crate::key;
+use crate::key::Order;
+
+// Where a letter or a key is listed.
+pub enum Found {
+    At(usize),
+    // 6 for a letter, 13 for a key.
+    Nowhere,
+}
+
+// The segment that has a letter.
+pub fn segment_of(list: &[u8], letter: u8) -> Found
+    ensures { λ r. ⌜ placeOf r ≡ segmentOf (now (list .entry)) letter ⌝ }
+{
+    let listed = header::segments(list);
+    let mut i = 0;
+    while i < listed {
+        if header::letter_at(list, i) == letter {
+            return Found::At(i);
+        }
+        i += 1;
+    }
+    Found::Nowhere
+}
+
+// The place of a key in a segment, by halving: `left` keys are left, the first of which is key `low`.
+pub fn place_of(list: &[u8], segment: usize, wanted: &[u8]) -> Found
+    ensures { λ r. ⌜ placeOf r ≡ placeIn (now (list .entry)) segment (now (wanted .entry)) ⌝ }
+{
+    let offset = header::offset_at(list, segment);
+    let mut low = 0;
+    let mut left = header::count_at(list, segment);
+    while 0 < left {
+        let below = (left - 1) / 2;
+        let place = low + below;
+        match key::order_of(wanted, key::key_from(list, offset + key::KEY * place)) {
+            Order::Same => {
+                return Found::At(place);
+            }
+            Order::Below => {
+                left = below;
+            }
+            Order::Above => {
+                low = place + 1;
+                left = left - 1 - below;
+            }
+        }
+    }
+    Found::Nowhere
+}

@@ -2,14 +2,14 @@
 use Prim.Native.Nat.{ℕ, zero, suc, _-_, _<_, _≤_}
 use mathlib.Core.Path.{_≡_, refl, ap}
 use mathlib.Core.List.{List, [], _∷_, _++_, map}
-use mathlib.Core.Logic.{_⊎_, inl, inr, ⊎-elim}
+use mathlib.Core.Logic.{_⊎_, inl, inr}
 use native.Mathlib.Omega.{arith}
 use lib.Dec.{eqb·suc-zero}
 use lib.ListN.{length, replicate}
 use Rattle.laws.specs.Order.{order, same}
 use Rattle.amount.specs.Denotes.{space, point, digitChar, Digits, pointed, Shape}
 use Rattle.amount.specs.Read.{onSpace, onPoint, onDigit, step, walk}
-use Rattle.amount.specs.WalkLaws.{step-space, step-point, step-digit, step-other, walk-cons, walk-nil}
+use Rattle.amount.specs.WalkLaws.{NoDigit, step-space, step-point, step-digit, step-other, walk-cons, walk-nil}
 use Rattle.amount.specs.declared.read.State.{State}
 use Rattle.amount.specs.declared.read.State.the-variants.{Before, Whole, Pointed, Fraction, Behind, Bad}
 
@@ -21,13 +21,18 @@ data Sort (c : ℕ) : Type 0 where
   another : ((places : ℕ) (s : State) → step places s c ≡ Bad) → Sort c
 
 sort : (c : ℕ) → Sort c
-sort c = ⊎-elim a-space (λ (ns : c ≡ space → ⊥). ⊎-elim a-point (λ (np : c ≡ point → ⊥).
-    let no : (c < digitChar 0) ⊎ (digitChar 9 < c) → Sort c = λ h. another (λ places s. step-other places s c ns np h) in
-    ⊎-elim
-    (λ (low : digitChar 0 ≤ c). ⊎-elim (λ (high : c ≤ digitChar 9). a-digit (c - digitChar 0) (omega arith) (omega arith)) (λ (high : digitChar 9 < c). no (inr high)) (order c (digitChar 9)))
-    (λ (low : c < digitChar 0). no (inl low))
-    (order (digitChar 0) c))
-    (same c point)) (same c space)
+sort c = go (same c space) (same c point) (order (digitChar 0) c) (order c (digitChar 9))
+  where
+    other : (c ≡ space → ⊥) → (c ≡ point → ⊥) → NoDigit c → Sort c
+    other ns np nd = another (λ places s. step-other places s c ns np nd)
+
+    go : (c ≡ space) ⊎ (c ≡ space → ⊥) → (c ≡ point) ⊎ (c ≡ point → ⊥) → (digitChar 0 ≤ c) ⊎ (c < digitChar 0)
+        → (c ≤ digitChar 9) ⊎ (digitChar 9 < c) → Sort c
+    go (inl e) p l h = a-space e
+    go (inr ns) (inl e) l h = a-point e
+    go (inr ns) (inr np) (inl low) (inl high) = a-digit (c - digitChar 0) (omega arith) (omega arith)
+    go (inr ns) (inr np) (inl low) (inr high) = other ns np (inr high)
+    go (inr ns) (inr np) (inr low) h = other ns np (inl low)
 
 -- the rest of a text: behind the last digit, behind the point, and behind the first digit
 abbrev pub Spaces : List ℕ → Type 0
@@ -147,7 +152,9 @@ shape-space h =
 
 whole-point : (places n : ℕ) (t : List ℕ) → Ends places (onPoint places (Whole n)) t → Left places (point ∷ t)
 whole-point zero n t h = absurd h
-whole-point (suc places) n t h = let h′ : Ends (suc places) (Pointed n) t = rw (eqb·suc-zero places) at h in left-point (omega arith) (h′ .0) (h′ .1)
+whole-point (suc places) n t h =
+    let h′ : Ends (suc places) (Pointed n) t = rw (eqb·suc-zero places) at h in
+    left-point (omega arith) (h′ .0) (h′ .1)
 
 module _ (places : ℕ) (t : List ℕ) where
   ends-space : (s : State) → Ends places (onSpace s) t → Ends places s (space ∷ t)

@@ -6,8 +6,8 @@ use mathlib.Core.Logic.{_↔_, _⊎_, inl, inr, ⊎-elim}
 use native.Mathlib.Omega.{arith}
 use lib.ListN.{length, replicate, length-replicate}
 use borrow.Author.Tests.{le-leb, lt-leb}
-use Rattle.laws.specs.Order.{order}
 use Rattle.laws.specs.Choice.{cond-same, clash}
+use Rattle.laws.specs.Order.{order}
 use Rattle.amount.specs.Denotes.{space, Shape, units, FineEnough, Denotes, AllSpaces}
 use Rattle.amount.specs.Answers.{Beyond, Says}
 use Rattle.amount.specs.Read.{walk, answer, readText}

@@ -2,7 +2,6 @@
 use Prim.Native.Nat.{ℕ, _+_, _-_, _*_, _^_, _<_, _≤_}
 use mathlib.Core.Path.{_≡_, refl, sym, _∙_, ap}
 use mathlib.Core.List.{List}
-use mathlib.Core.Logic.{_⊎_}
 use native.Mathlib.Nat.{add-assoc, add-zero, sub-self, zero-add}
 use native.Mathlib.Numerals.{add-one}
 use native.Mathlib.Omega.{arith}
@@ -15,7 +14,7 @@ use Rattle.amount.specs.Read.{onSpace, onPoint, onDigit, step, walk, ans
 use Rattle.amount.specs.Runs.{cap, soFar, fineness, afterDigits, PastSpaces, PastDigits, ReadTo}
 use Rattle.amount.specs.CapLaws.{Same, same-walk}
 use Rattle.amount.specs.CapLaws.Same.{whole, fraction, bad}
-use Rattle.amount.specs.WalkLaws.{step-space, step-point, step-digit, step-other, walk-cons, walk-nil, walk-bad}
+use Rattle.amount.specs.WalkLaws.{NoDigit, step-space, step-point, step-digit, step-other, walk-cons, walk-nil, walk-bad}
 use Rattle.amount.specs.declared.Number.the-variants.{Malformed}
 use Rattle.amount.specs.declared.read.Run.{Run}
 use Rattle.amount.specs.declared.read.State.{State}
@@ -36,7 +35,7 @@ module _ (places : ℕ) (s : State) (t : List ℕ) (i : ℕ) (h : i < length t) 
   pub digit-at : (d : ℕ) → d < 10 → getD t i 0 ≡ digitChar d → walk places s (drop i t) ≡ walk places (onDigit s d) (drop (i + 1) t)
   digit-at d l e = step-at ∙ rw (e, step-digit places s d l)
 
-  pub other-at : (getD t i 0 ≡ space → ⊥) → (getD t i 0 ≡ point → ⊥) → (getD t i 0 < digitChar 0) ⊎ (digitChar 9 < getD t i 0) → walk places s (drop i t) ≡ Bad
+  pub other-at : (getD t i 0 ≡ space → ⊥) → (getD t i 0 ≡ point → ⊥) → NoDigit (getD t i 0) → walk places s (drop i t) ≡ Bad
   other-at ns np nd = step-at ∙ rw (step-other places s (getD t i 0) ns np nd, walk-bad)
 
 -- ## A run of spaces
@@ -87,7 +86,8 @@ module _ (t : List ℕ) (from amount : ℕ) where
   pub no-digit : from ≤ length t → PastDigits t from amount (record { amount = amount; end = from })
   no-digit h = record { onward = omega arith; within = h; passed = λ places max l s count. rw (sub-self, add-zero) }
 
-  pub one-more-digit : (n i d m : ℕ) → PastDigits t from amount (record { amount = n; end = i }) → i < length t → d < 10 → getD t i 0 ≡ digitChar d → m ≡ cap (n * 10 + d)
+  pub one-more-digit : (n i d m : ℕ) → PastDigits t from amount (record { amount = n; end = i })
+      → i < length t → d < 10 → getD t i 0 ≡ digitChar d → m ≡ cap (n * 10 + d)
       → PastDigits t from amount (record { amount = m; end = i + 1 })
   one-more-digit n i d m h l small e grow =
       record {
@@ -150,7 +150,8 @@ module _ (t : List ℕ) (places max : ℕ) where
           reads = ap (answer places max) (sym (point-at places s t i l e)) ∙ h .reads;
         }
 
-    pub read-digits : max < 10 ^ 19 → (d n : ℕ) (run : Run) → d < 10 → getD t i 0 ≡ digitChar d → n ≡ cap (soFar s * 10 + d) → PastDigits t (i + 1) n run
+    pub read-digits : max < 10 ^ 19 → (d n : ℕ) (run : Run)
+        → d < 10 → getD t i 0 ≡ digitChar d → n ≡ cap (soFar s * 10 + d) → PastDigits t (i + 1) n run
         → ReadTo t places max (afterDigits s (run .amount) (run .end - i)) (run .end)
     read-digits le d n run small e grown past =
         let all : run .end - i ≡ 1 + (run .end - (i + 1)) = omega arith in
@@ -164,7 +165,7 @@ module _ (t : List ℕ) (places max : ℕ) where
               ∙ h .reads;
         }
 
-    pub read-other : (getD t i 0 ≡ space → ⊥) → (getD t i 0 ≡ point → ⊥) → (getD t i 0 < digitChar 0) ⊎ (digitChar 9 < getD t i 0) → Malformed ≡ readText places max t
+    pub read-other : (getD t i 0 ≡ space → ⊥) → (getD t i 0 ≡ point → ⊥) → NoDigit (getD t i 0) → Malformed ≡ readText places max t
     read-other ns np nd = sym (ap (answer places max) (other-at places s t i l ns np nd)) ∙ h .reads
 
   pub read-all : (s : State) (i : ℕ) → ReadTo t places max s i → length t ≤ i → answer places max s ≡ readText places max t

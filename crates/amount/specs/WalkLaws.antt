@@ -10,8 +10,8 @@ use native.Mathlib.Omega.{arith}
 use lib.Dec.{leb}
 use lib.ListN.{length, replicate}
 use borrow.Author.Tests.{le-leb, lt-leb, ne-eqb}
-use Rattle.laws.specs.Order.{order}
 use Rattle.laws.specs.Choice.{cond-same}
+use Rattle.laws.specs.Order.{order}
 use Rattle.amount.specs.Denotes.{space, point, digitChar, value, Digits, pointed, Shape, units, AllSpaces}
 use Rattle.amount.specs.DigitLaws.{followed, followed-cons, followed-scaled}
 use Rattle.amount.specs.Read.{onSpace, onPoint, onDigit, step, walk, inRange, ranged, answer, readText}
@@ -19,6 +19,10 @@ use Rattle.amount.specs.declared.Number.{Number}
 use Rattle.amount.specs.declared.Number.the-variants.{None, OutOfRange}
 use Rattle.amount.specs.declared.read.State.{State}
 use Rattle.amount.specs.declared.read.State.the-variants.{Before, Whole, Pointed, Fraction, Behind, Bad}
+
+-- a character before '0' or behind '9'
+abbrev pub NoDigit : ℕ → Type 0
+NoDigit c = (c < digitChar 0) ⊎ (digitChar 9 < c)
 
 module _ (places : ℕ) where
   -- ## What a character does
@@ -42,7 +46,7 @@ module _ (places : ℕ) where
         add-sub-cancel-left,
       )
 
-  pub step-other : (s : State) (c : ℕ) → (c ≡ space → ⊥) → (c ≡ point → ⊥) → (c < digitChar 0) ⊎ (digitChar 9 < c) → step places s c ≡ Bad
+  pub step-other : (s : State) (c : ℕ) → (c ≡ space → ⊥) → (c ≡ point → ⊥) → NoDigit c → step places s c ≡ Bad
   unfolding step
   step-other s c ns np (inl low) = simp (ne-eqb c space ns, ne-eqb c point np, lt-leb (digitChar 0) c low)
   step-other s c ns np (inr high) = simp (ne-eqb c space ns, ne-eqb c point np, lt-leb c (digitChar 9) high, cond-same)
@@ -82,7 +86,8 @@ module _ (places : ℕ) where
   digits-fraction n k [] t h = simp (mul-one, add-zero)
   digits-fraction n k (d ∷ ds) t h =
       let one-more : k + length (d ∷ ds) ≡ k + 1 + length ds = omega arith in
-      rw (walk-cons, step-digit (Fraction n k) d (h .0), ← followed-cons n d ds, one-more) (digits-fraction (n * 10 + d) (k + 1) ds t (h .1))
+      rw (walk-cons, step-digit (Fraction n k) d (h .0), ← followed-cons n d ds, one-more)
+      (digits-fraction (n * 10 + d) (k + 1) ds t (h .1))
 
   -- ## What a text of the shape reads as
 

@@ -1,19 +1,26 @@
-// How a number in text is read: one walk over the characters, a run of spaces or of digits at a time.
-// What comes next is chosen by the character, then by what was read before it.
+// How a number in text is read: one walk over the characters. What comes next is chosen by the character, then by what
+// was read before it. The rest of a run is passed at once: one more space changes nothing, one more digit only the amount.
 use crate::Number;
 ghost use mathlib.Core.Path.{_≡_};
-ghost use Prim.Native.Nat.{ℕ, _+_, _*_, _^_, _%_, _≤_, _<_};
+ghost use Prim.Native.Nat.{_+_, _*_, _^_, _%_, _≤_, _<_};
 ghost use lib.ListN.{length};
 ghost use Rattle.amount.specs.Read.{onSpace, onPoint, ranged, answer, readText};
 ghost use Rattle.amount.specs.Runs.{cap, soFar, fineness, afterDigits, PastSpaces, PastDigits};
 
-// What was read so far. An amount counts units of the last digit read; beside it stands how many digits follow the point.
+// What was read so far. An amount counts the place of the last digit read; beside it stands how many digits follow the
+// point.
 pub enum State {
+    // Nothing but spaces.
     Before,
+    // Digits.
     Whole(u64),
+    // A point behind digits.
     Pointed(u64),
+    // Digits behind the point.
     Fraction(u64, usize),
+    // Spaces behind the last digit.
     Behind(u64, usize),
+    // What no number begins with.
     Bad,
 }
 
@@ -29,7 +36,7 @@ const POINT: u8 = b'.';
 
 const NOUGHT: u8 = b'0';
 
-// No largest amount is as large: what would be larger counts as this.
+// Above every largest amount: what would be larger counts as this, so that no width overflows.
 const CEILING: u64 = 10_000_000_000_000_000_000;
 
 const TENTH: u64 = 1_000_000_000_000_000_000;
@@ -64,6 +71,7 @@ fn digit(c: u8) -> u64
     std::num::wrapping_sub_u8(c, NOUGHT) as u64
 }
 
+// The amount with one more digit behind it.
 fn grown(amount: u64, digit: u64) -> u64
     requires { ⌜ digit < 10 ⌝ }
     ensures { λ r. ⌜ r ≡ cap (amount * 10 + digit) ⌝ }
@@ -100,6 +108,7 @@ fn scaled(amount: u64, noughts: usize) -> u64
     }
 }
 
+// An amount that counts the place of the last of so many digits behind the point, in the kind's unit.
 fn ranged(amount: u64, digits: usize, places: usize, max: u64) -> Number
     requires { ⌜ max < 10 ^ 19 ⌝ }
     ensures { λ r. ⌜ r ≡ ranged places max amount digits ⌝ }
@@ -209,6 +218,7 @@ fn past_digits(text: &[u8], from: usize, amount: u64) -> Run
     Run { amount: n, end: i }
 }
 
+// What the text is when it ends.
 fn answer(state: State, places: usize, max: u64) -> Number
     requires { ⌜ max < 10 ^ 19 ⌝ }
     ensures { λ r. ⌜ r ≡ answer places max state ⌝ }
@@ -223,7 +233,7 @@ fn answer(state: State, places: usize, max: u64) -> Number
     }
 }
 
-// Any width, any number of places behind the point, any largest amount.
+// Any width, any number of places behind the point, any largest amount of up to nineteen digits.
 pub fn read(text: &[u8], places: usize, max: u64) -> Number
     requires { ⌜ max < 10 ^ 19 ⌝ }
     ensures { λ r. ⌜ r ≡ readText places max (now (text .entry)) ⌝ }

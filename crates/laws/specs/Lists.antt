@@ -4,10 +4,10 @@ use mathlib.Core.Path.{_≡_, refl, ap, sym, _∙_}
 use mathlib.Core.List.{List, [], _∷_, _++_, append-assoc}
 use mathlib.Core.Logic.{⊎-elim}
 use native.Mathlib.Omega.{arith}
-use native.Mathlib.Numerals.{sub-one}
+use native.Mathlib.Numerals.{add-one, sub-one}
 use native.Mathlib.Nat.{le-of-suc-le-suc, not-suc-le-zero, zero-add, suc-add}
-use lib.ListN.{length, getD, take, drop, set, replicate, drop-of-length-le, length-take, length-append}
-use lib.Seq.{take-all, take-suc, drop-cons, set-at, append-snoc, length-take-le, take-nil, drop-nil, take-take}
+use lib.ListN.{length, getD, take, drop, set, replicate, drop-of-length-le}
+use lib.Seq.{take-all, take-suc, drop-cons, set-at, length-take-le, take-nil, drop-nil, take-take}
 use Rattle.laws.specs.Order.{order}
 
 module _ {A : Type 0} where
@@ -35,6 +35,11 @@ module _ {A : Type 0} where
       → set (take i s ++ drop i d) i (getD s i a) ≡ take (suc i) s ++ drop (suc i) d
   copy-one s d i a h k =
       rw (drop-cons d i a k, set-at (take i s) (getD d i a) (drop (suc i) d) (getD s i a) i (length-take-le i s (omega arith)), take-suc s i a h, append-assoc (take i s))
+
+  -- the same at the code's `i + 1`
+  pub copy-next : (s d : List A) (i : ℕ) (a : A) → i < length s → i < length d
+      → set (take i s ++ drop i d) i (getD s i a) ≡ take (i + 1) s ++ drop (i + 1) d
+  copy-next s d i a h k = rw (add-one i) (copy-one s d i a h k)
 
   -- a list filled from its end: the element before those that are there already
   pub set-before : (l behind : List A) (i : ℕ) (a : A) → i < length l → set (take (suc i) l ++ behind) i a ≡ take i l ++ (a ∷ behind)

@@ -1,5 +1,7 @@
 -- `ranged` judges the capped amount, which is in range where the amount is.
+use mathlib.Core.Path.{_≡_}
 use borrow.Author.Tests.{le-leb, lt-leb}
+use Rattle.amount.specs.Read.{inRange, ranged}
 use Rattle.amount.specs.CapLaws.{inRange-cap}
 use borrow.Author.Needs.{needs}
 use Rattle.amount.proofs.read.ranged.Statement.{statement}
@@ -11,11 +13,15 @@ returns c = rw (lt-leb _ _ (c .if1 .taken))
 scaled-requires : tie.Need-scaled-requires
 scaled-requires c κs = search needs
 
+told : (c : tie.After-scaled) → inRange (c .before .before .args .max) (c .scaled .result)
+    ≡ ranged (c .before .before .args .places) (c .before .before .args .max) (c .before .before .args .amount) (c .before .before .args .digits)
+told c = rw (le-leb _ _ (c .before .if1 .left), c .scaled .ensures) (inRange-cap _ _ (c .before .before .pre))
+
 returns-2 : tie.Need-returns-2
-returns-2 c = rw (le-leb _ _ (c .before .before .if1 .left), ← inRange-cap _ _ (c .before .before .before .pre), ← c .before .scaled .ensures, le-leb _ _ (c .if2 .taken))
+returns-2 c = rw (le-leb _ _ (c .if2 .taken)) at (told (c .before))
 
 returns-3 : tie.Need-returns-3
-returns-3 c = rw (le-leb _ _ (c .before .before .if1 .left), ← inRange-cap _ _ (c .before .before .before .pre), ← c .before .scaled .ensures, lt-leb _ _ (c .if2 .left))
+returns-3 c = rw (lt-leb _ _ (c .if2 .left)) at (told (c .before))
 
 pub ranged-spec : {M : Type 1} → statement M
 ranged-spec = tie.close (tie.spec returns scaled-requires returns-2 returns-3)

@@ -1,13 +1,14 @@
 -- `read` answers what `readText` does: the text read from the place reached, with what was read before, is the text read from its start.
-use Prim.Native.Nat.{_-_, _<_, _≤_}
+use Prim.Native.Nat.{_-_, _≤_}
 use mathlib.Core.Path.{_∙_}
-use mathlib.Core.Logic.{_⊎_, inl, inr, ⊎-elim}
+use mathlib.Core.Logic.{inl, inr, ⊎-elim}
 use native.Mathlib.Omega.{arith}
 use lib.ListN.{length, getD}
 use denote.Ref.{now}
 use borrow.Author.Needs.{needs}
 use Rattle.laws.specs.Order.{order}
 use Rattle.amount.specs.Runs.{ReadTo}
+use Rattle.amount.specs.WalkLaws.{NoDigit}
 use Rattle.amount.specs.RunLaws.{read-none, read-spaces, read-point, read-digits, read-other, read-all}
 use Rattle.amount.proofs.read.read.Statement.{statement}
 use Rattle.amount.proofs.read.read.Tie as tie
@@ -38,8 +39,9 @@ loop-less c = omega arith
 
 loop-again : tie.Need-loop-again Inv-loop μ-loop
 loop-again c =
-    let h = c .before .before .before .before .before .loop .inv in
-    rw (c .before .on-space .ensures) (read-spaces _ _ _ _ _ h (c .before .before .before .before .loop-test .taken) _ (c .before .before .if1 .taken) (c .past-spaces .ensures))
+    let turn = c .before .before .before .before in
+    rw (c .before .on-space .ensures)
+    (read-spaces _ _ _ _ _ (turn .before .loop .inv) (turn .loop-test .taken) _ (c .before .before .if1 .taken) (c .past-spaces .ensures))
 
 on-point-requires : tie.Need-on-point-requires Inv-loop μ-loop
 on-point-requires c κs = search needs
@@ -52,16 +54,18 @@ loop-less-2 c = omega arith
 
 loop-again-2 : tie.Need-loop-again-2 Inv-loop μ-loop
 loop-again-2 c =
-    rw (c .on-point .ensures) (read-point _ _ _ _ _ (c .before .before .before .before .before .loop .inv) (c .before .before .before .before .loop-test .taken) (c .before .if2 .taken))
+    let turn = c .before .before .before .before in
+    rw (c .on-point .ensures) (read-point _ _ _ _ _ (turn .before .loop .inv) (turn .loop-test .taken) (c .before .if2 .taken))
 
 digit-requires : tie.Need-digit-requires Inv-loop μ-loop
 digit-requires c κs = search needs
 
 returns : tie.Need-returns Inv-loop μ-loop
 returns c =
-    let x = getD (now (c .before .before .before .before .before .before .before .before .args .text)) (c .before .before .before .before .before .before .loop .i) 0 in
-    let no-digit : (x < 48) ⊎ (57 < x) = ⊎-elim (λ (l : 48 ≤ x). inr (omega arith)) (λ (l : x < 48). inl l) (order 48 x) in
-    read-other _ _ _ _ _ (c .before .before .before .before .before .before .loop .inv) (c .before .before .before .before .before .loop-test .taken) (c .before .before .before .if1 .left) (c .before .before .if2 .left) no-digit
+    let turn = c .before .before .before .before .before in
+    let x = getD (now (turn .before .before .before .args .text)) (turn .before .loop .i) 0 in
+    let no-digit : NoDigit x = ⊎-elim (λ (l : 48 ≤ x). inr (omega arith)) inl (order 48 x) in
+    read-other _ _ _ _ _ (turn .before .loop .inv) (turn .loop-test .taken) (c .before .before .before .if1 .left) (c .before .before .if2 .left) no-digit
 
 add-past-digits : tie.Need-add-past-digits Inv-loop μ-loop
 add-past-digits c = omega arith
@@ -86,9 +90,12 @@ loop-less-3 c = omega (arith, c .before .before .before .before .before .before 
 
 loop-again-3 : tie.Need-loop-again-3 Inv-loop μ-loop
 loop-again-3 c =
-    let d = c .before .before .before .before .before .before .digit .result in
+    let past = c .before .before in
+    let told = past .before .before .before .before in
+    let turn = told .before .before .before .before in
     rw (c .on-digits .ensures)
-    (read-digits _ _ _ _ _ (c .before .before .before .before .before .before .before .before .before .before .before .loop .inv) (c .before .before .before .before .before .before .before .before .before .before .loop-test .taken) (c .before .before .before .before .before .before .before .before .before .before .before .before .before .pre) d _ _ (omega arith) (omega arith) (rw (c .before .before .before .before .so-far .ensures) at (c .before .before .before .grown .ensures)) (c .before .before .past-digits .ensures))
+    (read-digits _ _ _ _ _ (turn .before .loop .inv) (turn .loop-test .taken) (turn .before .before .before .pre) (told .digit .result) _ _
+    (omega arith) (omega arith) (rw (past .before .before .so-far .ensures) at (past .before .grown .ensures)) (past .past-digits .ensures))
 
 answer-requires : tie.Need-answer-requires Inv-loop μ-loop
 answer-requires c κs = search needs

@@ -1,0 +1,56 @@
+// Checksums, numbers read and numbers written.
+use crate::say::say;
+use amount::Number;
+use amount::Price;
+use amount::Put;
+use amount::Quantity;
+use amount::Turnover;
+use libc::STDOUT_FILENO;
+
+pub fn say_sum(text: &[u8]) {
+    let sent = wire::sent(wire::sum(text));
+    io::print_decimal(STDOUT_FILENO, sent[0] as u64);
+    say(b" ");
+    io::print_decimal(STDOUT_FILENO, sent[1] as u64);
+}
+
+pub fn say_number(number: Number) {
+    match number {
+        Number::None => say(b"none"),
+        Number::Amount(units) => {
+            say(b"amount ");
+            io::print_decimal(STDOUT_FILENO, units);
+        }
+        Number::Malformed => say(b"malformed"),
+        Number::OutOfRange => say(b"out of range"),
+    }
+}
+
+fn put(kind: u8, units: u64, field: &mut [u8]) -> Put {
+    match kind {
+        b'p' => Price::of(units).write(field),
+        b'q' => Quantity::of(units).write(field),
+        _ => Turnover::of(units).write(field),
+    }
+}
+
+fn say_field(kind: u8, units: u64, field: &mut [u8]) {
+    match put(kind, units, field) {
+        Put::Fits => {
+            say(b"[");
+            say(field);
+            say(b"]");
+        }
+        Put::OutOfRange => say(b"refused"),
+    }
+}
+
+// What is asked has eight bytes for the units and one for the width.
+pub fn say_text(kind: u8, asked: &[u8], room: &mut [u8]) {
+    let high = wire::u32_at(asked, 0) as u64;
+    let low = wire::u32_at(asked, 4) as u64;
+    let width = wire::u8_at(asked, 8) as usize;
+    if width <= room.len() {
+        say_field(kind, high * 4_294_967_296 + low, &mut room[..width]);
+    }
+}

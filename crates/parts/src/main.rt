@@ -1,0 +1,66 @@
+// Answers what the tests ask of the parts of the box, a line each. What is asked: a byte for the kind, two for the size, and so
+// many bytes. See tests/parts.rs.
+mod gaps;
+mod leaves;
+mod lists;
+mod say;
+
+use amount::Price;
+use amount::Quantity;
+use amount::Turnover;
+use libc::STDIN_FILENO;
+use say::say;
+
+fn answer(kind: u8, asked: &[u8], row: &mut [u32; 132]) {
+    match kind {
+        b'C' => leaves::say_sum(asked),
+        b'P' => leaves::say_number(Price::read(asked)),
+        b'Q' => leaves::say_number(Quantity::read(asked)),
+        b'T' => leaves::say_number(Turnover::read(asked)),
+        b'L' => lists::say_list(asked),
+        b'K' => lists::say_key(asked),
+        b'S' => gaps::say_start(row, wire::u32_at(asked, 0)),
+        b'N' => gaps::say_taken(row, wire::u32_at(asked, 0)),
+        b'O' => gaps::say_off(row),
+        b'G' => gaps::say_gaps(row),
+        b'B' => gaps::say_back(asked),
+        _ => leaves::say_text(kind, asked, &mut io::buffer()),
+    }
+    say(b"\n");
+}
+
+fn ask(kind: u8, asked: &mut [u8], row: &mut [u32; 132]) -> bool {
+    if io::read_full(STDIN_FILENO, asked) < asked.len() {
+        return false;
+    }
+    answer(kind, asked, row);
+    true
+}
+
+// One question; false where the input ends.
+fn one_more(room: &mut [u8], row: &mut [u32; 132]) -> bool {
+    let mut head = [0u8; 3];
+    if io::read_full(STDIN_FILENO, &mut head) < 3 {
+        return false;
+    }
+    let kind = head[0];
+    let size = wire::u16_at(&head, 1) as usize;
+    if room.len() < size {
+        return false;
+    }
+    ask(kind, &mut room[..size], row)
+}
+
+// A proved loop has to end, so it counts down from a number that no run uses up.
+fn all(room: &mut [u8], row: &mut [u32; 132]) {
+    let mut turns = u64::MAX;
+    while turns > 0 && one_more(room, row) {
+        turns -= 1;
+    }
+}
+
+fn main() {
+    let mut row = [0u32; 132];
+    all(&mut io::large_buffer(), &mut row);
+    say(b"end\n");
+}

@@ -1,0 +1,94 @@
+-- A segment's gaps and what is done with them: 01 "Sequence and gaps", "What may be asked" and the table of refusals.
+use Prim.Native.Nat.{ℕ, _+_, _-_, _*_, max}
+use mathlib.Core.Bool.{Bool, cond, _||_}
+use mathlib.Core.List.{List, [], _∷_}
+use lib.Dec.{leb, ltb}
+use lib.ListN.{length}
+use Rattle.sequence.specs.Runs.{Run, missing, span, join, without}
+
+-- the start number, the highest number taken, and the runs of missing numbers
+pub record Gaps : Type 0 where
+  pub start : ℕ
+  pub highest : ℕ
+  pub runs : List Run
+
+-- "at most 64 a segment"
+abbrev pub most : ℕ
+most = 64
+
+-- "highest begins one below it"
+abbrev pub begun : ℕ → Gaps
+begun n = record { start = n; highest = n - 1; runs = [] }
+
+-- "A number above highest, or missing, is taken. All others are old"
+abbrev pub takes : Gaps → ℕ → Bool
+takes g k = ltb (g .highest) k || missing (g .runs) k
+
+-- the runs when a number is taken: above highest it leaves the numbers between missing, else it is missing no more
+abbrev pub runsAfter : Gaps → ℕ → List Run
+runsAfter g k = cond (ltb (g .highest) k) (join (g .runs) (span (g .highest + 1) k)) (without (g .runs) k)
+
+abbrev pub after : Gaps → ℕ → Gaps
+after g k = record { start = g .start; highest = max (g .highest) k; runs = runsAfter g k }
+
+-- 14: more than 64 runs would stand
+abbrev pub full : Gaps → ℕ → Bool
+full g k = ltb most (length (runsAfter g k))
+
+-- the gaps when a number has come: one that is old, or refused, leaves them as they are
+unfoldable pub took : Gaps → ℕ → Gaps
+took g k = cond (takes g k) (cond (full g k) g (after g k)) g
+
+-- the same start and highest with other runs
+abbrev pub withRuns : Gaps → List Run → Gaps
+withRuns g rs = record { start = g .start; highest = g .highest; runs = rs }
+
+-- "A write-off removes the lowest run"
+abbrev pub withoutLowest : List Run → List Run
+withoutLowest [] = []
+withoutLowest (r ∷ rs) = rs
+
+abbrev pub wroteOff : Gaps → Gaps
+wroteOff g = withRuns g (withoutLowest (g .runs))
+
+-- An answer as numbers: 0 and the values of an accepted call, or a refusal's number and values.
+
+-- "how many messages were taken" and "old"
+abbrev pub oneTaken : List ℕ
+oneTaken = 0 ∷ 1 ∷ 0 ∷ []
+
+abbrev pub oneOld : List ℕ
+oneOld = 0 ∷ 0 ∷ 1 ∷ []
+
+abbrev pub refusedGaps : List ℕ
+refusedGaps = 14 ∷ []
+
+unfoldable pub takeAnswer : Gaps → ℕ → List ℕ
+takeAnswer g k = cond (takes g k) (cond (full g k) refusedGaps oneTaken) oneOld
+
+-- "a write-off answers the run it removed"
+abbrev pub writtenOff : ℕ → ℕ → List ℕ
+writtenOff first last = 0 ∷ first ∷ last ∷ []
+
+abbrev pub refusedNoGap : List ℕ
+refusedNoGap = 17 ∷ []
+
+abbrev pub lowest : List Run → List ℕ
+lowest [] = refusedNoGap
+lowest (r ∷ rs) = writtenOff (r .first) (r .last)
+
+unfoldable pub writeOffAnswer : Gaps → List ℕ
+writeOffAnswer g = lowest (g .runs)
+
+-- "List gaps answers highest and the number of runs"; it wants two cells a run
+abbrev pub listed : ℕ → ℕ → List ℕ
+listed highest count = 0 ∷ highest ∷ count ∷ []
+
+abbrev pub refusedMemory : ℕ → List ℕ
+refusedMemory wanted = 15 ∷ wanted ∷ []
+
+abbrev pub wanted : List Run → ℕ
+wanted rs = 2 * length rs
+
+unfoldable pub listAnswer : Gaps → ℕ → List ℕ
+listAnswer g lent = cond (leb (wanted (g .runs)) lent) (listed (g .highest) (length (g .runs))) (refusedMemory (wanted (g .runs)))

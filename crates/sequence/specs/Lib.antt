@@ -1,0 +1,16 @@
+pub mod Runs
+pub mod Apart
+pub mod RunsLaws
+pub mod RunsCountLaws
+pub mod Gaps
+pub mod Sound
+pub mod SoundLaws
+pub mod GapsLaws
+pub mod Row
+pub mod RowLaws
+pub mod Answers
+pub mod AnswersLaws
+pub mod Steps
+pub mod Promises
+pub mod PromisesLaws
+pub mod Cases

@@ -1,0 +1,53 @@
+-- A segment's gap row: 132 numbers, which are start, highest, number of runs, 0, then 64 runs of first and last.
+use Prim.Native.Nat.{ℕ, _+_, _*_}
+use mathlib.Core.Bool.{Bool, cond, _&&_}
+use mathlib.Core.List.{List, [], _∷_, _++_}
+use lib.Dec.{leb, eqb}
+use lib.ListN.{length, getD, take, drop}
+use Rattle.sequence.specs.Runs.{Run, _to_}
+use Rattle.sequence.specs.Gaps.{Gaps, most, wanted}
+use Rattle.sequence.specs.Sound.{soundGaps}
+
+abbrev pub cells : ℕ
+cells = 132
+
+-- the numbers before the runs
+abbrev pub head : ℕ
+head = 4
+
+-- the place of a run's first number
+abbrev pub cell : ℕ → ℕ
+cell i = head + 2 * i
+
+-- numbers two by two, as runs, and runs as numbers
+abbrev pub pairs : List ℕ → List Run
+pairs [] = []
+pairs (a ∷ []) = []
+pairs (a ∷ b ∷ ns) = a to b ∷ pairs ns
+
+abbrev pub flat : List Run → List ℕ
+flat [] = []
+flat (r ∷ rs) = r .first ∷ r .last ∷ flat rs
+
+-- what a row says: of its 64 runs so many stand as the third number tells
+abbrev pub count : List ℕ → ℕ
+count row = getD row 2 0
+
+unfoldable pub gapsOf : List ℕ → Gaps
+gapsOf row = record { start = getD row 0 0; highest = getD row 1 0; runs = take (count row) (pairs (drop head row)) }
+
+abbrev pub runsOf : List ℕ → List Run
+runsOf row = gapsOf row .runs
+
+-- gaps put into a row: every number beyond the last run, and the fourth, stays as it was
+unfoldable pub laid : List ℕ → Gaps → List ℕ
+laid row g =
+    g .start ∷ g .highest ∷ length (g .runs) ∷ getD row 3 0 ∷ (flat (g .runs) ++ drop (cell (length (g .runs))) row)
+
+-- "puts the runs in lent cells": they are written from the first cell on where there is room, and no others
+unfoldable pub filled : List ℕ → Gaps → List ℕ
+filled lent g = cond (leb (wanted (g .runs)) (length lent)) (flat (g .runs) ++ drop (wanted (g .runs)) lent) lent
+
+-- 18: a row of 132 numbers with at most 64 runs whose gaps are sound
+unfoldable pub soundRow : List ℕ → Bool
+soundRow row = eqb (length row) cells && leb (count row) most && soundGaps (gapsOf row)

@@ -1,5 +1,5 @@
 // The parts of the box as compiled, held against an implementation written from the papers: checksums, numbers in text, the
-// contract list, gap rows.
+// contract list, gap rows, the rows of an update.
 //   parts PROGRAM... [--seed N] [--times N]
 // PROGRAM is run once; it answers a line for each thing that it is asked (crate `parts`).
 mod random;
@@ -29,7 +29,7 @@ fn check_sum(text: &[u8]) -> [u8; 2] {
     [lowered(accum & 0xFF) as u8, lowered(accum >> 8 & 0xFF) as u8]
 }
 
-#[derive(Clone, Copy)]
+#[derive(Clone, Copy, PartialEq)]
 struct Kind {
     name: u8,
     places: usize,
@@ -443,6 +443,126 @@ fn rows_back(asked: &mut Asked, r: &mut Random, count: usize) {
     }
 }
 
+// ---- the rows of an update
+
+#[derive(Clone, Copy, PartialEq)]
+enum Row {
+    Text,
+    MarketType,
+    Status,
+    Number(Kind),
+}
+
+// The rows of 000 sections 4.4 and 4.5 (and 003 sections 4.5 and 4.6), with their widths.
+fn layout(level: u8) -> Vec<(Row, usize)> {
+    let [price, quantity, turnover] = KINDS;
+    let (price, quantity, turnover) = ((Row::Number(price), 17), (Row::Number(quantity), 12), (Row::Number(turnover), 25));
+    let mut rows = vec![(Row::Text, 6), (Row::Text, 10), (Row::Text, 11), (Row::Text, 10), (Row::Text, 2), (Row::MarketType, 1)];
+    let depth = if level == 1 { 1 } else { 5 };
+    for _ in 0..2 * depth {
+        rows.extend([price, quantity]);
+    }
+    rows.extend([price, quantity, (Row::Status, 1), price, price, price, price, price]);
+    if level == 2 {
+        rows.extend([quantity, quantity]);
+    }
+    rows.push(turnover);
+    rows
+}
+
+const NONE: u64 = u64::MAX;
+
+fn read_rows(level: u8, data: &[u8]) -> String {
+    let mut at = 0;
+    let mut line = String::from("good");
+    for (i, (row, width)) in layout(level).into_iter().enumerate() {
+        let field = &data[at..at + width];
+        at += width;
+        match row {
+            Row::Text => line.push_str(" 0"),
+            Row::MarketType if field[0] == b'N' => line.push_str(" 78"),
+            Row::Status if field[0] == b'S' || field[0] == b' ' => line.push_str(&format!(" {}", field[0])),
+            Row::MarketType | Row::Status => return format!("field {i}"),
+            Row::Number(kind) => match read(kind, field).as_str() {
+                "none" => line.push_str(&format!(" {NONE}")),
+                "malformed" => return format!("field {i}"),
+                "out of range" => return format!("range {i}"),
+                amount => line.push_str(&amount["amount".len()..]),
+            },
+        }
+    }
+    line
+}
+
+fn write_rows(level: u8, key: &[u8], cells: &[u64]) -> String {
+    let mut at = 0;
+    let mut text = String::new();
+    for (i, (row, width)) in layout(level).into_iter().enumerate() {
+        match row {
+            Row::Text => {
+                let part = &key[at..at + width];
+                if !part.iter().all(|b| (32..=126).contains(b)) {
+                    return format!("field {i}");
+                }
+                text.extend(part.iter().map(|&b| b as char));
+            }
+            Row::MarketType if cells[i] == 78 => text.push('N'),
+            Row::Status if cells[i] == 83 || cells[i] == 32 => text.push(cells[i] as u8 as char),
+            Row::MarketType | Row::Status => return format!("field {i}"),
+            Row::Number(_) if cells[i] == NONE => text.push_str(&" ".repeat(width)),
+            Row::Number(kind) => match write(kind, cells[i], width).as_str() {
+                "refused" => return format!("range {i}"),
+                fits => text.push_str(&fits[1..fits.len() - 1]),
+            },
+        }
+        at += width;
+    }
+    format!("[{text}]")
+}
+
+fn rows(asked: &mut Asked, r: &mut Random, count: usize) {
+    for _ in 0..count {
+        let level = 1 + r.below(2) as u8;
+        let mut key: Vec<u8> = (0..KEY).map(|_| 32 + r.below(95) as u8).collect();
+        let mut cells: Vec<u64> = layout(level)
+            .iter()
+            .map(|&(row, width)| match row {
+                Row::Text => 0,
+                Row::MarketType => 78,
+                Row::Status => r.pick(&[83, 32]),
+                Row::Number(_) if r.one_in(5) => NONE,
+                Row::Number(kind) => r.below((kind.max as u64 + 1).min(10u64.pow(width as u32 - 1))),
+            })
+            .collect();
+        if r.one_in(3) {
+            let i = r.below(cells.len() as u64) as usize;
+            cells[i] = r.pick(&[0, 32, 78, 83, 255, 256, 999_999_999_999, 1_000_000_000_000, 999_999_999_999_999_999, 1_000_000_000_000_000_000, NONE - 1]);
+        }
+        if r.one_in(8) {
+            let i = r.below(KEY as u64) as usize;
+            key[i] = r.pick(&[0, 31, 127, 255]);
+        }
+        let line = write_rows(level, &key, &cells);
+        cells.resize(37, 0);
+        let mut text = vec![level];
+        text.extend(&key);
+        text.extend(cells.iter().flat_map(|c| c.to_be_bytes()));
+        asked.ask(b'W', &text, line.clone(), "rows written");
+        let mut data: Vec<u8> = match line.strip_prefix('[') {
+            Some(line) => line.bytes().take(line.len() - 1).collect(),
+            None => layout(level).iter().flat_map(|&(_, width)| (0..width).map(|_| b' ').collect::<Vec<u8>>()).collect(),
+        };
+        for _ in 0..r.below(3) {
+            let i = r.below(data.len() as u64) as usize;
+            data[i] = r.pick(b" .0959NS-\x00\xff");
+        }
+        let line = read_rows(level, &data);
+        let mut text = vec![level];
+        text.extend(&data);
+        asked.ask(b'U', &text, line, "rows read");
+    }
+}
+
 fn all_asked(seed: u64, times: usize) -> Asked {
     let mut r = Random::new(seed);
     let mut asked = Asked { asks: vec![], lines: vec![], checks: vec![] };
@@ -450,6 +570,7 @@ fn all_asked(seed: u64, times: usize) -> Asked {
     lists(&mut asked, &mut r, 1_000 * times);
     sequences(&mut asked, &mut r, 100 * times);
     rows_back(&mut asked, &mut r, 2_000 * times);
+    rows(&mut asked, &mut r, 2_000 * times);
     asked
 }
 

@@ -4,7 +4,7 @@ use mathlib.Core.Option.{Option, none, some}
 use Rattle.contracts.specs.declared.lookup.Found.{Found}
 use Rattle.contracts.specs.declared.lookup.Found.the-variants.{At, Nowhere}
 
--- the place that is answered
+-- the value of an answer: the place
 abbrev pub placeOf : Found → Option ℕ
 placeOf (At place) = some place
 placeOf Nowhere = none
@@ -14,8 +14,10 @@ abbrev pub numberOf : ℕ → Found → ℕ
 numberOf refusal (At place) = 0
 numberOf refusal Nowhere = refusal
 
+-- 6 CODE: letter not listed
 abbrev pub codeRefused : ℕ
 codeRefused = 6
 
+-- 13 CONTRACT: key not listed
 abbrev pub contractRefused : ℕ
 contractRefused = 13

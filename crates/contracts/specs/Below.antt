@@ -13,6 +13,7 @@ abbrev pub sumBelow : ℕ → (ℕ → ℕ) → ℕ
 sumBelow zero f = 0
 sumBelow (suc n) f = sumBelow n f + f n
 
+-- the first of two that is there
 abbrev pub orElse : Option ℕ → Option ℕ → Option ℕ
 orElse none other = other
 orElse (some i) other = some i

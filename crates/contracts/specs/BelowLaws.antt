@@ -2,7 +2,7 @@
 use Prim.Native.Nat.{ℕ, zero, suc, _+_, _*_, _≤_, _<_}
 use mathlib.Core.Path.{_≡_, refl, ap, ap₂, sym, _∙_}
 use mathlib.Core.Logic.{_⊎_, inl, inr, ⊎-elim}
-use mathlib.Core.Bool.{Bool, true, false, cond, _&&_}
+use mathlib.Core.Bool.{Bool, true, false, _&&_}
 use mathlib.Core.Option.{Option, none, some}
 use native.Mathlib.Nat.{suc-mul}
 use native.Mathlib.Numerals.{add-one}
@@ -10,7 +10,7 @@ use native.Mathlib.Omega.{arith}
 use Rattle.laws.specs.Choice.{either, never}
 use Rattle.laws.specs.Tests.{both, conj}
 use Rattle.laws.specs.Order.{order}
-use Rattle.contracts.specs.Below.{allBelow, sumBelow, firstBelow, orElse}
+use Rattle.contracts.specs.Below.{allBelow, sumBelow, firstBelow}
 
 module _ (p : ℕ → Bool) where
   -- all pass exactly when each does

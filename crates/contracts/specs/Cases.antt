@@ -1,15 +1,15 @@
 -- 01 "The contract list", worked: one T contract makes 49 bytes with offset 10; and lists that are not sound.
 use Prim.Native.Nat.{ℕ}
 use mathlib.Core.Path.{_≡_, refl}
-use mathlib.Core.Bool.{Bool, true, false}
+use mathlib.Core.Bool.{true, false}
 use mathlib.Core.List.{List, [], _∷_, _++_, map}
-use mathlib.Core.Option.{Option, none, some}
+use mathlib.Core.Option.{none, some}
 use lib.ListN.{length, replicate}
 use Rattle.contracts.specs.File.{segmentsOf, letterAt, zeroAt, countAt, offsetAt, keySize, keyFrom, contractsBefore}
 use Rattle.contracts.specs.Halving.{halvedIn, digits}
 use Rattle.contracts.specs.Lookup.{segmentOf, lookup, placeIn}
 use Rattle.contracts.specs.Records.{recordAt}
-use Rattle.contracts.specs.Sound.{entrySound, eachSound, headerSound, bytesSound, keySound, bodySound, sound}
+use Rattle.contracts.specs.Sound.{entrySound, headerSound, bytesSound, keySound, bodySound, sound}
 
 -- a key of one byte throughout
 abbrev pub keyOfBytes : ℕ → List ℕ
@@ -40,11 +40,11 @@ lists =
 
 -- the last three pass the short check, which doesn't look at the bodies
 pub checked : map sound lists ≡ true ∷ false ∷ false ∷ true ∷ false ∷ false ∷ false ∷ false ∷ false ∷ false ∷ false ∷ false ∷ []
-unfolding segmentsOf letterAt zeroAt countAt offsetAt keyFrom contractsBefore entrySound eachSound headerSound bytesSound keySound bodySound sound
+unfolding segmentsOf letterAt zeroAt countAt offsetAt keyFrom contractsBefore entrySound headerSound bytesSound keySound bodySound sound
 checked = refl
 
 pub header-checked : map headerSound lists ≡ true ∷ false ∷ false ∷ true ∷ false ∷ false ∷ false ∷ false ∷ false ∷ true ∷ true ∷ true ∷ []
-unfolding segmentsOf letterAt zeroAt countAt offsetAt contractsBefore entrySound eachSound headerSound
+unfolding segmentsOf letterAt zeroAt countAt offsetAt contractsBefore entrySound headerSound
 header-checked = refl
 
 pub size-of-one : (length oneT ≡ 49) × (offsetAt oneT 0 ≡ 10)

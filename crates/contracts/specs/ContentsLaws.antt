@@ -1,15 +1,15 @@
 -- 16 after start: two lists of one size that begin with the same contents pass the short check both or neither, whatever
 -- their bodies hold.
 use Prim.Native.Nat.{ℕ, zero, suc, _+_, _*_, _^_, _≤_, _<_, min}
-use mathlib.Core.Path.{_≡_, refl, ap, ap₂, sym, _∙_}
+use mathlib.Core.Path.{_≡_, refl, ap, ap₂, _∙_}
 use mathlib.Core.List.{List}
 use native.Mathlib.Omega.{arith}
 use lib.ListN.{length, getD}
 use Rattle.wire.specs.Number.{numberAt}
-use Rattle.contracts.specs.Below.{allBelow, sumBelow}
+use Rattle.contracts.specs.Below.{sumBelow}
 use Rattle.contracts.specs.BelowLaws.{all-same, sum-same}
 use Rattle.contracts.specs.File.{segmentsOf, entryAt, letterAt, zeroAt, countAt, offsetAt, contractsBefore}
-use Rattle.contracts.specs.Sound.{letterAscends, entrySound, eachSound, headerSound}
+use Rattle.contracts.specs.Sound.{letterAscends, entrySound, headerSound}
 
 pub record SameContents (list other : List ℕ) : Type 0 where
   pub size : length list ≡ length other
@@ -56,7 +56,7 @@ module _ (list other : List ℕ) (same : SameContents list other) where
   entry-same i h = rw (letter-same i h, ascends-same i h, zero-same i h, count-same i h, offset-same i h, segments-same, before-same i)
 
   pub bodies-unread : headerSound list ≡ headerSound other
-  unfolding headerSound eachSound
+  unfolding headerSound
   bodies-unread =
       let n : ℕ = segmentsOf list in
       let entries = all-same (entrySound list) (entrySound other) n entry-same in

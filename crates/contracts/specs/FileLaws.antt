@@ -1,15 +1,15 @@
 -- Laws of the file: how large its numbers are, and how contracts add up over its segments.
-use Prim.Native.Nat.{ℕ, zero, suc, _+_, _-_, _*_, _^_, _≤_, _<_, min}
-use mathlib.Core.Path.{_≡_, refl, ap, sym, _∙_}
+use Prim.Native.Nat.{ℕ, _+_, _-_, _*_, _^_, _≤_, _<_, min}
+use mathlib.Core.Path.{_≡_, ap, sym, _∙_}
 use mathlib.Core.List.{List}
 use native.Mathlib.Nat.{min-eq-left, zero-min}
 use native.Mathlib.Omega.{arith}
-use lib.ListN.{length, getD, take, drop, length-drop}
+use lib.ListN.{length, getD, drop, length-drop}
 use lib.Seq.{length-take-le}
 use Rattle.wire.specs.NumberLaws.{number-under}
 use Rattle.contracts.specs.Below.{sumBelow}
 use Rattle.contracts.specs.BelowLaws.{sum-on, sum-reaches, sum-under}
-use Rattle.contracts.specs.File.{segmentsOf, letterAt, countAt, offsetAt, keyFrom, keySize, contractsBefore, contractsOf}
+use Rattle.contracts.specs.File.{segmentsOf, countAt, offsetAt, keyFrom, keySize, contractsBefore, contractsOf}
 
 module _ (list : List ℕ) where
   module _ (byte : (i : ℕ) → getD list i 0 < 256) where

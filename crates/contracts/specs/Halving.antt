@@ -9,6 +9,7 @@ pub record Halved : Type 0 where
   pub place : Option ℕ
   pub compared : ℕ
 
+-- one key more was compared
 abbrev pub oneMore : Halved → Halved
 oneMore h = record { place = h .place; compared = h .compared + 1 }
 

@@ -1,13 +1,13 @@
 -- The laws of halving: its rule with no count of turns, how many keys it compares, and that it finds what is there.
-use Prim.Native.Nat.{ℕ, zero, suc, _+_, _-_, _*_, _/_, _^_, _≤_, _<_}
+use Prim.Native.Nat.{ℕ, zero, suc, _+_, _-_, _/_, _^_, _≤_, _<_}
 use mathlib.Core.Path.{_≡_, refl, ap, sym, _∙_}
 use mathlib.Core.Logic.{_⊎_, inl, inr, ⊎-elim}
-use mathlib.Core.Option.{Option, none, some}
+use mathlib.Core.Option.{none, some}
 use native.Mathlib.Nat.{two-pow-succ}
 use native.Mathlib.Numerals.{add-one}
 use native.Mathlib.Omega.{arith}
+use Rattle.laws.specs.Order.{three}
 use Rattle.laws.specs.Choice.{never}
-use Rattle.laws.specs.Order.{order, three}
 use Rattle.contracts.specs.declared.key.Order.{Order}
 use Rattle.contracts.specs.declared.key.Order.the-variants.{Below, Same, Above}
 use Rattle.contracts.specs.Halving.{Halved, oneMore, halvedIn, halvedFrom, halved, digitsIn, digits}

@@ -8,14 +8,14 @@ use native.Mathlib.Numerals.{add-one}
 use native.Mathlib.Omega.{arith}
 use borrow.Author.Tests.{ltb-true, leb-true, eqb-true, lt-ltb, le-leb, eq-eqb}
 use lib.Dec.{leb, ltb, eqb}
-use lib.ListN.{length, getD}
+use lib.ListN.{length}
 use Rattle.laws.specs.Order.{three, climbs}
 use Rattle.laws.specs.Tests.{both, conj, any}
-use Rattle.contracts.specs.declared.check.Part.the-variants.{Entry}
-use Rattle.contracts.specs.BelowLaws.{each-passes, all-pass, all-same, sum-under}
-use Rattle.contracts.specs.File.{segmentsOf, entryAt, letterAt, zeroAt, countAt, offsetAt, keySize, keyAt, keyOf, contractsOf}
+use Rattle.contracts.specs.Below.{allBelow}
+use Rattle.contracts.specs.BelowLaws.{each-passes, all-pass, sum-under}
+use Rattle.contracts.specs.File.{segmentsOf, letterAt, zeroAt, countAt, offsetAt, keySize, keyAt, keyOf, contractsOf}
 use Rattle.contracts.specs.FileLaws.{none-before, before-sum, before-next, before-reaches, whole-key}
-use Rattle.contracts.specs.Sound.{Header, mostSegments, mostContracts, letterD, letterT, within, isLetter, letterAscends, bodyAt, entrySound, headerSound, eachSound}
+use Rattle.contracts.specs.Sound.{Header, mostSegments, mostContracts, letterD, letterT, within, isLetter, letterAscends, bodyAt, entrySound, headerSound}
 
 pub within-facts : (low high n : ℕ) → within low high n ≡ true → (low ≤ n) × (n ≤ high)
 within-facts low high n e =
@@ -70,11 +70,11 @@ module _ (list : List ℕ) where
   body-next i h = omega (arith, before-next list i h)
 
   header-rules : headerSound list ≡ true → Header list
-  unfolding headerSound eachSound
+  unfolding headerSound
   header-rules e =
       let n : ℕ = segmentsOf list in
-      let h₁ = both (within 1 mostSegments n) (eachSound list Entry && eqb (length list) (bodyAt list n)) e in
-      let h₂ = both (eachSound list Entry) (eqb (length list) (bodyAt list n)) (h₁ .1) in
+      let h₁ = both (within 1 mostSegments n) (allBelow n (entrySound list) && eqb (length list) (bodyAt list n)) e in
+      let h₂ = both (allBelow n (entrySound list)) (eqb (length list) (bodyAt list n)) (h₁ .1) in
       let few = within-facts 1 mostSegments n (h₁ .0) in
       let entry : (i : ℕ) → i < n → EntryFacts list i = λ i h. entry-facts i (each-passes (entrySound list) n (h₂ .0) i h) in
       let size = eqb-true (length list) (bodyAt list n) (h₂ .1) in
@@ -114,7 +114,7 @@ module _ (list : List ℕ) where
       (lt-ltb (letterAt list i) (letterAt list (i + 1)) (h .letters-ascend i (omega arith)))
 
   header-holds : Header list → headerSound list ≡ true
-  unfolding headerSound eachSound
+  unfolding headerSound
   header-holds h =
       let n : ℕ = segmentsOf list in
       let entry : (i : ℕ) → i < n → entrySound list i ≡ true = λ i l. entry-holds i (record {

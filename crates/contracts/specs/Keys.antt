@@ -1,4 +1,4 @@
--- 01 "The contract list": keys ascend. The order of keys is that of their first bytes that differ.
+-- 01 "The contract list": keys ascend.
 use Prim.Native.Nat.{ℕ}
 use mathlib.Core.Bool.{cond}
 use mathlib.Core.List.{List, [], _∷_}
@@ -6,6 +6,7 @@ use lib.Dec.{ltb}
 use Rattle.contracts.specs.declared.key.Order.{Order}
 use Rattle.contracts.specs.declared.key.Order.the-variants.{Below, Same, Above}
 
+-- by the first byte in which they differ; what a longer one begins with stands below it
 abbrev pub orderOf : List ℕ → List ℕ → Order
 orderOf [] [] = Same
 orderOf [] (y ∷ ys) = Below

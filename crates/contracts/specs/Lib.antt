@@ -3,12 +3,12 @@ pub mod Below
 pub mod BelowLaws
 pub mod Cases
 pub mod ContentsLaws
-pub mod Entry
 pub mod File
 pub mod FileLaws
 pub mod Halving
 pub mod HalvingLaws
 pub mod HeaderLaws
+pub mod Inner
 pub mod Keys
 pub mod KeysLaws
 pub mod Lookup

@@ -1,7 +1,7 @@
 -- Laws of the lookups: what is found is what is listed, and 6 and 13 are given exactly when it isn't.
 use Prim.Native.Nat.{ℕ, _≤_, _<_}
 use mathlib.Core.Path.{_≡_, refl, sym, ap, _∙_}
-use mathlib.Core.Logic.{_⊎_, _↔_, inl, inr, ⊎-elim}
+use mathlib.Core.Logic.{_↔_, ⊎-elim}
 use mathlib.Core.List.{List}
 use mathlib.Core.Option.{Option, none, some}
 use native.Mathlib.Omega.{arith}
@@ -9,11 +9,9 @@ use borrow.Author.Tests.{eqb-true, eqb-false}
 use lib.Dec.{eqb}
 use Rattle.laws.specs.Order.{three}
 use Rattle.laws.specs.Choice.{never}
-use Rattle.contracts.specs.declared.key.Order.the-variants.{Below, Same, Above}
 use Rattle.contracts.specs.declared.lookup.Found.{Found}
 use Rattle.contracts.specs.declared.lookup.Found.the-variants.{At, Nowhere}
 use Rattle.contracts.specs.Answers.{placeOf, numberOf, codeRefused, contractRefused}
-use Rattle.contracts.specs.Below.{firstBelow}
 use Rattle.contracts.specs.BelowLaws.{first-passes, none-passes}
 use Rattle.contracts.specs.File.{segmentsOf, letterAt, countAt, keyOf}
 use Rattle.contracts.specs.Halving.{digits}

@@ -1,4 +1,4 @@
--- Where a contract's record stands: records are kept in list order over all segments.
+-- 01, its first paragraph: a record for each listed contract. They are kept in list order over all segments.
 use Prim.Native.Nat.{ℕ, _+_, _<_}
 use mathlib.Core.List.{List}
 use Rattle.contracts.specs.File.{segmentsOf, countAt, contractsBefore}

@@ -6,18 +6,17 @@ use mathlib.Core.Bool.{Bool, true, false, _&&_, _||_}
 use mathlib.Core.List.{List}
 use lib.Dec.{leb, ltb, eqb}
 use lib.ListN.{length, getD}
-use Rattle.contracts.specs.declared.check.Part.{Part}
-use Rattle.contracts.specs.declared.check.Part.the-variants.{Entry, Body}
 use Rattle.contracts.specs.declared.key.Order.{Order}
 use Rattle.contracts.specs.declared.key.Order.the-variants.{Below, Same, Above}
 use Rattle.contracts.specs.Below.{allBelow}
 use Rattle.contracts.specs.File.{segmentsOf, entryAt, letterAt, zeroAt, countAt, offsetAt, keySize, keyOf, contractsBefore}
 use Rattle.contracts.specs.Keys.{orderOf}
 
--- 1 or 2 segments, and 1 to 4,096 contracts each
+-- 1 or 2 segments
 abbrev pub mostSegments : ℕ
 mostSegments = 2
 
+-- a count of 1 to 4,096
 abbrev pub mostContracts : ℕ
 mostContracts = 4096
 
@@ -60,6 +59,7 @@ pub record Sound (list : List ℕ) : Type 0 where
 abbrev pub within : ℕ → ℕ → ℕ → Bool
 within low high n = leb low n && leb n high
 
+-- letters are D or T
 abbrev pub isLetter : ℕ → Bool
 isLetter letter = eqb letter letterD || eqb letter letterT
 
@@ -72,13 +72,16 @@ letterAscends list (suc i) = ltb (letterAt list i) (letterAt list (suc i))
 abbrev pub bodyAt : List ℕ → ℕ → ℕ
 bodyAt list i = entryAt (segmentsOf list) + keySize * contractsBefore list i
 
+-- letter, zero byte, count and offset of segment i
 unfoldable pub entrySound : List ℕ → ℕ → Bool
 entrySound list i =
     isLetter (letterAt list i) && letterAscends list i && eqb (zeroAt list i) 0 && within 1 mostContracts (countAt list i) && eqb (offsetAt list i) (bodyAt list i)
 
+-- each byte of a key is 32 to 126
 unfoldable pub bytesSound : List ℕ → Bool
 bytesSound key = allBelow (length key) (λ b. within lowestByte highestByte (getD key b 0))
 
+-- strictly below: the same is not
 abbrev pub isBelow : Order → Bool
 isBelow Below = true
 isBelow Same = false
@@ -89,25 +92,19 @@ abbrev pub keyAscends : List ℕ → ℕ → ℕ → Bool
 keyAscends list i zero = true
 keyAscends list i (suc k) = isBelow (orderOf (keyOf list i k) (keyOf list i (suc k)))
 
+-- key k of segment i
 unfoldable pub keySound : List ℕ → ℕ → ℕ → Bool
 keySound list i k = bytesSound (keyOf list i k) && keyAscends list i k
 
+-- every key of segment i
 unfoldable pub bodySound : List ℕ → ℕ → Bool
 bodySound list i = allBelow (countAt list i) (keySound list i)
-
--- what is looked at of segment i
-abbrev pub partSound : List ℕ → Part → ℕ → Bool
-partSound list Entry i = entrySound list i
-partSound list Body i = bodySound list i
-
-unfoldable pub eachSound : List ℕ → Part → Bool
-eachSound list part = allBelow (segmentsOf list) (partSound list part)
 
 -- true exactly when `Header` holds
 unfoldable pub headerSound : List ℕ → Bool
 headerSound list =
-    within 1 mostSegments (segmentsOf list) && (eachSound list Entry && eqb (length list) (bodyAt list (segmentsOf list)))
+    within 1 mostSegments (segmentsOf list) && (allBelow (segmentsOf list) (entrySound list) && eqb (length list) (bodyAt list (segmentsOf list)))
 
 -- true exactly when `Sound` holds
 unfoldable pub sound : List ℕ → Bool
-sound list = headerSound list && eachSound list Body
+sound list = headerSound list && allBelow (segmentsOf list) (bodySound list)

@@ -9,15 +9,15 @@ use native.Mathlib.Omega.{arith}
 use lib.ListN.{length, getD}
 use Rattle.laws.specs.Order.{climbs}
 use Rattle.laws.specs.Tests.{both, conj}
-use Rattle.contracts.specs.declared.check.Part.the-variants.{Body}
 use Rattle.contracts.specs.declared.key.Order.{Order}
 use Rattle.contracts.specs.declared.key.Order.the-variants.{Below, Same, Above}
+use Rattle.contracts.specs.Below.{allBelow}
 use Rattle.contracts.specs.BelowLaws.{each-passes, all-pass}
 use Rattle.contracts.specs.File.{segmentsOf, countAt, keyOf}
 use Rattle.contracts.specs.HeaderLaws.{within-facts, within-holds, header-exact, key-length}
 use Rattle.contracts.specs.Keys.{orderOf}
 use Rattle.contracts.specs.KeysLaws.{below-trans}
-use Rattle.contracts.specs.Sound.{Sound, lowestByte, highestByte, within, headerSound, bytesSound, isBelow, keyAscends, keySound, bodySound, eachSound, sound}
+use Rattle.contracts.specs.Sound.{Sound, lowestByte, highestByte, within, headerSound, bytesSound, isBelow, keyAscends, keySound, bodySound, sound}
 
 below-true : (o : Order) → isBelow o ≡ true → o ≡ Below
 below-true Below e = refl
@@ -29,10 +29,10 @@ module _ (list : List ℕ) where
   key-next i k = rw (add-one k)
 
   sound-rules : sound list ≡ true → Sound list
-  unfolding sound eachSound bodySound keySound bytesSound
+  unfolding sound bodySound keySound bytesSound
   sound-rules e =
       let n : ℕ = segmentsOf list in
-      let parts = both (headerSound list) (eachSound list Body) e in
+      let parts = both (headerSound list) (allBelow (segmentsOf list) (bodySound list)) e in
       let h = header-exact list .0 (parts .0) in
       let key : (i k : ℕ) → i < n → k < countAt list i → keySound list i k ≡ true =
       λ i k l m. each-passes (keySound list i) (countAt list i) (each-passes (bodySound list) n (parts .1) i l) k m in
@@ -53,7 +53,7 @@ module _ (list : List ℕ) where
   keys-ascending s i (suc k) l m = rw (← add-one k) (ap isBelow (s .keys-ascend i k l (omega arith)))
 
   sound-holds : Sound list → sound list ≡ true
-  unfolding sound eachSound bodySound keySound bytesSound
+  unfolding sound bodySound keySound bytesSound
   sound-holds s =
       let n : ℕ = segmentsOf list in
       let bytes : (i k : ℕ) → i < n → k < countAt list i → bytesSound (keyOf list i k) ≡ true = λ i k l m.
@@ -74,7 +74,7 @@ module _ (list : List ℕ) where
   -- a list that passes the full check passes the short one
   pub sound-header : sound list ≡ true → headerSound list ≡ true
   unfolding sound
-  sound-header e = both (headerSound list) (eachSound list Body) e .0
+  sound-header e = both (headerSound list) (allBelow (segmentsOf list) (bodySound list)) e .0
 
   -- within a segment every key stands below all behind it
   pub keys-climb : Sound list → (i j k : ℕ) → i < segmentsOf list → j < k → k < countAt list i

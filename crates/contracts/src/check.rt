@@ -1,7 +1,8 @@
 ghost use mathlib.Core.Path.{_≡_};
 ghost use Prim.Native.Nat.{_<_};
 ghost use Rattle.contracts.specs.File.{countAt, keyOf};
-ghost use Rattle.contracts.specs.Sound.{lowestByte, highestByte, within, isLetter, letterAscends, bodyAt, entrySound, headerSound, bytesSound, isBelow, keyAscends, keySound, bodySound, partSound, eachSound, sound};
+ghost use Rattle.contracts.specs.Inner.{partSound, eachSound};
+ghost use Rattle.contracts.specs.Sound.{lowestByte, highestByte, within, isLetter, letterAscends, bodyAt, entrySound, headerSound, bytesSound, isBelow, keyAscends, keySound, bodySound, sound};
 use crate::header;
 use crate::key;
 use crate::key::Order;

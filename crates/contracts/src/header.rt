@@ -1,7 +1,7 @@
 ghost use mathlib.Core.Path.{_≡_};
 ghost use Prim.Native.Nat.{min};
 ghost use Rattle.contracts.specs.File.{segmentsOf, letterAt, zeroAt, countAt, offsetAt, contractsBefore, contractsOf};
-ghost use Rattle.contracts.specs.Entry.{EntryPlace};
+ghost use Rattle.contracts.specs.Inner.{EntryPlace};
 
 // The bytes of the number of segments, with which the contents begin.
 pub(crate) const NUMBER: usize = 2;

@@ -5,9 +5,9 @@ use mathlib.Core.List.{List, [], _∷_, _++_, append-assoc}
 use mathlib.Core.Logic.{⊎-elim}
 use native.Mathlib.Omega.{arith}
 use native.Mathlib.Numerals.{add-one, sub-one}
-use native.Mathlib.Nat.{le-of-suc-le-suc, not-suc-le-zero, zero-add, suc-add}
+use native.Mathlib.Nat.{le-of-suc-le-suc, not-suc-le-zero, zero-add, add-zero, suc-add}
 use lib.ListN.{length, getD, take, drop, set, replicate, drop-of-length-le}
-use lib.Seq.{take-all, take-suc, drop-cons, set-at, length-take-le, take-nil, drop-nil, take-take}
+use lib.Seq.{take-all, take-suc, drop-cons, set-at, length-take-le, take-nil, drop-nil, take-take, sets}
 use Rattle.laws.specs.Order.{order}
 
 module _ {A : Type 0} where
@@ -29,6 +29,13 @@ module _ {A : Type 0} where
   pub drop-replicate : (n : ℕ) (a : A) → drop 1 (replicate n a) ≡ replicate (n - 1) a
   drop-replicate zero a = refl
   drop-replicate (suc n) a = rw (sub-one (suc n))
+
+  -- two runs are stored one behind the other
+  pub sets-append : (xs ys s : List A) (at : ℕ) → sets s at (xs ++ ys) ≡ sets (sets s at xs) (at + length xs) ys
+  sets-append [] ys s at = rw (add-zero at)
+  sets-append (x ∷ xs) ys s at =
+      let e : suc at + length xs ≡ at + suc (length xs) = omega arith in
+      rw (sets-append xs ys (set s at x) (suc at), e)
 
   -- one more of `s` copied over the front of `d`
   pub copy-one : (s d : List A) (i : ℕ) (a : A) → i < length s → i < length d

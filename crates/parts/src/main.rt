@@ -3,6 +3,7 @@
 mod gaps;
 mod leaves;
 mod lists;
+mod rows;
 mod say;
 
 use amount::Price;
@@ -24,6 +25,8 @@ fn answer(kind: u8, asked: &[u8], row: &mut [u32; 132]) {
         b'O' => gaps::say_off(row),
         b'G' => gaps::say_gaps(row),
         b'B' => gaps::say_back(asked),
+        b'U' => rows::say_read(asked),
+        b'W' => rows::say_written(asked, &mut io::buffer()),
         _ => leaves::say_text(kind, asked, &mut io::buffer()),
     }
     say(b"\n");

@@ -9,6 +9,7 @@ use lib.Arith.{mod-mul, digits-div, digits-mod, digits-lt}
 use lib.Pow.{pow-add}
 use lib.ListN.{length, getD, take, set, List·getD-eq-default, length-set}
 use lib.Seq.{sets, set-out, getD-set-same, getD-set-other, getD-take}
+use Rattle.laws.specs.Lists.{sets-append}
 use Rattle.wire.specs.Number.{numberAt, bytesOf}
 
 -- past the end every number is zero
@@ -53,13 +54,6 @@ bytes-joined zero w n =
     rw (zero-add w) (sym (rw (zero-add w) at (bytes-low 0 w n)))
 bytes-joined (suc v) w n =
     rw (suc-add v w, div-div-eq-div-mul n (256 ^ w) (256 ^ v), mul-comm (256 ^ w) (256 ^ v), ← pow-add 256 v w, bytes-joined v w n)
-
--- two runs of bytes are stored one behind the other
-sets-append : (xs ys s : List ℕ) (at : ℕ) → sets s at (xs ++ ys) ≡ sets (sets s at xs) (at + length xs) ys
-sets-append [] ys s at = rw (add-zero at)
-sets-append (x ∷ xs) ys s at =
-    let e : suc at + length xs ≡ at + suc (length xs) = omega arith in
-    rw (sets-append xs ys (set s at x) (suc at), e)
 
 pub length-bytes : (w n : ℕ) → length (bytesOf w n) ≡ w
 length-bytes zero n = refl

@@ -9,7 +9,7 @@ use denote.Ref.{now}
 use Rattle.contracts.specs.Below.{allBelow}
 use Rattle.contracts.specs.BelowLaws.{pass-on, one-fails}
 use Rattle.contracts.specs.File.{segmentsOf}
-use Rattle.contracts.specs.Sound.{partSound, eachSound}
+use Rattle.contracts.specs.Inner.{partSound}
 use Rattle.contracts.proofs.check.each_sound.Statement.{statement}
 use Rattle.contracts.proofs.check.each_sound.Tie as tie
 
@@ -29,7 +29,6 @@ part-sound-requires : tie.Need-part-sound-requires Inv-loop μ-loop
 part-sound-requires c κs = search needs
 
 returns : tie.Need-returns Inv-loop μ-loop
-unfolding eachSound
 returns c =
     let at = c .before .before .before in
     let a = at .before .before .before .args in
@@ -51,7 +50,6 @@ loop-again c =
     (omega arith, pass-on (partSound (now (a .list)) (a .part)) (at .loop .i) (at .loop .inv .1) (sym (c .before .part-sound .ensures) ∙ passes))
 
 returns-2 : tie.Need-returns-2 Inv-loop μ-loop
-unfolding eachSound
 returns-2 c =
     let at = c .before in
     let a = at .before .before .before .args in

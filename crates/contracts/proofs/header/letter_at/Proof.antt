@@ -6,7 +6,7 @@ use native.Mathlib.Nat.{add-zero}
 use borrow.Author.Needs.{needs}
 use denote.Ref.{now}
 use Rattle.wire.specs.Number.{numberAt}
-use Rattle.contracts.specs.Entry.{EntryPlace}
+use Rattle.contracts.specs.Inner.{EntryPlace}
 use Rattle.contracts.specs.File.{entryAt, letterAt}
 use Rattle.contracts.proofs.header.letter_at.Statement.{statement}
 use Rattle.contracts.proofs.header.letter_at.Tie as tie

@@ -1,11 +1,9 @@
 -- `contracts::key::order_from` meets its contract. The loop's invariant: the bytes passed are the same in both keys, so that
 -- their order is that of what is left.
-use Prim.Native.Nat.{ℕ, _-_, _≤_, suc, _+_}
+use Prim.Native.Nat.{_-_, _≤_}
 use mathlib.Core.Path.{_≡_, refl, sym, _∙_}
 use native.Mathlib.Omega.{arith}
-use native.Mathlib.Numerals.{add-one}
-use lib.ListN.{length, drop, getD}
-use denote.Ref.{now}
+use lib.ListN.{length, drop}
 use Rattle.contracts.specs.Keys.{orderOf}
 use Rattle.contracts.specs.KeysLaws.{byte-below, byte-above, byte-same, left-goes-on, right-goes-on, both-end}
 use Rattle.contracts.proofs.key.order_from.Statement.{statement}

@@ -1,13 +1,12 @@
 -- `contracts::key::order_of` meets its contract. The loop's invariant: the bytes passed are the same in both keys, so that
 -- their order is that of what is left.
-use Prim.Native.Nat.{ℕ, _+_, _-_, _≤_, _<_}
-use mathlib.Core.Path.{_≡_, refl, sym, ap, _∙_}
+use Prim.Native.Nat.{ℕ, _+_, _-_, _≤_}
+use mathlib.Core.Path.{_≡_, refl, sym, _∙_}
 use mathlib.Core.List.{List}
 use native.Mathlib.Omega.{arith}
-use borrow.Author.Needs.{needs}
 use borrow.Author.Tests.{leb-true}
 use lib.Dec.{leb}
-use lib.ListN.{length, getD, drop}
+use lib.ListN.{length, drop}
 use denote.Ref.{now}
 use Rattle.laws.specs.Tests.{both}
 use Rattle.contracts.specs.Keys.{orderOf}

@@ -1,14 +1,13 @@
 -- `contracts::lookup::place_of` meets its contract. The loop's invariant: halving the keys that are left finds what halving
 -- all of them finds. The keys left are among all, so that no place overflows.
 use Prim.Native.Nat.{ℕ, _+_, _-_, _*_, _/_, _^_, _≤_, _<_}
-use mathlib.Core.Path.{_≡_, refl, sym, ap, _∙_}
-use mathlib.Core.List.{List}
+use mathlib.Core.Path.{_≡_, sym, ap, _∙_}
 use native.Mathlib.Omega.{arith}
 use borrow.Author.Needs.{needs}
 use lib.ListN.{getD}
 use denote.Ref.{now}
 use Rattle.contracts.specs.declared.key.Order.{Order}
-use Rattle.contracts.specs.File.{countAt, offsetAt, keyFrom, keySize}
+use Rattle.contracts.specs.File.{countAt, offsetAt, keyFrom}
 use Rattle.contracts.specs.FileLaws.{count-under, offset-under}
 use Rattle.contracts.specs.Halving.{Halved, halvedFrom}
 use Rattle.contracts.specs.HalvingLaws.{none-left, match-stops, goes-below, goes-above}
@@ -88,7 +87,7 @@ returns : tie.Need-returns Inv-loop μ-loop
 returns c =
     let d = c .before .before in
     let at = d .before .before .before .loop in
-    let e = match-stops (sought d) (at .low) (at .left) (d .before .before .loop-test .taken) (stands d ∙ c .enum-told .given .1) in
+    let e = match-stops (sought d) (at .low) (at .left) (omega (arith, d .before .before .loop-test .taken)) (stands d ∙ c .enum-told .given .1) in
     sym (at .inv .1 ∙ ap (λ (h : Halved). h .place) e)
 
 enum-told-2 : tie.Need-enum-told-2 Inv-loop μ-loop
@@ -101,7 +100,7 @@ loop-again : tie.Need-loop-again Inv-loop μ-loop
 loop-again c =
     let d = c .before .before in
     let at = d .before .before .before .loop in
-    let e = goes-below (sought d) (at .low) (at .left) (d .before .before .loop-test .taken) (stands d ∙ c .enum-told2 .given .1) in
+    let e = goes-below (sought d) (at .low) (at .left) (omega (arith, d .before .before .loop-test .taken)) (stands d ∙ c .enum-told2 .given .1) in
     (omega arith, at .inv .1 ∙ ap (λ (h : Halved). h .place) e)
 
 enum-told-3 : tie.Need-enum-told-3 Inv-loop μ-loop
@@ -123,7 +122,7 @@ loop-again-2 : tie.Need-loop-again-2 Inv-loop μ-loop
 loop-again-2 c =
     let d = c .before .before in
     let at = d .before .before .before .loop in
-    let e = goes-above (sought d) (at .low) (at .left) (d .before .before .loop-test .taken) (stands d ∙ c .enum-told3 .given .1) in
+    let e = goes-above (sought d) (at .low) (at .left) (omega (arith, d .before .before .loop-test .taken)) (stands d ∙ c .enum-told3 .given .1) in
     (omega arith, at .inv .1 ∙ ap (λ (h : Halved). h .place) e)
 
 returns-2 : tie.Need-returns-2 Inv-loop μ-loop

@@ -1,0 +1,72 @@
+-- The row that a refusal names: the first bad one. 01, the table of refusals and its order: rows in turn, 11 before 12 in a row.
+use Prim.Native.Nat.{ℕ, _<_}
+use mathlib.Core.Path.{_≡_}
+use mathlib.Core.List.{List, [], _∷_}
+use lib.ListN.{getD, take, drop}
+use Rattle.layout.specs.declared.rows.Row.{Row}
+use Rattle.layout.specs.declared.rows.Row.the-variants.{Text}
+use Rattle.layout.specs.declared.read.RowRead.{RowRead}
+use Rattle.layout.specs.declared.read.RowRead.the-variants.{Cell, Field, Range}
+use Rattle.layout.specs.declared.read.Verdict.{Verdict}
+use Rattle.layout.specs.declared.read.Verdict.the-variants.{Good, Field as FieldAt, Range as RangeAt}
+use Rattle.layout.specs.Rows.{widthOf, total, offsetOf}
+use Rattle.layout.specs.Read.{readRow}
+use Rattle.layout.specs.Write.{RowText, text, malformed, out-of-range, rowText, keyUsed}
+
+-- 01, the table of refusals: FIELD and RANGE
+abbrev pub field : ℕ
+field = 11
+
+abbrev pub range : ℕ
+range = 12
+
+-- the paper's number and row of a verdict; none where all rows are good
+abbrev pub verdictNumbers : Verdict → List ℕ
+verdictNumbers Good = []
+verdictNumbers (FieldAt row) = field ∷ row ∷ []
+verdictNumbers (RangeAt row) = range ∷ row ∷ []
+
+-- row k of a layout, and its field in the data
+abbrev pub rowAt : List Row → ℕ → Row
+rowAt rows k = getD rows k (Text 0)
+
+abbrev pub fieldAt : List Row → List ℕ → ℕ → List ℕ
+fieldAt rows bytes k = take (widthOf (rowAt rows k)) (drop (offsetOf rows k) bytes)
+
+-- what row k reads as
+abbrev pub rowRead : List Row → List ℕ → ℕ → RowRead
+rowRead rows bytes k = readRow (rowAt rows k) (fieldAt rows bytes k)
+
+-- what row k is to hold, from the bytes of the key that the rows in front leave and from its cell
+abbrev pub rowWritten : List Row → List ℕ → List ℕ → ℕ → RowText
+rowWritten rows key cells k = rowText (rowAt rows k) (drop (total keyUsed (take k rows)) key) (getD cells k 0)
+
+-- a row's refusal, 0 where there is none: of its field as read, and of what it is to hold
+abbrev pub readRefusal : RowRead → ℕ
+readRefusal (Cell cell) = 0
+readRefusal Field = field
+readRefusal Range = range
+
+abbrev pub writeRefusal : RowText → ℕ
+writeRefusal (text characters) = 0
+writeRefusal malformed = field
+writeRefusal out-of-range = range
+
+-- row k's refusal in reading, and in writing
+abbrev pub refusalRead : List Row → List ℕ → ℕ → ℕ
+refusalRead rows bytes k = readRefusal (rowRead rows bytes k)
+
+abbrev pub refusalWritten : List Row → List ℕ → List ℕ → ℕ → ℕ
+refusalWritten rows key cells k = writeRefusal (rowWritten rows key cells k)
+
+-- row i of so many is refused with this number, and no row in front of it is refused
+pub record FirstAt (refusal : ℕ → ℕ) (count number i : ℕ) : Type 0 where
+  pub within : i < count
+  pub refused : refusal i ≡ number
+  pub none-before : (k : ℕ) → k < i → refusal k ≡ 0
+
+-- a verdict on so many rows, given each row's refusal
+abbrev pub FirstBad : (ℕ → ℕ) → ℕ → Verdict → Type 0
+FirstBad refusal count Good = (k : ℕ) → k < count → refusal k ≡ 0
+FirstBad refusal count (FieldAt i) = FirstAt refusal count field i
+FirstBad refusal count (RangeAt i) = FirstAt refusal count range i

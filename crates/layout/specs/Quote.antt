@@ -1,0 +1,169 @@
+-- The quote that cells hold, and its cells: the rows behind the key, in the order of Rows.antt.
+use Prim.Native.Nat.{ℕ, zero, suc, _+_, _*_, _-_}
+use mathlib.Core.List.{List, [], _∷_, _++_}
+use lib.ListN.{getD, drop, replicate}
+use Rattle.layout.specs.declared.rows.Level.{Level}
+use Rattle.layout.specs.declared.rows.Level.the-variants.{One, Two}
+use Rattle.layout.specs.declared.quote.PriceCell.{PriceCell}
+use Rattle.layout.specs.declared.quote.PriceCell.the-variants as price
+use Rattle.layout.specs.declared.quote.QuantityCell.{QuantityCell}
+use Rattle.layout.specs.declared.quote.QuantityCell.the-variants as quantity
+use Rattle.layout.specs.declared.quote.TurnoverCell.{TurnoverCell}
+use Rattle.layout.specs.declared.quote.TurnoverCell.the-variants as turnover
+use Rattle.layout.specs.declared.quote.Order.{Order}
+use Rattle.layout.specs.declared.quote.Quote.{Quote}
+use Rattle.layout.specs.declared.cells.Held.{Held}
+use Rattle.layout.specs.declared.cells.Held.the-variants.{Nothing, Units}
+use Rattle.layout.specs.Rows.{depthOf}
+use Rattle.layout.specs.Cells.{heldIn, cellOf, byteIn, filled}
+
+-- ---- a number, by its kind
+
+abbrev pub priceOf : Held → PriceCell
+priceOf Nothing = price.None
+priceOf (Units n) = price.Amount (record { 0 = n })
+
+abbrev pub heldPrice : PriceCell → Held
+heldPrice price.None = Nothing
+heldPrice (price.Amount amount) = Units (amount .0)
+
+abbrev pub priceIn : ℕ → PriceCell
+priceIn cell = priceOf (heldIn cell)
+
+abbrev pub cellOfPrice : PriceCell → ℕ
+cellOfPrice p = cellOf (heldPrice p)
+
+abbrev pub quantityOf : Held → QuantityCell
+quantityOf Nothing = quantity.None
+quantityOf (Units n) = quantity.Amount (record { 0 = n })
+
+abbrev pub heldQuantity : QuantityCell → Held
+heldQuantity quantity.None = Nothing
+heldQuantity (quantity.Amount amount) = Units (amount .0)
+
+abbrev pub quantityIn : ℕ → QuantityCell
+quantityIn cell = quantityOf (heldIn cell)
+
+abbrev pub cellOfQuantity : QuantityCell → ℕ
+cellOfQuantity q = cellOf (heldQuantity q)
+
+abbrev pub turnoverOf : Held → TurnoverCell
+turnoverOf Nothing = turnover.None
+turnoverOf (Units n) = turnover.Amount (record { 0 = n })
+
+abbrev pub heldTurnover : TurnoverCell → Held
+heldTurnover turnover.None = Nothing
+heldTurnover (turnover.Amount amount) = Units (amount .0)
+
+abbrev pub turnoverIn : ℕ → TurnoverCell
+turnoverIn cell = turnoverOf (heldIn cell)
+
+abbrev pub cellOfTurnover : TurnoverCell → ℕ
+cellOfTurnover t = cellOf (heldTurnover t)
+
+-- ---- the orders of a side
+
+abbrev pub noOrder : Order
+noOrder = record { price = price.None; quantity = quantity.None }
+
+abbrev pub orderIn : ℕ → ℕ → Order
+orderIn p q = record { price = priceIn p; quantity = quantityIn q }
+
+abbrev pub ordersIn : ℕ → List ℕ → List Order
+ordersIn zero cells = []
+ordersIn (suc depth) cells = orderIn (getD cells 0 0) (getD cells 1 0) ∷ ordersIn depth (drop 2 cells)
+
+-- the orders that a level has, and none behind them
+abbrev pub side : ℕ → List ℕ → List Order
+side depth cells = ordersIn depth cells ++ replicate (5 - depth) noOrder
+
+abbrev pub orderCells : ℕ → List Order → List ℕ
+orderCells zero orders = []
+orderCells (suc depth) orders =
+    cellOfPrice (getD orders 0 noOrder .price) ∷ cellOfQuantity (getD orders 0 noOrder .quantity) ∷ orderCells depth (drop 1 orders)
+
+-- ---- the quote
+
+-- the row of the last traded price: behind the key, the market type and the orders of both sides
+abbrev pub lastRow : Level → ℕ
+lastRow level = 6 + 4 * depthOf level
+
+-- the row of the turnover: the last
+abbrev pub turnoverRow : Level → ℕ
+turnoverRow One = 18
+turnoverRow Two = 36
+
+-- level 1 has neither side's total
+abbrev pub totalIn : Level → ℕ → QuantityCell
+totalIn One cell = quantity.None
+totalIn Two cell = quantityIn cell
+
+unfoldable pub quoteOf : Level → List ℕ → Quote
+quoteOf level cells =
+    record {
+      «market_type» = byteIn (getD cells 5 0);
+      buy = side (depthOf level) (drop 6 cells);
+      sell = side (depthOf level) (drop (6 + 2 * depthOf level) cells);
+      last = priceIn (getD cells (lastRow level) 0);
+      traded = quantityIn (getD cells (lastRow level + 1) 0);
+      status = byteIn (getD cells (lastRow level + 2) 0);
+      opening = priceIn (getD cells (lastRow level + 3) 0);
+      high = priceIn (getD cells (lastRow level + 4) 0);
+      low = priceIn (getD cells (lastRow level + 5) 0);
+      close = priceIn (getD cells (lastRow level + 6) 0);
+      average = priceIn (getD cells (lastRow level + 7) 0);
+      buyers = totalIn level (getD cells (lastRow level + 8) 0);
+      sellers = totalIn level (getD cells (lastRow level + 9) 0);
+      turnover = turnoverIn (getD cells (turnoverRow level) 0);
+    }
+
+-- last traded price, traded quantity, status
+abbrev pub tradeCells : Quote → List ℕ
+tradeCells quote = cellOfPrice (quote .last) ∷ cellOfQuantity (quote .traded) ∷ quote .status ∷ []
+
+-- opening, high, low, close and average price
+abbrev pub dayCells : Quote → List ℕ
+dayCells quote =
+    cellOfPrice (quote .opening) ∷ cellOfPrice (quote .high) ∷ cellOfPrice (quote .low) ∷ cellOfPrice (quote .close)
+    ∷ cellOfPrice (quote .average) ∷ []
+
+-- all buyers' and all sellers' quantity at level 2, and the turnover
+abbrev pub endCells : Level → Quote → List ℕ
+endCells One quote = cellOfTurnover (quote .turnover) ∷ []
+endCells Two quote = cellOfQuantity (quote .buyers) ∷ cellOfQuantity (quote .sellers) ∷ cellOfTurnover (quote .turnover) ∷ []
+
+-- a quote's cells, one a row: those of the key are 0
+unfoldable pub cellsOf : Level → Quote → List ℕ
+cellsOf level quote =
+    filled
+    (replicate 5 0 ++ (quote .«market_type» ∷ orderCells (depthOf level) (quote .buy)) ++ orderCells (depthOf level) (quote .sell)
+    ++ tradeCells quote ++ dayCells quote ++ endCells level quote)
+
+-- ---- the quote as a level sees it: so many orders a side and none behind them, and at level 1 neither side's total
+
+abbrev pub firstOrders : ℕ → List Order → List Order
+firstOrders zero orders = []
+firstOrders (suc depth) orders = getD orders 0 noOrder ∷ firstOrders depth (drop 1 orders)
+
+abbrev pub seenTotal : Level → QuantityCell → QuantityCell
+seenTotal One total = quantity.None
+seenTotal Two total = total
+
+unfoldable pub seenQuote : Level → Quote → Quote
+seenQuote level quote =
+    record {
+      «market_type» = quote .«market_type»;
+      buy = firstOrders (depthOf level) (quote .buy) ++ replicate (5 - depthOf level) noOrder;
+      sell = firstOrders (depthOf level) (quote .sell) ++ replicate (5 - depthOf level) noOrder;
+      last = quote .last;
+      traded = quote .traded;
+      status = quote .status;
+      opening = quote .opening;
+      high = quote .high;
+      low = quote .low;
+      close = quote .close;
+      average = quote .average;
+      buyers = seenTotal level (quote .buyers);
+      sellers = seenTotal level (quote .sellers);
+      turnover = quote .turnover;
+    }

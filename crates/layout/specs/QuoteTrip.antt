@@ -1,0 +1,147 @@
+-- The quote through the data of an update: what was read can be written again, and what is written reads back as the level sees it.
+use Prim.Native.Nat.{ℕ, zero, suc, _-_, _<_}
+use mathlib.Core.Path.{_≡_, refl, ap, _∙_}
+use mathlib.Core.Bool.{Bool, true, false}
+use mathlib.Core.List.{List, [], _∷_, _++_}
+use native.Mathlib.Omega.{arith}
+use lib.ListN.{length, getD, take, drop, replicate}
+use Rattle.wire.specs.Number.{numberAt}
+use Rattle.layout.specs.declared.rows.Row.{Row}
+use Rattle.layout.specs.declared.rows.Row.the-variants.{Text, MarketType, Status, Price, Quantity, Turnover}
+use Rattle.layout.specs.declared.rows.Level.{Level}
+use Rattle.layout.specs.declared.rows.Level.the-variants.{One, Two}
+use Rattle.layout.specs.declared.read.RowRead.{RowRead}
+use Rattle.layout.specs.declared.read.RowRead.the-variants.{Cell, Field, Range}
+use Rattle.layout.specs.declared.read.Verdict.the-variants.{Good}
+use Rattle.layout.specs.declared.quote.Quote.{Quote}
+use Rattle.layout.specs.Rows.{widthOf, rowsOf}
+use Rattle.layout.specs.Cells.{none, byteIn, seenCell, seenCells, filled}
+use Rattle.layout.specs.CellsLaws.{byte-back}
+use Rattle.layout.specs.Read.{isMarketType, isStatus, letterCell, readRow, Outcome, rowThen, readRows}
+use Rattle.layout.specs.Write.{rowText, letterText, Laid, writeRows, keyUsed}
+use Rattle.layout.specs.RowTextLaws.{market-small, status-small, text-held}
+use Rattle.layout.specs.WriteLaws.{GoodRow, good-row}
+use Rattle.layout.specs.RoundTrip.{rows-back}
+use Rattle.layout.specs.FirstBad.{writeRefusal, refusalWritten}
+use Rattle.layout.specs.FirstBadLaws.{write-first}
+use Rattle.layout.specs.Quote.{quoteOf, cellsOf, seenQuote}
+use Rattle.layout.specs.QuoteLaws.{AllHeld, cells-back, quote-back}
+
+-- ---- what was read
+
+letter-seen : (taken : ℕ → Bool) → ((byte : ℕ) → taken byte ≡ true → byte < 256) → (byte cell : ℕ) → letterCell taken byte ≡ Cell cell
+    → byteIn cell ≡ cell
+letter-seen taken small byte cell e = go (taken byte) refl
+  where
+    go : (is : Bool) → taken byte ≡ is → byteIn cell ≡ cell
+    go true t =
+        let same : Cell byte ≡ Cell cell = rw t at e in
+        let b : byte ≡ cell = cc in
+        byte-back cell (rw b at (small byte t))
+    go false t = let other : Field ≡ Cell cell = rw t at e in cc
+
+cell-seen : (row : Row) (field : List ℕ) (cell : ℕ) → readRow row field ≡ Cell cell → seenCell row cell ≡ cell
+unfolding readRow
+cell-seen (Text width) field cell e = cc
+cell-seen MarketType field cell e = letter-seen isMarketType market-small (numberAt 1 field 0) cell e
+cell-seen Status field cell e = letter-seen isStatus status-small (numberAt 1 field 0) cell e
+cell-seen (Price width) field cell e = refl
+cell-seen (Quantity width) field cell e = refl
+cell-seen (Turnover width) field cell e = refl
+
+-- the rows see the cells that were read as they are
+cells-seen : (i : ℕ) (rows : List Row) (bytes behind : List ℕ) → readRows i rows bytes .verdict ≡ Good
+    → seenCells rows (readRows i rows bytes .cells ++ behind) ≡ readRows i rows bytes .cells
+cells-seen i [] bytes behind good = refl
+cells-seen i (row ∷ rows) bytes behind good =
+    go (readRow row (take (widthOf row) bytes)) refl good (cells-seen (suc i) rows (drop (widthOf row) bytes) behind)
+  where
+    rest : Outcome
+    rest = readRows (suc i) rows (drop (widthOf row) bytes)
+
+    go : (answer : RowRead) → readRow row (take (widthOf row) bytes) ≡ answer → rowThen answer i rest .verdict ≡ Good
+        → (rest .verdict ≡ Good → seenCells rows (rest .cells ++ behind) ≡ rest .cells)
+        → seenCells (row ∷ rows) (rowThen answer i rest .cells ++ behind) ≡ rowThen answer i rest .cells
+    go (Cell cell) e good later = rw (cell-seen row (take (widthOf row) bytes) cell e, later good)
+    go Field e good later = cc
+    go Range e good later = cc
+
+-- a quote that was read has the cells that were read
+pub read-kept : (level : Level) (bytes : List ℕ) → readRows 0 (rowsOf level) bytes .verdict ≡ Good
+    → cellsOf level (quoteOf level (filled (readRows 0 (rowsOf level) bytes .cells))) ≡ filled (readRows 0 (rowsOf level) bytes .cells)
+read-kept level bytes good =
+    let read : List ℕ = readRows 0 (rowsOf level) bytes .cells in
+    cells-back level (filled read) ∙ ap filled (cells-seen 0 (rowsOf level) bytes (replicate (37 - length read) 0) good)
+
+-- ---- what is written
+
+rows-held : (i : ℕ) (rows : List Row) (key cells : List ℕ) → writeRows i rows key cells .verdict ≡ Good → AllHeld (seenCells rows cells)
+rows-held i [] key cells good k e = omega arith
+rows-held i (row ∷ rows) key cells good k e =
+    let rest : Laid = writeRows (suc i) rows (drop (keyUsed row) key) (drop 1 cells) in
+    let g : GoodRow (rowText row key (getD cells 0 0)) i rest = good-row (rowText row key (getD cells 0 0)) i rest good in
+    go k (rows-held (suc i) rows (drop (keyUsed row) key) (drop 1 cells) (g .rest-good)) (text-held row key (getD cells 0 0) (g .is-text)) e
+  where
+    go : (k : ℕ) → AllHeld (seenCells rows (drop 1 cells)) → (seenCell row (getD cells 0 0) ≡ none - 1 → ⊥)
+        → getD (seenCells (row ∷ rows) cells) k 0 ≡ none - 1 → ⊥
+    go zero later here e = here e
+    go (suc k) later here e = later k e
+
+zeros-held : (cells : List ℕ) (n : ℕ) → AllHeld cells → AllHeld (cells ++ replicate n 0)
+zeros-held [] zero held k e = held k e
+zeros-held [] (suc n) held zero e = omega arith
+zeros-held [] (suc n) held (suc k) e = zeros-held [] n held k e
+zeros-held (c ∷ cells) n held zero e = held 0 e
+zeros-held (c ∷ cells) n held (suc k) e = zeros-held cells n (λ j. held (suc j)) k e
+
+-- a quote's letters, where it can be written
+letter-taken : (taken : ℕ → Bool) (cell : ℕ) → writeRefusal (letterText taken cell) ≡ 0 → taken cell ≡ true
+letter-taken taken cell e = go (taken cell) refl
+  where
+    go : (is : Bool) → taken cell ≡ is → taken cell ≡ true
+    go true t = t
+    go false t = absurd (let bad : 11 ≡ 0 = rw t at e in omega arith)
+
+letters : (level : Level) (quote : Quote) (key : List ℕ)
+    → ((k : ℕ) → k < length (rowsOf level) → refusalWritten (rowsOf level) key (cellsOf level quote) k ≡ 0)
+    → (quote .«market_type» < 256) × (quote .status < 256)
+unfolding rowsOf cellsOf rowText
+letters One quote key good = (
+  market-small (quote .«market_type») (letter-taken isMarketType (quote .«market_type») (good 5 (omega arith))),
+  status-small (quote .status) (letter-taken isStatus (quote .status) (good 12 (omega arith))),
+)
+letters Two quote key good = (
+  market-small (quote .«market_type») (letter-taken isMarketType (quote .«market_type») (good 5 (omega arith))),
+  status-small (quote .status) (letter-taken isStatus (quote .status) (good 28 (omega arith))),
+)
+
+own-cells : (level : Level) (quote : Quote) → quote .«market_type» < 256 → quote .status < 256
+    → filled (seenCells (rowsOf level) (cellsOf level quote)) ≡ cellsOf level quote
+unfolding rowsOf cellsOf
+own-cells One quote m s = rw (byte-back (quote .«market_type») m, byte-back (quote .status) s)
+own-cells Two quote m s = rw (byte-back (quote .«market_type») m, byte-back (quote .status) s)
+
+module _ (level : Level) (quote : Quote) (key : List ℕ) (good : writeRows 0 (rowsOf level) key (cellsOf level quote) .verdict ≡ Good) where
+  small : (quote .«market_type» < 256) × (quote .status < 256)
+  small = letters level quote key (rw good at (write-first (rowsOf level) key (cellsOf level quote)))
+
+  same-cells : filled (seenCells (rowsOf level) (cellsOf level quote)) ≡ cellsOf level quote
+  same-cells = own-cells level quote (small .0) (small .1)
+
+  -- a quote that can be written is the one that its cells hold, as the level sees it
+  pub written-kept : quoteOf level (cellsOf level quote) ≡ seenQuote level quote
+  written-kept =
+      let rows : List ℕ = seenCells (rowsOf level) (cellsOf level quote) in
+      let held : AllHeld (filled rows) =
+      zeros-held rows (37 - length rows) (rows-held 0 (rowsOf level) key (cellsOf level quote) good) in
+      quote-back level quote (small .0) (small .1) (rw same-cells at held)
+
+  -- what is written from a quote reads back as that quote
+  abbrev read-again : Outcome
+  read-again = readRows 0 (rowsOf level) (writeRows 0 (rowsOf level) key (cellsOf level quote) .bytes)
+
+  pub written-back : (read-again .verdict ≡ Good) × (quoteOf level (filled (read-again .cells)) ≡ seenQuote level quote)
+  written-back =
+      let back : read-again ≡ record { cells = seenCells (rowsOf level) (cellsOf level quote); verdict = Good } =
+      rows-back 0 (rowsOf level) key (cellsOf level quote) good in
+      (rw back, rw (back, same-cells) written-kept)

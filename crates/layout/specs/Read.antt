@@ -1,0 +1,75 @@
+-- Reading the data of an update into cells: 01 "The message", and its order of checks: rows in turn, 11 before 12.
+use Prim.Native.Nat.{ℕ, suc}
+use mathlib.Core.Path.{_≡_}
+use mathlib.Core.Bool.{Bool, cond, _||_}
+use mathlib.Core.List.{List, [], _∷_}
+use lib.Dec.{eqb}
+use lib.ListN.{take, drop}
+use Rattle.wire.specs.Number.{numberAt}
+use Rattle.amount.specs.declared.Number.{Number}
+use Rattle.amount.specs.declared.Number.the-variants.{None, Amount, Malformed, OutOfRange}
+use Rattle.amount.specs.Read.{readText}
+use Rattle.layout.specs.declared.cells.Held.the-variants.{Nothing, Units}
+use Rattle.layout.specs.declared.rows.Row.{Row}
+use Rattle.layout.specs.declared.rows.Row.the-variants.{Text, MarketType, Status, Price, Quantity, Turnover}
+use Rattle.layout.specs.declared.read.RowRead.{RowRead}
+use Rattle.layout.specs.declared.read.RowRead.the-variants.{Cell, Field, Range}
+use Rattle.layout.specs.declared.read.RowsRead.{RowsRead}
+use Rattle.layout.specs.declared.read.Verdict.{Verdict}
+use Rattle.layout.specs.declared.read.Verdict.the-variants.{Good, Field as FieldAt, Range as RangeAt}
+use Rattle.amount.specs.Kinds.{Kind, price, quantity, turnover}
+use Rattle.layout.specs.Rows.{widthOf}
+use Rattle.layout.specs.Cells.{cellOf, filled}
+
+-- a number's cell, where the text is one
+abbrev pub ofNumber : Number → RowRead
+ofNumber None = Cell (cellOf Nothing)
+ofNumber (Amount units) = Cell (cellOf (Units units))
+ofNumber Malformed = Field
+ofNumber OutOfRange = Range
+
+-- 01 "The message": market type 'N'
+abbrev pub isMarketType : ℕ → Bool
+isMarketType byte = eqb byte 78
+
+-- 01 "The message": status is 'S' or space
+abbrev pub isStatus : ℕ → Bool
+isStatus byte = eqb byte 83 || eqb byte 32
+
+-- a letter's cell is its byte, where it is one that the row takes
+abbrev pub letterCell : (ℕ → Bool) → ℕ → RowRead
+letterCell taken byte = cond (taken byte) (Cell byte) Field
+
+abbrev pub numberCell : Kind → List ℕ → RowRead
+numberCell kind field = ofNumber (readText (kind .places) (kind .most) field)
+
+-- one row's field; a key's text is only looked up, and its cell is 0
+unfoldable pub readRow : Row → List ℕ → RowRead
+readRow (Text width) field = Cell 0
+readRow MarketType field = letterCell isMarketType (numberAt 1 field 0)
+readRow Status field = letterCell isStatus (numberAt 1 field 0)
+readRow (Price width) field = numberCell price field
+readRow (Quantity width) field = numberCell quantity field
+readRow (Turnover width) field = numberCell turnover field
+
+-- what reading rows gives: the cells of the good rows in front of the first bad one, and the verdict
+pub record Outcome : Type 0 where
+  pub cells : List ℕ
+  pub verdict : Verdict
+
+-- a good row's cell stands in front of those of the rows behind it; a bad row ends the reading at its place
+abbrev pub rowThen : RowRead → ℕ → Outcome → Outcome
+rowThen (Cell cell) i rest = record { cells = cell ∷ rest .cells; verdict = rest .verdict }
+rowThen Field i rest = record { cells = []; verdict = FieldAt i }
+rowThen Range i rest = record { cells = []; verdict = RangeAt i }
+
+-- the rows from row i on, in turn, each with the bytes behind those of the row before it
+abbrev pub readRows : ℕ → List Row → List ℕ → Outcome
+readRows i [] bytes = record { cells = []; verdict = Good }
+readRows i (row ∷ rows) bytes =
+    rowThen (readRow row (take (widthOf row) bytes)) i (readRows (suc i) rows (drop (widthOf row) bytes))
+
+-- the answer of reading rows
+pub record ReadsRows (rows : List Row) (bytes : List ℕ) (answer : RowsRead) : Type 0 where
+  pub answers : answer .verdict ≡ readRows 0 rows bytes .verdict
+  pub cells-read : answer .cells ≡ filled (readRows 0 rows bytes .cells)

@@ -1,0 +1,103 @@
+-- What is written reads back: the cells are those that were written, and the key stands in front.
+use Prim.Native.Nat.{ℕ, suc, _+_, _≤_, _<_}
+use mathlib.Core.Path.{_≡_, refl, ap, sym, _∙_}
+use mathlib.Core.Bool.{Bool, true, and-eq-true-iff}
+use mathlib.Core.List.{List, [], _∷_, _++_, map}
+use native.Mathlib.Omega.{arith}
+use lib.ListN.{length, getD, take, drop, length-drop}
+use lib.Seq.{take-at, drop-at, take-add, take-append-add, length-take-le}
+use Rattle.wire.specs.Number.{numberAt}
+use Rattle.amount.specs.declared.Number.the-variants.{None, Amount}
+use Rattle.amount.specs.Read.{readText}
+use Rattle.amount.specs.ReadBack.{reads-back, none-reads-back}
+use Rattle.amount.specs.Write.{written, blankText, filled}
+use Rattle.layout.specs.declared.cells.Held.{Held}
+use Rattle.layout.specs.declared.cells.Held.the-variants.{Nothing, Units}
+use Rattle.layout.specs.declared.rows.Row.{Row}
+use Rattle.layout.specs.declared.rows.Row.the-variants.{Text, MarketType, Status, Price, Quantity, Turnover}
+use Rattle.layout.specs.declared.rows.Level.{Level}
+use Rattle.layout.specs.declared.read.RowRead.the-variants.{Cell}
+use Rattle.layout.specs.declared.read.Verdict.the-variants.{Good}
+use Rattle.amount.specs.Kinds.{Kind, price, quantity, turnover}
+use Rattle.layout.specs.Rows.{widthOf, dataLength, rowsOf, recordRows}
+use Rattle.layout.specs.CellsLaws.{byte-back, cell-back}
+use Rattle.layout.specs.Cells.{byteIn, heldIn, cellOf, seenCell, seenCells}
+use Rattle.layout.specs.Read.{isMarketType, isStatus, letterCell, readRow, numberCell, readRows}
+use Rattle.layout.specs.Write.{text, rowText, heldText, letterText, Laid, writeRows, keyUsed, printable, allPrintable}
+use Rattle.layout.specs.RowTextLaws.{market-small, status-small, key-is, letter-is, filled-is, text-width}
+use Rattle.layout.specs.WriteLaws.{GoodRow, good-row}
+
+-- ---- the cells
+
+letter-back : (taken : ℕ → Bool) → ((byte : ℕ) → taken byte ≡ true → byte < 256) → (cell : ℕ) {t : List ℕ} → letterText taken cell ≡ text t
+    → letterCell taken (numberAt 1 t 0) ≡ Cell (byteIn cell)
+letter-back taken small cell {t} e =
+    let l = letter-is taken cell e in
+    let byte : numberAt 1 (cell ∷ []) 0 ≡ cell = omega arith in
+    rw (l .1, byte, l .0, byte-back cell (small cell (l .0)))
+
+-- ---- the rows
+
+number-back : (kind : Kind) (width : ℕ) (held : Held) {t : List ℕ} → heldText kind width held ≡ text t → numberCell kind t ≡ Cell (cellOf held)
+number-back kind width Nothing {t} e =
+    let same : t ≡ blankText width = cc in
+    rw (same, none-reads-back (kind .places) (kind .most) width)
+number-back kind width (Units n) {t} e = rw (reads-back (kind .places) (kind .most) width n t (filled-is _ e))
+
+row-back : (row : Row) (key : List ℕ) (cell : ℕ) {t : List ℕ} → rowText row key cell ≡ text t → readRow row t ≡ Cell (seenCell row cell)
+unfolding rowText readRow
+row-back (Text width) key cell e = refl
+row-back MarketType key cell e = letter-back isMarketType market-small cell e
+row-back Status key cell e = letter-back isStatus status-small cell e
+row-back (Price width) key cell e = number-back price width (heldIn cell) e ∙ ap Cell (cell-back cell)
+row-back (Quantity width) key cell e = number-back quantity width (heldIn cell) e ∙ ap Cell (cell-back cell)
+row-back (Turnover width) key cell e = number-back turnover width (heldIn cell) e ∙ ap Cell (cell-back cell)
+
+-- whatever the layout
+pub rows-back : (i : ℕ) (rows : List Row) (key cells : List ℕ) → writeRows i rows key cells .verdict ≡ Good
+    → readRows i rows (writeRows i rows key cells .bytes) ≡ record { cells = seenCells rows cells; verdict = Good }
+rows-back i [] key cells good = refl
+rows-back i (row ∷ rows) key cells good =
+    let rest : Laid = writeRows (suc i) rows (drop (keyUsed row) key) (drop 1 cells) in
+    let g : GoodRow (rowText row key (getD cells 0 0)) i rest = good-row (rowText row key (getD cells 0 0)) i rest good in
+    let wide : length (g .characters) ≡ widthOf row = text-width row key (getD cells 0 0) (g .is-text) in
+    rw (g .bytes-are, take-at (g .characters) (rest .bytes) (widthOf row) wide, drop-at (g .characters) (rest .bytes) (widthOf row) wide, row-back row key (getD cells 0 0) (g .is-text), rows-back (suc i) rows (drop (keyUsed row) key) (drop 1 cells) (g .rest-good))
+
+-- ---- the key
+
+printable-append : (s t : List ℕ) → allPrintable s ≡ true → allPrintable t ≡ true → allPrintable (s ++ t) ≡ true
+printable-append [] t p q = q
+printable-append (b ∷ s) t p q =
+    let both = and-eq-true-iff (printable b) (allPrintable s) .0 p in
+    and-eq-true-iff (printable b) (allPrintable (s ++ t)) .1 (both .0, printable-append s t (both .1) q)
+
+-- rows of text in front are those of the key, and its bytes may be written
+pub record KeyInFront (size : ℕ) (key bytes : List ℕ) : Type 0 where
+  pub has-it : size ≤ length key
+  pub may-be-written : allPrintable (take size key) ≡ true
+  pub stands : take size bytes ≡ take size key
+
+pub key-in-front : (i : ℕ) (widths : List ℕ) (rows : List Row) (key cells : List ℕ) → writeRows i (map Text widths ++ rows) key cells .verdict ≡ Good
+    → KeyInFront (dataLength (map Text widths)) key (writeRows i (map Text widths ++ rows) key cells .bytes)
+unfolding rowText
+key-in-front i [] rows key cells good = record { has-it = omega arith; may-be-written = refl; stands = refl }
+key-in-front i (width ∷ widths) rows key cells good =
+    let rest : Laid = writeRows (suc i) (map Text widths ++ rows) (drop width key) (drop 1 cells) in
+    let g : GoodRow (rowText (Text width) key (getD cells 0 0)) i rest = good-row (rowText (Text width) key (getD cells 0 0)) i rest good in
+    let k = key-is width key (g .is-text) in
+    let n : ℕ = dataLength (map Text widths) in
+    let later : KeyInFront n (drop width key) (rest .bytes) = key-in-front (suc i) widths rows (drop width key) (drop 1 cells) (g .rest-good) in
+    let wide : length (take width key) ≡ width = length-take-le width key (k .0) in
+    let front : take (width + n) (take width key ++ rest .bytes) ≡ take width key ++ take n (rest .bytes) =
+    rw wide at (take-append-add (take width key) (rest .bytes) n) in
+    record {
+      has-it = omega (arith, k .0, later .has-it, length-drop width key);
+      may-be-written = rw (take-add width n key) (printable-append (take width key) (take n (drop width key)) (k .1) (later .may-be-written));
+      stands = rw (g .bytes-are, k .2, front, later .stands) (sym (take-add width n key));
+    }
+
+-- 01 "The message": the first 39 bytes of an update's data are the contract key
+pub key-of-update : (level : Level) (key cells : List ℕ) → writeRows 0 (rowsOf level) key cells .verdict ≡ Good
+    → KeyInFront 39 key (writeRows 0 (rowsOf level) key cells .bytes)
+unfolding rowsOf
+key-of-update level key cells good = key-in-front 0 (6 ∷ 10 ∷ 11 ∷ 10 ∷ 2 ∷ []) (recordRows level) key cells good

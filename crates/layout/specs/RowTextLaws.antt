@@ -1,0 +1,100 @@
+-- Where a row has a text: what it is, and that it is as wide as the row.
+use Prim.Native.Nat.{ℕ, _-_, _≤_, _<_}
+use mathlib.Core.Path.{_≡_, refl, ap, _∙_}
+use mathlib.Core.Bool.{Bool, true, false, cond, _&&_, _||_, and-eq-true-iff}
+use mathlib.Core.List.{List, [], _∷_}
+use native.Mathlib.Omega.{arith}
+use borrow.Author.Tests.{leb-true, eqb-true}
+use lib.Dec.{leb, eqb}
+use lib.ListN.{length, take, length-replicate}
+use lib.Seq.{length-take-le}
+use Rattle.laws.specs.Order.{same}
+use Rattle.amount.specs.Denotes.{space}
+use Rattle.amount.specs.Write.{Written, filled, refused, blankText}
+use Rattle.amount.specs.WriteLaws.{fills-right}
+use Rattle.layout.specs.declared.cells.Held.{Held}
+use Rattle.layout.specs.declared.cells.Held.the-variants.{Nothing, Units}
+use Rattle.layout.specs.declared.rows.Row.{Row}
+use Rattle.layout.specs.declared.rows.Row.the-variants.{Text, MarketType, Status, Price, Quantity, Turnover}
+use Rattle.amount.specs.Kinds.{Kind, price, quantity, turnover}
+use Rattle.layout.specs.Rows.{widthOf}
+use Rattle.layout.specs.Cells.{none, byteIn, heldIn, cellOf, seenCell}
+use Rattle.layout.specs.CellsLaws.{byte-back, cell-back, amount-cell}
+use Rattle.layout.specs.Read.{isMarketType, isStatus}
+use Rattle.layout.specs.Write.{RowText, text, malformed, rowText, keyText, letterText, heldText, ofWritten, allPrintable}
+
+-- the letters that the rows take are bytes
+pub market-small : (byte : ℕ) → isMarketType byte ≡ true → byte < 256
+market-small byte e = omega (arith, eqb-true byte 78 e)
+
+pub status-small : (byte : ℕ) → isStatus byte ≡ true → byte < 256
+status-small byte e = go (eqb byte 83) refl e
+  where
+    go : (first : Bool) → eqb byte 83 ≡ first → (first || eqb byte 32) ≡ true → byte < 256
+    go true is e = omega (arith, eqb-true byte 83 is)
+    go false is e = omega (arith, eqb-true byte 32 e)
+
+chosen : (taken : Bool) {t : List ℕ} {u : RowText} → cond taken u malformed ≡ text t → (taken ≡ true) × (u ≡ text t)
+chosen true e = (refl, e)
+chosen false e = (cc, cc)
+
+-- a key's text is a part of it, of bytes that may be written
+pub key-is : (width : ℕ) (key : List ℕ) {t : List ℕ} → keyText width key ≡ text t
+    → (width ≤ length key) × (allPrintable (take width key) ≡ true) × (t ≡ take width key)
+key-is width key {t} e =
+    let taken = chosen (leb width (length key) && allPrintable (take width key)) e in
+    let both = and-eq-true-iff (leb width (length key)) (allPrintable (take width key)) .0 (taken .0) in
+    let chars = taken .1 in
+    (leb-true width (length key) (both .0), both .1, cc)
+
+-- a letter's text is the letter
+pub letter-is : (taken : ℕ → Bool) (cell : ℕ) {t : List ℕ} → letterText taken cell ≡ text t → (taken cell ≡ true) × (t ≡ cell ∷ [])
+letter-is taken cell {t} e =
+    let c = chosen (taken cell) e in
+    let chars = c .1 in
+    (c .0, cc)
+
+pub filled-is : (w : Written) {t : List ℕ} → ofWritten w ≡ text t → w ≡ filled t
+filled-is (filled characters) e = cc
+filled-is refused e = cc
+
+-- what fills a field denotes the amount, and is as wide
+number-width : (kind : Kind) (width : ℕ) (held : Held) {t : List ℕ} → heldText kind width held ≡ text t → length t ≡ width
+number-width kind width Nothing {t} e =
+    let same : t ≡ blankText width = cc in
+    rw same (length-replicate width space)
+number-width kind width (Units n) {t} e = fills-right (kind .places) (kind .most) width n t (filled-is _ e) .full
+
+pub text-width : (row : Row) (key : List ℕ) (cell : ℕ) {t : List ℕ} → rowText row key cell ≡ text t → length t ≡ widthOf row
+unfolding rowText
+text-width (Text width) key cell e =
+    let k = key-is width key e in
+    rw (k .2) (length-take-le width key (k .0))
+text-width MarketType key cell e = ap length (letter-is isMarketType cell e .1)
+text-width Status key cell e = ap length (letter-is isStatus cell e .1)
+text-width (Price width) key cell e = number-width price width (heldIn cell) e
+text-width (Quantity width) key cell e = number-width quantity width (heldIn cell) e
+text-width (Turnover width) key cell e = number-width turnover width (heldIn cell) e
+
+-- a cell that has a text is not that of the one amount that no cell holds
+number-held : (kind : Kind) (width : ℕ) (held : Held) {t : List ℕ} → kind .most < none - 1 → heldText kind width held ≡ text t
+    → cellOf held ≡ none - 1 → ⊥
+number-held kind width Nothing small e h = omega arith
+number-held kind width (Units n) {t} small e h =
+    let most : n ≤ kind .most = fills-right (kind .places) (kind .most) width n t (filled-is _ e) .small in
+    omega (arith, amount-cell n (omega arith))
+
+letter-held : (taken : ℕ → Bool) → ((byte : ℕ) → taken byte ≡ true → byte < 256) → (cell : ℕ) {t : List ℕ} → letterText taken cell ≡ text t
+    → byteIn cell ≡ none - 1 → ⊥
+letter-held taken small cell e h =
+    let byte : cell < 256 = small cell (letter-is taken cell e .0) in
+    omega (arith, byte-back cell byte)
+
+pub text-held : (row : Row) (key : List ℕ) (cell : ℕ) {t : List ℕ} → rowText row key cell ≡ text t → seenCell row cell ≡ none - 1 → ⊥
+unfolding rowText
+text-held (Text width) key cell e h = omega arith
+text-held MarketType key cell e h = letter-held isMarketType market-small cell e h
+text-held Status key cell e h = letter-held isStatus status-small cell e h
+text-held (Price width) key cell e h = number-held price width (heldIn cell) (omega arith) e (cell-back cell ∙ h)
+text-held (Quantity width) key cell e h = number-held quantity width (heldIn cell) (omega arith) e (cell-back cell ∙ h)
+text-held (Turnover width) key cell e h = number-held turnover width (heldIn cell) (omega arith) e (cell-back cell ∙ h)

@@ -1,0 +1,128 @@
+-- Writing cells into the data of an update: 01 "Numbers in text", and the writer's order of checks: 11 and 12 by row.
+use Prim.Native.Nat.{ℕ, suc}
+use mathlib.Core.Path.{_≡_}
+use mathlib.Core.Bool.{Bool, true, cond, _&&_}
+use mathlib.Core.List.{List, [], _∷_, _++_}
+use lib.Dec.{leb}
+use lib.ListN.{length, getD, take, drop}
+use Rattle.amount.specs.declared.write.Put.{Put}
+use Rattle.amount.specs.declared.write.Put.the-variants as amount
+use Rattle.amount.specs.Write.{written, blankText, Written, filled, refused}
+use Rattle.layout.specs.declared.cells.Held.{Held}
+use Rattle.layout.specs.declared.cells.Held.the-variants.{Nothing, Units}
+use Rattle.layout.specs.declared.rows.Row.{Row}
+use Rattle.layout.specs.declared.rows.Row.the-variants.{Text, MarketType, Status, Price, Quantity, Turnover}
+use Rattle.layout.specs.declared.read.Verdict.{Verdict}
+use Rattle.layout.specs.declared.read.Verdict.the-variants.{Good, Field as FieldAt, Range as RangeAt}
+use Rattle.layout.specs.declared.write.RowsWritten.{RowsWritten}
+use Rattle.layout.specs.declared.write.RowPut.{RowPut}
+use Rattle.layout.specs.declared.write.RowPut.the-variants.{Fits, Field, Range}
+use Rattle.amount.specs.Kinds.{Kind, price, quantity, turnover}
+use Rattle.layout.specs.Cells.{heldIn}
+use Rattle.layout.specs.Read.{isMarketType, isStatus}
+
+-- 01, the table of refusals: a byte of a written key is 32 to 126
+abbrev pub printable : ℕ → Bool
+printable byte = leb 32 byte && leb byte 126
+
+abbrev pub allPrintable : List ℕ → Bool
+allPrintable [] = true
+allPrintable (b ∷ bs) = printable b && allPrintable bs
+
+-- what one row's field is to hold, or what is wrong with what is to be written
+pub data RowText : Type 0 where
+  text : List ℕ → RowText
+  malformed : RowText
+  out-of-range : RowText
+
+-- a part of the key, as it is
+abbrev pub keyText : ℕ → List ℕ → RowText
+keyText width key = cond (leb width (length key) && allPrintable (take width key)) (text (take width key)) malformed
+
+-- 01 "The message": a market type or a status, where it is one of those that the row takes
+abbrev pub letterText : (ℕ → Bool) → ℕ → RowText
+letterText taken letter = cond (taken letter) (text (letter ∷ [])) malformed
+
+abbrev pub ofWritten : Written → RowText
+ofWritten (filled characters) = text characters
+ofWritten refused = out-of-range
+
+-- a number, as its kind is written: "none" is all spaces
+abbrev pub heldText : Kind → ℕ → Held → RowText
+heldText kind width Nothing = text (blankText width)
+heldText kind width (Units n) = ofWritten (written (kind .places) (kind .most) width n)
+
+-- the text of one row: from what is left of the key, or from the row's cell
+unfoldable pub rowText : Row → List ℕ → ℕ → RowText
+rowText (Text width) key cell = keyText width key
+rowText MarketType key cell = letterText isMarketType cell
+rowText Status key cell = letterText isStatus cell
+rowText (Price width) key cell = heldText price width (heldIn cell)
+rowText (Quantity width) key cell = heldText quantity width (heldIn cell)
+rowText (Turnover width) key cell = heldText turnover width (heldIn cell)
+
+-- what a row takes of the key
+abbrev pub keyUsed : Row → ℕ
+keyUsed (Text width) = width
+keyUsed MarketType = 0
+keyUsed Status = 0
+keyUsed (Price width) = 0
+keyUsed (Quantity width) = 0
+keyUsed (Turnover width) = 0
+
+-- what writing rows gives: the bytes of the good rows in front of the first bad one, and the verdict
+pub record Laid : Type 0 where
+  pub bytes : List ℕ
+  pub verdict : Verdict
+
+-- a good row's text stands in front of those of the rows behind it; a bad row ends the writing at its place
+abbrev pub textThen : RowText → ℕ → Laid → Laid
+textThen (text characters) i rest = record { bytes = characters ++ rest .bytes; verdict = rest .verdict }
+textThen malformed i rest = record { bytes = []; verdict = FieldAt i }
+textThen out-of-range i rest = record { bytes = []; verdict = RangeAt i }
+
+-- the rows from row i on, in turn, a cell each
+abbrev pub writeRows : ℕ → List Row → List ℕ → List ℕ → Laid
+writeRows i [] key cells = record { bytes = []; verdict = Good }
+writeRows i (row ∷ rows) key cells =
+    textThen (rowText row key (getD cells 0 0)) i (writeRows (suc i) rows (drop (keyUsed row) key) (drop 1 cells))
+
+-- the answer for one row, and its field: a refusal leaves it as it was
+abbrev pub putOf : RowText → RowPut
+putOf (text characters) = Fits
+putOf malformed = Field
+putOf out-of-range = Range
+
+abbrev pub fieldAfter : RowText → List ℕ → List ℕ
+fieldAfter (text characters) before = characters
+fieldAfter malformed before = before
+fieldAfter out-of-range before = before
+
+-- the answer of the number writer
+abbrev pub ofPut : Put → RowPut
+ofPut amount.Fits = Fits
+ofPut amount.OutOfRange = Range
+
+pub record PutsRow (t : RowText) (before : List ℕ) (answer : RowPut) (after : List ℕ) : Type 0 where
+  pub answers : answer ≡ putOf t
+  pub leaves : after ≡ fieldAfter t before
+
+-- bytes laid over the front of a field, as many as it has room for
+abbrev pub laid : List ℕ → List ℕ → List ℕ
+laid bytes field = take (length field) bytes ++ drop (length bytes) field
+
+-- the answer of writing rows: the bytes stand in front
+pub record WritesRows (rows : Laid) (answer : RowsWritten) : Type 0 where
+  pub answers : answer .verdict ≡ rows .verdict
+  pub in-front : take (length (rows .bytes)) (answer .bytes) ≡ rows .bytes
+
+-- what a refusal leaves as it was
+abbrev pub whereGood : Verdict → List ℕ → List ℕ → List ℕ
+whereGood Good written before = written
+whereGood (FieldAt i) written before = before
+whereGood (RangeAt i) written before = before
+
+-- the answer of writing an update, and the lent data: good rows are laid over its front, a refusal changes no byte
+pub record WritesUpdate (rows : Laid) (before : List ℕ) (answer : Verdict) (after : List ℕ) : Type 0 where
+  pub answers : answer ≡ rows .verdict
+  pub leaves : after ≡ whereGood (rows .verdict) (laid (rows .bytes) before) before

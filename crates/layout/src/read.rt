@@ -1,0 +1,124 @@
+ghost use mathlib.Core.Path.{_≡_};
+ghost use Prim.Native.Nat.{_≤_};
+ghost use lib.ListN.{length, take};
+ghost use Rattle.layout.specs.Rows.{rowsOf};
+ghost use Rattle.layout.specs.Read.{readRow, ofNumber, isMarketType, isStatus, letterCell, ReadsRows};
+use crate::cells;
+use crate::cells::Held;
+use crate::rows;
+use crate::rows::Level;
+use crate::rows::Row;
+use amount::Number;
+use amount::Price;
+use amount::Quantity;
+use amount::Turnover;
+
+// A row's field as read: its cell, or what is wrong with it.
+pub enum RowRead {
+    Cell(u64),
+    Field,
+    Range,
+}
+
+// All rows are good, or the first bad one.
+pub enum Verdict {
+    Good,
+    Field(usize),
+    Range(usize),
+}
+
+// What reading rows answers, with the cells of the good rows in front of the first bad one, and zeros behind them.
+pub struct RowsRead {
+    pub verdict: Verdict,
+    pub cells: [u64; 37],
+}
+
+fn of_number(number: Number) -> RowRead
+    ensures { λ r. ⌜ r ≡ ofNumber number ⌝ }
+{
+    match number {
+        Number::None => RowRead::Cell(cells::cell_of(Held::Nothing)),
+        Number::Amount(units) => RowRead::Cell(cells::cell_of(Held::Units(units))),
+        Number::Malformed => RowRead::Field,
+        Number::OutOfRange => RowRead::Range,
+    }
+}
+
+fn market_type(byte: u8) -> RowRead
+    ensures { λ r. ⌜ r ≡ letterCell isMarketType byte ⌝ }
+{
+    if byte == b'N' {
+        RowRead::Cell(byte as u64)
+    } else {
+        RowRead::Field
+    }
+}
+
+fn status(byte: u8) -> RowRead
+    ensures { λ r. ⌜ r ≡ letterCell isStatus byte ⌝ }
+{
+    if byte == b'S' {
+        return RowRead::Cell(byte as u64);
+    }
+    if byte == b' ' {
+        return RowRead::Cell(byte as u64);
+    }
+    RowRead::Field
+}
+
+fn read_row(row: Row, field: &[u8]) -> RowRead
+    ensures { λ r. ⌜ r ≡ readRow row (now (field .entry)) ⌝ }
+{
+    match row {
+        Row::Text(_) => RowRead::Cell(0),
+        Row::MarketType => market_type(wire::u8_at(field, 0)),
+        Row::Status => status(wire::u8_at(field, 0)),
+        Row::Price(_) => of_number(Price::read(field)),
+        Row::Quantity(_) => of_number(Quantity::read(field)),
+        Row::Turnover(_) => of_number(Turnover::read(field)),
+    }
+}
+
+// The rows in turn, each with the bytes behind those of the row before it. It knows no layout: rows are data.
+fn read_rows(rows: [Row; 37], count: usize, data: &[u8]) -> RowsRead
+    requires { ⌜ (count ≤ 37) × (count ≤ length rows) ⌝ }
+    ensures { λ r. ⌜ ReadsRows (take count rows) (now («data» .entry)) r ⌝ }
+{
+    let mut cells = [0u64; 37];
+    let mut at = 0;
+    let mut i = 0;
+    while i < count {
+        let row = rows[i];
+        let end = at + rows::least(rows::width_of(row), data.len() - at);
+        match read_row(row, &data[at..end]) {
+            RowRead::Cell(cell) => {
+                cells[i] = cell;
+            }
+            RowRead::Field => {
+                return RowsRead {
+                    verdict: Verdict::Field(i),
+                    cells,
+                };
+            }
+            RowRead::Range => {
+                return RowsRead {
+                    verdict: Verdict::Range(i),
+                    cells,
+                };
+            }
+        }
+        at = end;
+        i += 1;
+    }
+    RowsRead {
+        verdict: Verdict::Good,
+        cells,
+    }
+}
+
+// The rows of an update of that level, a cell each.
+pub fn read_update(level: Level, data: &[u8]) -> RowsRead
+    ensures { λ r. ⌜ ReadsRows (rowsOf level) (now («data» .entry)) r ⌝ }
+{
+    read_rows(rows::rows_of(level), rows::count_of(level), data)
+}

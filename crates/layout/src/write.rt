@@ -1,0 +1,218 @@
+ghost use mathlib.Core.Path.{_≡_};
+ghost use mathlib.Core.List.{[], _∷_};
+ghost use Prim.Native.Nat.{_≤_};
+ghost use lib.ListN.{length, take};
+ghost use Rattle.amount.specs.Write.{blankText};
+ghost use Rattle.layout.specs.Rows.{rowsOf, widthOf, dataLength};
+ghost use Rattle.layout.specs.Read.{isMarketType, isStatus};
+ghost use Rattle.layout.specs.Write.{text, allPrintable, keyText, letterText, rowText, ofPut, PutsRow, laid, keyUsed, writeRows, WritesRows, WritesUpdate};
+use crate::cells;
+use crate::cells::Held;
+use crate::read::Verdict;
+use crate::rows;
+use crate::rows::Level;
+use crate::rows::Row;
+use amount::Price;
+use amount::Put;
+use amount::Quantity;
+use amount::Turnover;
+
+// What becomes of one row's field: it is filled, or what is wrong with what is to be written.
+pub enum RowPut {
+    Fits,
+    Field,
+    Range,
+}
+
+// What writing rows gives: the verdict, and in front the bytes of the good rows before the first bad one.
+struct RowsWritten {
+    verdict: Verdict,
+    bytes: [u8; 494],
+}
+
+fn all_printable(text: &[u8]) -> bool
+    ensures { λ r. ⌜ r ≡ allPrintable (now (text .entry)) ⌝ }
+{
+    let mut i = 0;
+    while i < text.len() {
+        let byte = text[i];
+        if byte < 32 {
+            return false;
+        }
+        if 126 < byte {
+            return false;
+        }
+        i += 1;
+    }
+    true
+}
+
+// As much of the text as there is room for, from the front.
+fn put_front(text: &[u8], field: &mut [u8])
+    ensures { λ _. ⌜ now (field .exit) ≡ laid (now (text .entry)) (now (field .entry)) ⌝ }
+{
+    let n = rows::least(text.len(), field.len());
+    let mut i = 0;
+    while i < n {
+        field[i] = text[i];
+        i += 1;
+    }
+}
+
+// A part of the key, where its bytes may be written.
+fn put_key(key: &[u8], field: &mut [u8]) -> RowPut
+    ensures { λ r. ⌜ PutsRow (keyText (length (now (field .entry))) (now (key .entry))) (now (field .entry)) r (now (field .exit)) ⌝ }
+{
+    let width = field.len();
+    if key.len() < width {
+        return RowPut::Field;
+    }
+    if !all_printable(&key[..width]) {
+        return RowPut::Field;
+    }
+    put_front(&key[..width], field);
+    RowPut::Fits
+}
+
+fn put_letter(letter: u8, field: &mut [u8]) -> RowPut
+    requires { ⌜ length (now field) ≡ 1 ⌝ }
+    ensures { λ r. ⌜ PutsRow (text (letter ∷ [])) (now (field .entry)) r (now (field .exit)) ⌝ }
+{
+    field[0] = letter;
+    RowPut::Fits
+}
+
+fn put_none(field: &mut [u8]) -> RowPut
+    ensures { λ r. ⌜ PutsRow (text (blankText (length (now (field .entry))))) (now (field .entry)) r (now (field .exit)) ⌝ }
+{
+    amount::blank(field);
+    RowPut::Fits
+}
+
+fn of_put(put: Put) -> RowPut
+    ensures { λ r. ⌜ r ≡ ofPut put ⌝ }
+{
+    match put {
+        Put::Fits => RowPut::Fits,
+        Put::OutOfRange => RowPut::Range,
+    }
+}
+
+fn put_market_type(cell: u64, field: &mut [u8]) -> RowPut
+    requires { ⌜ length (now field) ≡ 1 ⌝ }
+    ensures { λ r. ⌜ PutsRow (letterText isMarketType cell) (now (field .entry)) r (now (field .exit)) ⌝ }
+{
+    if cell == b'N' as u64 {
+        return put_letter(b'N', field);
+    }
+    RowPut::Field
+}
+
+fn put_status(cell: u64, field: &mut [u8]) -> RowPut
+    requires { ⌜ length (now field) ≡ 1 ⌝ }
+    ensures { λ r. ⌜ PutsRow (letterText isStatus cell) (now (field .entry)) r (now (field .exit)) ⌝ }
+{
+    if cell == b'S' as u64 {
+        return put_letter(b'S', field);
+    }
+    if cell == b' ' as u64 {
+        return put_letter(b' ', field);
+    }
+    RowPut::Field
+}
+
+// One row, from what is left of the key or from the row's cell.
+fn put_row(row: Row, key: &[u8], cell: u64, field: &mut [u8]) -> RowPut
+    requires { ⌜ length (now field) ≡ widthOf row ⌝ }
+    ensures { λ r. ⌜ PutsRow (rowText row (now (key .entry)) cell) (now (field .entry)) r (now (field .exit)) ⌝ }
+{
+    match row {
+        Row::Text(_) => put_key(key, field),
+        Row::MarketType => put_market_type(cell, field),
+        Row::Status => put_status(cell, field),
+        Row::Price(_) => match cells::held_in(cell) {
+            Held::Nothing => put_none(field),
+            Held::Units(units) => of_put(Price::of(units).write(field)),
+        },
+        Row::Quantity(_) => match cells::held_in(cell) {
+            Held::Nothing => put_none(field),
+            Held::Units(units) => of_put(Quantity::of(units).write(field)),
+        },
+        Row::Turnover(_) => match cells::held_in(cell) {
+            Held::Nothing => put_none(field),
+            Held::Units(units) => of_put(Turnover::of(units).write(field)),
+        },
+    }
+}
+
+// What a row takes of the key.
+fn key_used(row: Row) -> usize
+    ensures { λ r. ⌜ r ≡ keyUsed row ⌝ }
+{
+    match row {
+        Row::Text(width) => width,
+        Row::MarketType => 0,
+        Row::Status => 0,
+        Row::Price(_) => 0,
+        Row::Quantity(_) => 0,
+        Row::Turnover(_) => 0,
+    }
+}
+
+// The rows in turn, each behind the bytes of the row before it. It knows no layout: rows are data.
+fn write_rows(rows: [Row; 37], count: usize, key: &[u8], cells: &[u64; 37]) -> RowsWritten
+    requires { ⌜ (count ≤ 37) × (count ≤ length rows) × (dataLength (take count rows) ≤ 494) ⌝ }
+    ensures { λ r. ⌜ WritesRows (writeRows 0 (take count rows) (now (key .entry)) (now (cells .entry))) r ⌝ }
+{
+    let mut bytes = [0u8; 494];
+    let mut at = 0;
+    let mut used = 0;
+    let mut i = 0;
+    while i < count {
+        let row = rows[i];
+        let end = at + rows::width_of(row);
+        match put_row(row, &key[used..], cells[i], &mut bytes[at..end]) {
+            RowPut::Fits => {}
+            RowPut::Field => {
+                return RowsWritten {
+                    verdict: Verdict::Field(i),
+                    bytes,
+                };
+            }
+            RowPut::Range => {
+                return RowsWritten {
+                    verdict: Verdict::Range(i),
+                    bytes,
+                };
+            }
+        }
+        used += rows::least(key_used(row), key.len() - used);
+        at = end;
+        i += 1;
+    }
+    RowsWritten {
+        verdict: Verdict::Good,
+        bytes,
+    }
+}
+
+// An update of that level. The data is written once every row is known to be good.
+pub fn write_update(level: Level, key: &[u8], cells: &[u64; 37], data: &mut [u8]) -> Verdict
+    ensures { λ r. ⌜ WritesUpdate (writeRows 0 (rowsOf level) (now (key .entry)) (now (cells .entry))) (now («data» .entry)) r (now («data» .exit)) ⌝ }
+{
+    let written = write_rows(rows::rows_of(level), rows::count_of(level), key, cells);
+    let verdict = written.verdict;
+    match verdict {
+        Verdict::Good => {}
+        Verdict::Field(_) => {
+            return verdict;
+        }
+        Verdict::Range(_) => {
+            return verdict;
+        }
+    }
+    let bytes = written.bytes;
+    let length = rows::data_length(level);
+    put_front(&bytes[..length], data);
+    verdict
+}

@@ -1,0 +1,86 @@
+-- Messages and what is answered: 01 "Cases", P5's message, and one for each rule that the others leave standing.
+use Prim.Native.Nat.{ℕ}
+use mathlib.Core.Path.{_≡_, refl}
+use mathlib.Core.List.{List, [], _∷_, _++_, map}
+use lib.ListN.{replicate}
+use Rattle.wire.specs.Checksum.{bitStep, byteStep}
+use Rattle.amount.specs.Read.{step, walk, readText}
+use Rattle.contracts.specs.File.{keySize, segmentsOf, letterAt, countAt, offsetAt, keyFrom}
+use Rattle.contracts.specs.Halving.{halvedIn}
+use Rattle.contracts.specs.Lookup.{segmentOf, lookup}
+use Rattle.layout.specs.Read.{readRow}
+use Rattle.layout.specs.Rows.{rowsOf}
+use Rattle.message.specs.Codes.{takesLength, levelOf}
+use Rattle.message.specs.Fields.{letterOf, secondOf, lengthOf, numberOf, dataOf, sumSent, endByte, kindIn, rightSum}
+use Rattle.message.specs.Head.{framed, coded, trailed, summed, headOf}
+use Rattle.message.specs.Message.{keyOf, keyPlace, contentsOf, messageOf}
+use Rattle.message.specs.Numbers.{whatNumbers}
+
+-- 01 "The contract list": one contract, whose key is one byte throughout, makes 49 bytes with offset 10
+abbrev pub listOf : ℕ → List ℕ
+listOf letter = 0 ∷ 1 ∷ letter ∷ 0 ∷ 0 ∷ 1 ∷ 0 ∷ 0 ∷ 0 ∷ 10 ∷ replicate keySize 65
+
+abbrev pub D : ℕ
+D = 0x44
+
+abbrev pub T : ℕ
+T = 0x54
+
+-- a letter that is listed, the letter of the first message, and the bytes left
+pub record Given : Type 0 where
+  pub listed : ℕ
+  pub first : ℕ
+  pub bytes : List ℕ
+
+abbrev pub given : ℕ → ℕ → List ℕ → Given
+given listed first bytes = record { listed = listed; first = first; bytes = bytes }
+
+-- a D message of 11 bytes: its second byte, its number, its sum and its end byte
+abbrev pub short : ℕ → ℕ → List ℕ → ℕ → List ℕ
+short second number sum end = D ∷ second ∷ 0 ∷ 11 ∷ 0 ∷ 0 ∷ 0 ∷ number ∷ sum ++ (end ∷ [])
+
+-- an update with number 7: its length (2 bytes), a key of one byte throughout, its market type, blank rows and its sum
+abbrev pub update : List ℕ → ℕ → ℕ → ℕ → List ℕ → List ℕ
+update long byte market blank sum =
+    D ∷ 0x4E ∷ long ++ (0 ∷ 0 ∷ 0 ∷ 7 ∷ replicate keySize byte) ++ (market ∷ replicate blank 32) ++ sum ++ (13 ∷ [])
+
+-- what is answered in the paper's numbers, and the length
+abbrev pub answered : Given → List ℕ
+answered g =
+    let m = messageOf (listOf (g .listed)) (g .first) (g .bytes) in
+    whatNumbers (m .what) ++ (m .length ∷ [])
+
+abbrev pub messages : List Given
+messages =
+    -- P5, and the same where only T is listed, and in a batch that begins with T
+    given D D (short 0x48 0 (0 ∷ 0 ∷ []) 13) ∷ given T D (short 0x48 0 (0 ∷ 0 ∷ []) 13) ∷ given T T (short 0x48 0 (0 ∷ 0 ∷ []) 13) ∷
+    -- 7 bytes left; a length of 10; a length over what is left; more bytes behind the message
+    given D D (D ∷ 0x48 ∷ 0 ∷ 11 ∷ 0 ∷ 0 ∷ 0 ∷ []) ∷ given D D (D ∷ 0x48 ∷ 0 ∷ 10 ∷ 0 ∷ 0 ∷ 0 ∷ 0 ∷ 0 ∷ 0 ∷ 13 ∷ []) ∷
+    given D D (D ∷ 0x48 ∷ 0 ∷ 12 ∷ 0 ∷ 0 ∷ 0 ∷ 0 ∷ 0 ∷ 0 ∷ 13 ∷ []) ∷ given D D (short 0x48 0 (0 ∷ 0 ∷ []) 13 ++ (D ∷ [])) ∷
+    -- a second byte h; an end byte 12; a heartbeat of 12 bytes; one with its right sum; one with number 1
+    given D D (short 0x68 0 (0 ∷ 0 ∷ []) 13) ∷ given D D (short 0x48 0 (0 ∷ 0 ∷ []) 12) ∷
+    given D D (D ∷ 0x48 ∷ 0 ∷ 12 ∷ 0 ∷ 0 ∷ 0 ∷ 0 ∷ 0 ∷ 0 ∷ 0 ∷ 13 ∷ []) ∷ given D D (short 0x48 0 (3 ∷ 91 ∷ []) 13) ∷
+    given D D (short 0x48 1 (0 ∷ 0 ∷ []) 13) ∷
+    -- passed over: with sum zero, right, high byte first; with number 0
+    given D D (short 0x45 1 (0 ∷ 0 ∷ []) 13) ∷ given D D (short 0x45 1 (40 ∷ 161 ∷ []) 13) ∷
+    given D D (short 0x45 1 (161 ∷ 40 ∷ []) 13) ∷ given D D (short 0x45 0 (0 ∷ 0 ∷ []) 13) ∷
+    -- an update of level 1, and of level 2; of 248 bytes; with sum zero
+    given D D (update (0 ∷ 249 ∷ []) 65 0x4E 198 (91 ∷ 132 ∷ [])) ∷ given D D (update (1 ∷ 249 ∷ []) 65 0x4E 454 (102 ∷ 187 ∷ [])) ∷
+    given D D (update (0 ∷ 248 ∷ []) 65 0x4E 197 (0 ∷ 0 ∷ [])) ∷ given D D (update (0 ∷ 249 ∷ []) 65 0x4E 198 (0 ∷ 0 ∷ [])) ∷
+    -- its key not listed; and its market type O too
+    given D D (update (0 ∷ 249 ∷ []) 66 0x4E 198 (97 ∷ 150 ∷ [])) ∷ given D D (update (0 ∷ 249 ∷ []) 66 0x4F 198 (205 ∷ 88 ∷ [])) ∷
+    []
+
+abbrev pub answers : List (List ℕ)
+answers =
+    (0 ∷ 11 ∷ []) ∷ (6 ∷ 11 ∷ []) ∷ (6 ∷ 11 ∷ []) ∷
+    (5 ∷ 11 ∷ []) ∷ (5 ∷ 10 ∷ []) ∷ (5 ∷ 12 ∷ []) ∷ (0 ∷ 11 ∷ []) ∷
+    (6 ∷ 11 ∷ []) ∷ (7 ∷ 11 ∷ []) ∷ (8 ∷ 12 ∷ []) ∷ (9 ∷ 11 ∷ []) ∷ (10 ∷ 11 ∷ []) ∷
+    (0 ∷ 1 ∷ 11 ∷ []) ∷ (0 ∷ 1 ∷ 11 ∷ []) ∷ (9 ∷ 11 ∷ []) ∷ (10 ∷ 11 ∷ []) ∷
+    (0 ∷ 7 ∷ 1 ∷ 0 ∷ 249 ∷ []) ∷ (0 ∷ 7 ∷ 2 ∷ 0 ∷ 505 ∷ []) ∷ (8 ∷ 248 ∷ []) ∷ (9 ∷ 249 ∷ []) ∷
+    (13 ∷ 249 ∷ []) ∷ (11 ∷ 5 ∷ 249 ∷ []) ∷
+    []
+
+pub messages-answered : map answered messages ≡ answers
+unfolding bitStep byteStep step walk readText segmentsOf letterAt countAt offsetAt keyFrom halvedIn segmentOf lookup readRow rowsOf takesLength levelOf letterOf secondOf lengthOf numberOf dataOf sumSent endByte kindIn rightSum framed coded trailed summed headOf keyOf keyPlace contentsOf messageOf
+messages-answered = refl

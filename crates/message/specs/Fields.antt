@@ -1,0 +1,43 @@
+-- The fields of a message: 01 "The message" and "The checksum". What stands past the end reads as zero.
+use Prim.Native.Nat.{ℕ, _-_}
+use mathlib.Core.List.{List, [], _∷_}
+use lib.ListN.{take, drop}
+use Rattle.wire.specs.Number.{numberAt}
+use Rattle.wire.specs.Checksum.{checksumOf}
+use Rattle.message.specs.declared.codes.Kind.{Kind}
+use Rattle.message.specs.Codes.{kindOf, bareLength}
+
+-- 01 "The message": code (2), length (2), sequence number (4), data, checksum (2), end byte
+abbrev pub dataAt : ℕ
+dataAt = 8
+
+unfoldable pub letterOf : List ℕ → ℕ
+letterOf bytes = numberAt 1 bytes 0
+
+unfoldable pub secondOf : List ℕ → ℕ
+secondOf bytes = numberAt 1 bytes 1
+
+unfoldable pub lengthOf : List ℕ → ℕ
+lengthOf bytes = numberAt 2 bytes 2
+
+unfoldable pub numberOf : List ℕ → ℕ
+numberOf bytes = numberAt 4 bytes 4
+
+unfoldable pub dataOf : List ℕ → List ℕ
+dataOf bytes = take (lengthOf bytes - bareLength) (drop dataAt bytes)
+
+unfoldable pub sumSent : List ℕ → List ℕ
+sumSent bytes = numberAt 1 bytes (lengthOf bytes - 3) ∷ numberAt 1 bytes (lengthOf bytes - 2) ∷ []
+
+unfoldable pub endByte : List ℕ → ℕ
+endByte bytes = numberAt 1 bytes (lengthOf bytes - 1)
+
+unfoldable pub kindIn : List ℕ → Kind
+kindIn bytes = kindOf (secondOf bytes)
+
+-- 01 "The checksum": by the routine, over all bytes before the trailer
+unfoldable pub rightSum : List ℕ → List ℕ
+rightSum bytes = checksumOf (take (lengthOf bytes - 3) bytes)
+
+abbrev pub zeroSum : List ℕ
+zeroSum = 0 ∷ 0 ∷ []

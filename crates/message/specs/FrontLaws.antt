@@ -1,0 +1,102 @@
+-- A message is the bytes that its length counts: what stands behind them makes no difference.
+use Prim.Native.Nat.{ℕ, _+_, _-_, _≤_}
+use mathlib.Core.Path.{_≡_, ap, sym, _∙_}
+use mathlib.Core.List.{List}
+use native.Mathlib.Omega.{arith}
+use lib.ListN.{length, take}
+use lib.Seq.{length-take-le, take-take}
+use Rattle.laws.specs.Lists.{part-of-front}
+use Rattle.wire.specs.NumberLaws.{number-of-front}
+use Rattle.wire.specs.Number.{numberAt}
+use Rattle.message.specs.Codes.{bareLength, kindOf}
+use Rattle.message.specs.Good.{Framed}
+use Rattle.message.specs.Fields.{dataAt, letterOf, secondOf, lengthOf, numberOf, dataOf, sumSent, endByte, kindIn, rightSum}
+use Rattle.message.specs.Head.{framed, coded, trailed, summed, headOf}
+use Rattle.message.specs.HeadLaws.{framed-exact}
+use Rattle.message.specs.Message.{keyOf, contentsOf, messageOf}
+
+-- the length stands in the first four bytes
+front-length : (s : List ℕ) (n : ℕ) → 4 ≤ n → lengthOf (take n s) ≡ lengthOf s
+unfolding lengthOf
+front-length s n h = number-of-front 2 n s 2 h
+
+-- the message's own bytes
+abbrev pub ownBytes : List ℕ → List ℕ
+ownBytes bytes = take (lengthOf bytes) bytes
+
+module _ (bytes : List ℕ) (f : Framed bytes) where
+  number-same : (width at : ℕ) → at + width ≤ lengthOf bytes → numberAt width (ownBytes bytes) at ≡ numberAt width bytes at
+  number-same width at h = number-of-front width (lengthOf bytes) bytes at h
+
+  length-same : lengthOf (ownBytes bytes) ≡ lengthOf bytes
+  length-same = front-length bytes (lengthOf bytes) (omega arith)
+
+  letter-same : letterOf (ownBytes bytes) ≡ letterOf bytes
+  unfolding letterOf
+  letter-same = number-same 1 0 (omega arith)
+
+  second-same : secondOf (ownBytes bytes) ≡ secondOf bytes
+  unfolding secondOf
+  second-same = number-same 1 1 (omega arith)
+
+  sequence-same : numberOf (ownBytes bytes) ≡ numberOf bytes
+  unfolding numberOf
+  sequence-same = number-same 4 4 (omega arith)
+
+  kind-same : kindIn (ownBytes bytes) ≡ kindIn bytes
+  unfolding kindIn
+  kind-same = ap kindOf second-same
+
+  end-same : endByte (ownBytes bytes) ≡ endByte bytes
+  unfolding endByte
+  end-same = rw length-same (number-same 1 (lengthOf bytes - 1) (omega arith))
+
+  sent-same : sumSent (ownBytes bytes) ≡ sumSent bytes
+  unfolding sumSent
+  sent-same = rw (length-same, number-same 1 (lengthOf bytes - 3) (omega arith), number-same 1 (lengthOf bytes - 2) (omega arith))
+
+  right-same : rightSum (ownBytes bytes) ≡ rightSum bytes
+  unfolding rightSum
+  right-same = rw (length-same, take-take (lengthOf bytes - 3) (lengthOf bytes) bytes (omega arith))
+
+  data-same : dataOf (ownBytes bytes) ≡ dataOf bytes
+  unfolding dataOf
+  data-same = rw (length-same, part-of-front dataAt (lengthOf bytes - bareLength) (lengthOf bytes) bytes (omega arith))
+
+  own-framed : Framed (ownBytes bytes)
+  own-framed =
+      let long : length (ownBytes bytes) ≡ lengthOf bytes = length-take-le (lengthOf bytes) bytes (f .within) in
+      record { begun = omega arith; least = rw length-same (f .least); within = rw (length-same, long) (omega arith) }
+
+  framed-same : framed (ownBytes bytes) ≡ framed bytes
+  framed-same = framed-exact (ownBytes bytes) .1 own-framed ∙ sym (framed-exact bytes .1 f)
+
+  module _ (list : List ℕ) (letter : ℕ) where
+    coded-same : coded list letter (ownBytes bytes) ≡ coded list letter bytes
+    unfolding coded
+    coded-same = rw (letter-same, second-same)
+
+    head-same : headOf list letter (ownBytes bytes) ≡ headOf list letter bytes
+    unfolding headOf trailed summed
+    head-same = rw (framed-same, coded-same, end-same, kind-same, length-same, sent-same, right-same, sequence-same)
+
+    pub contents-same : contentsOf list letter (ownBytes bytes) ≡ contentsOf list letter bytes
+    unfolding contentsOf keyOf
+    contents-same = rw (kind-same, length-same, data-same, sequence-same)
+
+    pub message-same : messageOf list letter (ownBytes bytes) ≡ messageOf list letter bytes
+    unfolding messageOf
+    message-same = rw (head-same, length-same, contents-same)
+
+-- two strings that begin with the same message
+module _ (a b : List ℕ) (f : Framed a) (there : lengthOf a ≤ length b) (same : take (lengthOf a) a ≡ take (lengthOf a) b) where
+  other-length : lengthOf b ≡ lengthOf a
+  other-length =
+      sym (front-length b (lengthOf a) (omega arith)) ∙ ap lengthOf (sym same) ∙ front-length a (lengthOf a) (omega arith)
+
+  pub other-framed : Framed b
+  other-framed = record { begun = omega arith; least = rw other-length (f .least); within = rw other-length there }
+
+  pub same-message : (list : List ℕ) (letter : ℕ) → messageOf list letter a ≡ messageOf list letter b
+  same-message list letter =
+      sym (message-same a f list letter) ∙ ap (messageOf list letter) (same ∙ ap (λ (n : ℕ). take n b) (sym other-length)) ∙ message-same b other-framed list letter

@@ -1,0 +1,111 @@
+-- A message has no fault exactly when it is good.
+use Prim.Native.Nat.{ℕ, zero, suc}
+use mathlib.Core.Path.{_≡_, refl, ap, sym, _∙_}
+use mathlib.Core.Bool.{true, false≢true}
+use mathlib.Core.Logic.{_↔_}
+use mathlib.Core.List.{List, [], _∷_}
+use mathlib.Core.Option.{Option, none, some}
+use native.Mathlib.Omega.{arith}
+use lib.ListN.{take, drop}
+use lib.Seq.{drop-drop}
+use Rattle.layout.specs.declared.read.RowRead.{RowRead}
+use Rattle.layout.specs.declared.read.RowRead.the-variants.{Cell, Field, Range}
+use Rattle.layout.specs.declared.rows.Row.{Row}
+use Rattle.layout.specs.Read.{readRow}
+use Rattle.layout.specs.Rows.{widthOf, offsetOf}
+use Rattle.message.specs.declared.codes.Kind.{Kind}
+use Rattle.message.specs.declared.codes.Kind.the-variants.{Heartbeat, Update, PassedOver}
+use Rattle.message.specs.Good.{GoodMessage, GoodRows, HasContract, rowAt, fieldAt}
+use Rattle.message.specs.Fields.{lengthOf, numberOf, dataOf, kindIn}
+use Rattle.message.specs.Head.{headRules}
+use Rattle.message.specs.CodesLaws.{length-exact}
+use Rattle.message.specs.HeadLaws.{framed-exact, coded-exact, trailed-exact, summed-exact, number-exact}
+use Rattle.message.specs.declared.head.Head.the-variants.{Good}
+use Rattle.message.specs.Message.{keyOf, keyPlace, rowsIn, messageOf}
+use Rattle.message.specs.Order.{isFormed, isInRange, rowRules, keyRules, bodyRules, messageRules}
+use Rattle.message.specs.Numbers.{verdictOf}
+use Rattle.message.specs.OrderLaws.{message-first}
+use Rattle.message.specs.Rules.{Hold}
+use Rattle.message.specs.RulesLaws.{hold-append, good-hold, hold-good}
+
+-- a row that is well formed and in range has a cell
+cell-exact : (answer : RowRead) → (isFormed answer ≡ true) × (isInRange answer ≡ true) ↔ (cell : ℕ) × (answer ≡ Cell cell)
+cell-exact (Cell cell) = ((λ h. (cell, refl)), (λ h. (refl, refl)))
+cell-exact Field = ((λ h. absurd (false≢true (h .0))), (λ h. (cc, refl)))
+cell-exact Range = ((λ h. absurd (false≢true (h .1))), (λ h. (refl, cc)))
+
+-- the rows behind the first are the rows of the bytes behind it
+module _ (row : Row) (rows : List Row) (bytes : List ℕ) where
+  field-behind : (i : ℕ) → fieldAt (row ∷ rows) (suc i) bytes ≡ fieldAt rows i (drop (widthOf row) bytes)
+  field-behind i = ap (take (widthOf (rowAt rows i))) (sym (drop-drop (offsetOf rows i) (widthOf row) bytes))
+
+  abbrev Split : Type 0
+  Split = ((cell : ℕ) × (readRow row (take (widthOf row) bytes) ≡ Cell cell)) × GoodRows rows (drop (widthOf row) bytes)
+
+  rows-split : GoodRows (row ∷ rows) bytes ↔ Split
+  rows-split = (apart, joined)
+    where
+      apart : GoodRows (row ∷ rows) bytes → Split
+      apart h =
+          (h 0 (omega arith), (λ i l. let p = h (suc i) (omega arith) in (p .0, ap (readRow (rowAt rows i)) (sym (field-behind i)) ∙ p .1)))
+
+      joined : Split → GoodRows (row ∷ rows) bytes
+      joined h zero l = h .0
+      joined h (suc i) l =
+          let p = h .1 i (omega arith) in
+          (p .0, ap (readRow (rowAt rows i)) (field-behind i) ∙ p .1)
+
+-- 11 and 12
+rows-exact : (i : ℕ) (rows : List Row) (bytes : List ℕ) → Hold (rowRules i rows bytes) ↔ GoodRows rows bytes
+rows-exact i [] bytes = ((λ h j l. absurd (omega arith)), (λ h. tt))
+rows-exact i (row ∷ rows) bytes =
+    let here = cell-exact (readRow row (take (widthOf row) bytes)) in
+    let rest = rows-exact (suc i) rows (drop (widthOf row) bytes) in
+    let parts = rows-split row rows bytes in (
+      (λ h. parts .1 (here .0 (h .0, h .1 .0), rest .0 (h .1 .1))),
+      (λ g. let p = parts .0 g in let r = here .1 (p .0) in (r .0, (r .1, rest .1 (p .1)))),
+    )
+
+-- 13
+contract-exact : (kind : Kind) (place : Option ℕ) → Hold (keyRules kind place) ↔ HasContract kind place
+contract-exact Heartbeat place = ((λ h. tt), (λ h. tt))
+contract-exact PassedOver place = ((λ h. tt), (λ h. tt))
+contract-exact Update none = ((λ h. absurd (false≢true (h .0))), (λ h. (cc, tt)))
+contract-exact Update (some k) = ((λ h. (k, refl)), (λ h. (refl, tt)))
+
+module _ (list : List ℕ) (letter : ℕ) (bytes : List ℕ) where
+  pub rules-exact : Hold (messageRules list letter bytes) ↔ GoodMessage list letter bytes
+  rules-exact =
+      let head = hold-append (headRules list letter bytes) (bodyRules list letter bytes) in
+      let body = hold-append (rowRules 0 (rowsIn (kindIn bytes) (lengthOf bytes)) (dataOf bytes)) (keyRules (kindIn bytes) (keyPlace list letter (keyOf bytes))) in
+      let rows = rows-exact 0 (rowsIn (kindIn bytes) (lengthOf bytes)) (dataOf bytes) in
+      let key = contract-exact (kindIn bytes) (keyPlace list letter (keyOf bytes)) in (
+        (λ h.
+            let p = head .0 h in
+            let q = body .0 (p .1) in
+            record {
+              frame = framed-exact bytes .0 (p .0 .0);
+              code = coded-exact list letter bytes .0 (p .0 .1 .0);
+              trailer = trailed-exact bytes .0 (p .0 .1 .1 .0);
+              length-of-kind = length-exact (kindIn bytes) (lengthOf bytes) .0 (p .0 .1 .1 .1 .0);
+              checksum = summed-exact bytes .0 (p .0 .1 .1 .1 .1 .0);
+              numbering = number-exact (kindIn bytes) (numberOf bytes) .0 (p .0 .1 .1 .1 .1 .1 .0);
+              rows = rows .0 (q .0);
+              contract = key .0 (q .1);
+            }),
+        (λ g.
+            let five = framed-exact bytes .1 (g .frame) in
+            let six = coded-exact list letter bytes .1 (g .code) in
+            let seven = trailed-exact bytes .1 (g .trailer) in
+            let eight = length-exact (kindIn bytes) (lengthOf bytes) .1 (g .length-of-kind) in
+            let nine = summed-exact bytes .1 (g .checksum) in
+            let ten = number-exact (kindIn bytes) (numberOf bytes) .1 (g .numbering) in
+            head .1 ((five, (six, (seven, (eight, (nine, (ten, tt)))))), body .1 (rows .1 (g .rows), key .1 (g .contract)))),
+      )
+
+  -- no fault is answered exactly when the message is good
+  pub good-exact : verdictOf (messageOf list letter bytes .what) ≡ Good ↔ GoodMessage list letter bytes
+  good-exact = (
+    (λ e. rules-exact .0 (good-hold (messageRules list letter bytes) (sym (message-first list letter bytes) ∙ e))),
+    (λ g. message-first list letter bytes ∙ hold-good (messageRules list letter bytes) (rules-exact .1 g)),
+  )

@@ -1,0 +1,49 @@
+-- The answers of this crate in the paper's numbers.
+use Prim.Native.Nat.{ℕ}
+use mathlib.Core.List.{List, [], _∷_}
+use Rattle.layout.specs.declared.rows.Level.{Level}
+use Rattle.layout.specs.declared.rows.Level.the-variants.{One, Two}
+use Rattle.message.specs.declared.body.What.{What}
+use Rattle.message.specs.declared.body.What.the-variants.{Heartbeat, PassedOver, Update, Bad}
+use Rattle.message.specs.declared.head.Fault.{Fault}
+use Rattle.message.specs.declared.head.Fault.the-variants.{Frame, Code, Trailer, Length, Checksum, Numbering, Field, Range, Contract}
+use Rattle.message.specs.declared.head.Head.{Head}
+use Rattle.message.specs.declared.head.Head.the-variants as head
+
+-- 01, the table: the row's number, and the row of the data where it returns one
+abbrev pub faultNumbers : Fault → List ℕ
+faultNumbers Frame = 5 ∷ []
+faultNumbers Code = 6 ∷ []
+faultNumbers Trailer = 7 ∷ []
+faultNumbers Length = 8 ∷ []
+faultNumbers Checksum = 9 ∷ []
+faultNumbers Numbering = 10 ∷ []
+faultNumbers (Field row) = 11 ∷ row ∷ []
+faultNumbers (Range row) = 12 ∷ row ∷ []
+faultNumbers Contract = 13 ∷ []
+
+-- 01 "What may be asked": the level asked for is 1 or 2
+abbrev pub levelNumber : Level → ℕ
+levelNumber One = 1
+levelNumber Two = 2
+
+-- 0 for a message with no fault; then the number by which it counts in the sequence, an update's level and its place
+abbrev pub whatNumbers : What → List ℕ
+whatNumbers Heartbeat = 0 ∷ []
+whatNumbers (PassedOver number) = 0 ∷ number ∷ []
+whatNumbers (Update number level place) = 0 ∷ number ∷ levelNumber level ∷ place ∷ []
+whatNumbers (Bad fault) = faultNumbers fault
+
+-- the fault of a message, if it has one
+abbrev pub verdictOf : What → Head
+verdictOf Heartbeat = head.Good
+verdictOf (PassedOver number) = head.Good
+verdictOf (Update number level place) = head.Good
+verdictOf (Bad fault) = head.Bad fault
+
+-- 01 "Sequence and gaps": a heartbeat has number 0
+abbrev pub numberIn : What → ℕ
+numberIn Heartbeat = 0
+numberIn (PassedOver number) = number
+numberIn (Update number level place) = number
+numberIn (Bad fault) = 0

@@ -1,0 +1,15 @@
+// One message: the checks 5 to 13 in document 01's order, and what the message is.
+mod body;
+mod codes;
+mod fields;
+mod head;
+
+pub use body::Message;
+pub use body::What;
+pub use body::contents;
+pub use body::find;
+pub use body::read;
+pub use codes::Kind;
+pub use fields::letter_of;
+pub use head::Fault;
+pub use head::Head;

@@ -6,7 +6,7 @@ use mathlib.Core.Logic.{⊎-elim}
 use native.Mathlib.Omega.{arith}
 use native.Mathlib.Numerals.{add-one, sub-one}
 use native.Mathlib.Nat.{le-of-suc-le-suc, not-suc-le-zero, zero-add, add-zero, suc-add}
-use lib.ListN.{length, getD, take, drop, set, replicate, drop-of-length-le}
+use lib.ListN.{length, getD, take, drop, set, replicate, drop-of-length-le, length-drop}
 use lib.Seq.{take-all, take-suc, drop-cons, set-at, length-take-le, take-nil, drop-nil, take-take, sets}
 use Rattle.laws.specs.Order.{order}
 
@@ -64,3 +64,20 @@ module _ {A : Type 0} where
   part-of-front b k n l h =
       let e : n ≡ b + (n - b) = omega arith in
       rw (e, drop-take b (n - b) l) (take-take k (n - b) (drop b l) (omega arith))
+
+  -- one more store of a run of stores
+  pub sets-more : (l vs : List A) (k i : ℕ) (a : A) → i < length vs → set (sets l k (take i vs)) (k + i) (getD vs i a) ≡ sets l k (take (suc i) vs)
+  sets-more l [] k i a h = absurd (omega arith)
+  sets-more l (v ∷ vs) k zero a h = rw (add-zero k)
+  sets-more l (v ∷ vs) k (suc i) a h =
+      let e : k + suc i ≡ suc k + i = omega arith in
+      rw e (sets-more (set l k v) vs (suc k) i a (omega arith))
+
+  -- what stands between two places, cut from either side first
+  pub middle : (l : List A) (b n : ℕ) → n ≤ length l → take (n - b) (drop b l) ≡ drop b (take n l)
+  middle l b n h =
+      ⊎-elim (λ (le : b ≤ n). sym (part-of-front b (n - b) n l (omega arith)) ∙ take-all (n - b) (drop b (take n l)) (omega (arith, length-drop b (take n l), length-take-le n l h)))
+      (λ (lt : n < b).
+      let e : n - b ≡ 0 = omega arith in
+      rw e (sym (drop-of-length-le (take n l) {i = b} (omega (arith, length-take-le n l h)))))
+      (order b n)

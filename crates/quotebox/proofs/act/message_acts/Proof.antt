@@ -1,0 +1,66 @@
+-- Each kind of message by its law.
+use Prim.Native.Nat.{ℕ}
+use mathlib.Core.Path.{refl}
+use mathlib.Core.List.{List}
+use Rattle.quotebox.specs.ActsLaws.{heartbeat-acts, numbered, bad-acts}
+use Rattle.quotebox.specs.Batch.{Box, stored, contractAt, recordOf}
+use Rattle.quotebox.specs.Memory.{recordAt}
+use borrow.Author.Needs.{needs}
+use Rattle.quotebox.proofs.act.message_acts.Statement.{statement}
+use Rattle.quotebox.proofs.act.message_acts.Tie as tie
+
+read-requires : tie.Need-read-requires
+read-requires c κs = search needs
+
+enum-told : tie.Need-enum-told
+enum-told c = search needs
+
+enum-known-what : tie.Need-enum-known-what
+enum-known-what c = search needs
+
+number-acts-requires : tie.Need-number-acts-requires
+number-acts-requires c κs = search needs
+
+enum-known-what-2 : tie.Need-enum-known-what-2
+enum-known-what-2 c = search needs
+
+number-acts-requires-2 : tie.Need-number-acts-requires-2
+number-acts-requires-2 c κs = search needs
+
+enum-known-what-3 : tie.Need-enum-known-what-3
+enum-known-what-3 c = search needs
+
+of-fault-requires : tie.Need-of-fault-requires
+of-fault-requires c κs = search needs
+
+returns : tie.Need-returns
+returns c = heartbeat-acts _ _ _ _ (c .before .before .read .ensures) (c .enum-told .given .1) refl _ _ (c .before .before .before .before .before .pre)
+
+returns-2 : tie.Need-returns-2
+returns-2 c = numbered _ _ _ _ (c .before .before .before .before .before .read .ensures) (c .before .before .before .what .given .1) _ _ _ _ _ (λ (records : List ℕ). records) refl (λ (box : Box). refl) (c .number-acts .ensures)
+
+returns-3 : tie.Need-returns-3
+returns-3 c =
+    let a = c .before .before .before .before .before .before .before .before .args in
+    let u = c .before .before .before .what2 .given .0 in
+    numbered _ _ _ _ (c .before .before .before .before .before .read .ensures) (c .before .before .before .what2 .given .1) _ _ _ _ _ (stored (recordAt (contractAt (a .list .now) (a .letter) (u .1 .1 .0)) (u .1 .0)) (u .0) (recordOf (u .1 .0) (c .before .before .before .before .before .read .result .cells))) refl (λ (box : Box). refl) (c .number-acts2 .ensures)
+
+returns-4 : tie.Need-returns-4
+returns-4 c = bad-acts _ _ _ _ (c .before .before .before .before .read .ensures) (c .before .before .what3 .given .1) _ refl _ _ _ (c .of-fault .ensures) (c .before .before .before .before .before .before .before .pre)
+
+pub message-acts-spec : {M : Type 1} → statement M
+message-acts-spec =
+    tie.close
+    (tie.spec
+    read-requires
+    enum-told
+    enum-known-what
+    number-acts-requires
+    enum-known-what-2
+    number-acts-requires-2
+    enum-known-what-3
+    of-fault-requires
+    returns
+    returns-2
+    returns-3
+    returns-4)

@@ -1,0 +1,70 @@
+-- What becomes of a message while a batch is judged, in the terms of what the batch does: the words of the inner contracts.
+use Prim.Native.Nat.{ℕ, suc, _+_, _≤_}
+use mathlib.Core.Path.{_≡_}
+use mathlib.Core.Bool.{Bool, true, false}
+use mathlib.Core.List.{List}
+use lib.ListN.{length}
+use Rattle.sequence.specs.Row.{soundRow}
+use Rattle.message.specs.Fields.{lengthOf}
+use Rattle.quotebox.specs.declared.act.Act.{Act}
+use Rattle.quotebox.specs.declared.act.Act.the-variants.{Taken, Old, Heartbeat, Refused}
+use Rattle.quotebox.specs.declared.act.Counts.{Counts}
+use Rattle.quotebox.specs.declared.act.Step.{Step}
+use Rattle.quotebox.specs.declared.answers.Judged.{Judged}
+use Rattle.quotebox.specs.Answers.{judgedNumbers}
+use Rattle.quotebox.specs.Batch.{Box, Acted, acted, refused, numberActs, messageActs, messagesAct, actedNumbers}
+
+-- the counts with one message more
+abbrev pub counted : Act → Counts → Counts
+counted Taken counts = record { taken = suc (counts .taken); old = counts .old; heartbeats = counts .heartbeats }
+counted Old counts = record { taken = counts .taken; old = suc (counts .old); heartbeats = counts .heartbeats }
+counted Heartbeat counts = record { taken = counts .taken; old = counts .old; heartbeats = suc (counts .heartbeats) }
+counted (Refused refusal) counts = counts
+
+abbrev pub none : Counts
+none = record { taken = 0; old = 0; heartbeats = 0 }
+
+abbrev pub total : Counts → ℕ
+total counts = counts .taken + counts .old + counts .heartbeats
+
+-- a box by its parts
+abbrev pub boxAt : List ℕ → List ℕ → Counts → Box
+boxAt row records counts =
+    record { row = row; records = records; taken = counts .taken; old = counts .old; heartbeats = counts .heartbeats }
+
+-- only what is taken changes records
+abbrev pub changedBy : Act → (List ℕ → List ℕ) → List ℕ → List ℕ
+changedBy Taken changed records = changed records
+changedBy Old changed records = records
+changedBy Heartbeat changed records = records
+changedBy (Refused refusal) changed records = records
+
+abbrev pub passed : Act → Bool
+passed Taken = true
+passed Old = true
+passed Heartbeat = true
+passed (Refused refusal) = false
+
+abbrev pub actedAs : Act → Box → Acted
+actedAs Taken box = acted box
+actedAs Old box = acted box
+actedAs Heartbeat box = acted box
+actedAs (Refused refusal) box = refused refusal
+
+-- a number acts on a row, whatever the records and counts are
+pub record NumberActs (row : List ℕ) (i number : ℕ) (act : Act) (row′ : List ℕ) : Type 0 where
+  pub acts : (changed : List ℕ → List ℕ) (records : List ℕ) (counts : Counts)
+      → numberActs (boxAt row records counts) i number changed ≡ actedAs act (boxAt row′ (changedBy act changed records) (counted act counts))
+  pub sound : soundRow row′ ≡ true
+
+-- message i acts, whatever the records and counts are
+pub record MessageActs (list : List ℕ) (letter : ℕ) (row : List ℕ) (i : ℕ) (bytes : List ℕ) (step : Step) (row′ : List ℕ) : Type 0 where
+  pub acts : (records : List ℕ) (counts : Counts)
+      → (records′ : List ℕ) × (messageActs list letter (boxAt row records counts) i bytes ≡ actedAs (step .act) (boxAt row′ records′ (counted (step .act) counts)))
+  pub sound : soundRow row′ ≡ true
+  pub length-is : step .length ≡ lengthOf bytes
+  pub inside : passed (step .act) ≡ true → step .length ≤ length bytes
+
+-- so many messages are judged, whatever the records are
+pub record JudgedMessages (list : List ℕ) (letter : ℕ) (row bytes : List ℕ) (count : ℕ) (answer : Judged) : Type 0 where
+  pub answers : (records : List ℕ) → judgedNumbers answer ≡ actedNumbers (messagesAct count list letter 0 (boxAt row records none) bytes)

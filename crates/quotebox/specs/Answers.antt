@@ -1,0 +1,24 @@
+-- The answers of the public calls by document 01's numbers: 0 and the values of an accepted call, or a refusal's.
+use Prim.Native.Nat.{ℕ}
+use mathlib.Core.List.{List, [], _∷_}
+use Rattle.quotebox.specs.declared.answers.Started.{Started}
+use Rattle.quotebox.specs.declared.answers.Judged.{Judged}
+use Rattle.quotebox.specs.declared.answers.Listed.{Listed}
+use Rattle.quotebox.specs.declared.answers.WrittenOff.{WrittenOff}
+use Rattle.quotebox.specs.Refusals.{refusalNumbers}
+
+abbrev pub startedNumbers : Started → List ℕ
+startedNumbers Started.Started = 0 ∷ []
+startedNumbers (Started.Refused refusal) = refusalNumbers refusal
+
+abbrev pub judgedNumbers : Judged → List ℕ
+judgedNumbers (Judged.Accepted taken old heartbeats) = 0 ∷ taken ∷ old ∷ heartbeats ∷ []
+judgedNumbers (Judged.Refused refusal) = refusalNumbers refusal
+
+abbrev pub listedNumbers : Listed → List ℕ
+listedNumbers (Listed.Runs highest runs) = 0 ∷ highest ∷ runs ∷ []
+listedNumbers (Listed.Refused refusal) = refusalNumbers refusal
+
+abbrev pub writtenOffNumbers : WrittenOff → List ℕ
+writtenOffNumbers (WrittenOff.Removed first last) = 0 ∷ first ∷ last ∷ []
+writtenOffNumbers (WrittenOff.Refused refusal) = refusalNumbers refusal

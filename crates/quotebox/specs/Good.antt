@@ -1,0 +1,58 @@
+-- A good batch, rule by rule: the table's rows 1 to 16 and 18.
+use Prim.Native.Nat.{ℕ, zero, suc, _+_, _≤_, _<_}
+use mathlib.Core.Path.{_≡_}
+use mathlib.Core.Bool.{true, cond}
+use mathlib.Core.List.{List}
+use lib.ListN.{length, drop}
+use Rattle.contracts.specs.File.{segmentsOf}
+use Rattle.contracts.specs.Sound.{Header}
+use Rattle.sequence.specs.Gaps.{Gaps, most, takes, after}
+use Rattle.sequence.specs.Row.{gapsOf, soundRow}
+use Rattle.message.specs.declared.codes.Kind.{Kind}
+use Rattle.message.specs.declared.codes.Kind.the-variants.{Heartbeat, Update, PassedOver}
+use Rattle.message.specs.Good.{GoodMessage}
+use Rattle.message.specs.Fields.{kindIn, lengthOf, numberOf}
+use Rattle.quotebox.specs.Batch.{flagOf, sizeOf, countOf, dataOf, batchLetter, rowOfLetter}
+use Rattle.quotebox.specs.Memory.{rowsWanted, recordsWanted, rowOf}
+
+pub record GoodState (list rows records : List ℕ) : Type 0 where
+  -- 16
+  pub header : Header list
+  -- 15
+  pub rows-enough : rowsWanted list ≤ length rows
+  pub records-enough : recordsWanted list ≤ length records
+  -- 18
+  pub rows-sound : (i : ℕ) → i < segmentsOf list → soundRow (rowOf rows i) ≡ true
+
+-- a batch before its messages
+pub record GoodFront (batch : List ℕ) : Type 0 where
+  -- 1
+  pub begun : 5 ≤ length batch
+  pub small : sizeOf batch ≤ 32767
+  pub whole : length batch ≡ sizeOf batch + 5
+  -- 2 and 3
+  pub plain : flagOf batch ≡ 1
+  -- 4
+  pub some-messages : 1 ≤ countOf batch
+
+-- 01 "Sequence and gaps": a heartbeat changes nothing; a number above highest, or missing, is taken, and all others are old
+abbrev pub arrived : Kind → Gaps → ℕ → Gaps
+arrived Heartbeat gaps number = gaps
+arrived Update gaps number = cond (takes gaps number) (after gaps number) gaps
+arrived PassedOver gaps number = cond (takes gaps number) (after gaps number) gaps
+
+-- the gaps when a message has come
+abbrev pub gapsAfter : Gaps → List ℕ → Gaps
+gapsAfter gaps bytes = arrived (kindIn bytes) gaps (numberOf bytes)
+
+-- so many messages, each where the one before it ends: 5 to 13 of each, 14 after each, and no bytes behind the last (4)
+abbrev pub GoodMessages : ℕ → List ℕ → ℕ → Gaps → List ℕ → Type 0
+GoodMessages zero list letter gaps bytes = length bytes ≡ 0
+GoodMessages (suc more) list letter gaps bytes =
+    GoodMessage list letter bytes × (length (gapsAfter gaps bytes .runs) ≤ most)
+    × GoodMessages more list letter (gapsAfter gaps bytes) (drop (lengthOf bytes) bytes)
+
+pub record GoodBatch (list rows records batch : List ℕ) : Type 0 where
+  pub state : GoodState list rows records
+  pub front : GoodFront batch
+  pub messages : GoodMessages (countOf batch) list (batchLetter batch) (gapsOf (rowOfLetter list (batchLetter batch) rows)) (dataOf batch)

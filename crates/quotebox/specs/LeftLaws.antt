@@ -1,0 +1,161 @@
+-- What an accepted batch leaves: as many messages counted as it has, and a state that is good again.
+use Prim.Native.Nat.{ℕ, zero, suc, _+_, _-_, _*_, _≤_, _<_}
+use mathlib.Core.Path.{_≡_, refl, ap, sym, _∙_}
+use mathlib.Core.Bool.{true}
+use mathlib.Core.Logic.{⊎-elim}
+use mathlib.Core.List.{List}
+use mathlib.Core.Option.{Option, none, some}
+use native.Mathlib.Omega.{arith}
+use borrow.Rule.Slice.PartMut.{putMid, take-put, drop-put, same-len-mid}
+use lib.ListN.{length, take, drop}
+use lib.Seq.{drop-drop, take-at, drop-at, length-take-le}
+use Rattle.laws.specs.Lists.{part-of-front}
+use Rattle.contracts.specs.File.{segmentsOf}
+use Rattle.contracts.specs.Lookup.{segmentOf}
+use Rattle.contracts.specs.LookupLaws.{segment-has}
+use Rattle.laws.specs.Order.{order, three}
+use Rattle.message.specs.declared.body.What.{What}
+use Rattle.message.specs.declared.body.What.the-variants as what
+use Rattle.message.specs.declared.head.Head.the-variants.{Good}
+use Rattle.message.specs.Fields.{lengthOf}
+use Rattle.message.specs.Message.{messageOf}
+use Rattle.message.specs.Numbers.{verdictOf}
+use Rattle.sequence.specs.Row.{gapsOf, soundRow}
+use Rattle.sequence.specs.RowLaws.{sound-row-exactly}
+use Rattle.quotebox.specs.ActsLaws.{acts-as}
+use Rattle.quotebox.specs.Batch.{Box, acted, messageActs, messagesAct, batchActs, batchLetter, boxOf, countOf, dataOf, rowIn, withRowIn, rowsAfter, recordsAfter}
+use Rattle.quotebox.specs.BatchLaws.{good-state, good-front, messages-accepted}
+use Rattle.quotebox.specs.Good.{gapsAfter, GoodState}
+use Rattle.quotebox.specs.Memory.{rowCells, rowOf, withRow}
+use Rattle.quotebox.specs.MemoryLaws.{put-row, part-length}
+use Rattle.quotebox.specs.MessagesLaws.{not-both, messages-next, messages-refused, messages-end, messages-over}
+use Rattle.quotebox.specs.ScratchLaws.{none-accepted}
+use Rattle.quotebox.specs.StepLaws.{messagesIn, Went, Fell, good-goes}
+
+-- ---- the box
+
+pub record Leaves (count : ℕ) (before after : Box) : Type 0 where
+  pub sound : soundRow (after .row) ≡ true
+  pub counts : messagesIn after ≡ messagesIn before + count
+  pub records-kept : length (after .records) ≡ length (before .records)
+
+module _ (list : List ℕ) (letter : ℕ) where
+  last-box : (i : ℕ) (box : Box) (bytes : List ℕ) (final : Box) → messagesAct 0 list letter i box bytes ≡ acted final → box ≡ final
+  last-box i box bytes final e =
+      ⊎-elim (λ (h : length bytes ≤ 0). let same : acted box ≡ acted final = sym (messages-end list letter i box bytes (omega arith)) ∙ e in cc)
+      (λ (h : 0 < length bytes). absurd (not-both (sym (messages-over list letter i box bytes h) ∙ e)))
+      (order (length bytes) 0)
+
+  pub messages-leave : (count i : ℕ) (box : Box) (bytes : List ℕ) (final : Box) → soundRow (box .row) ≡ true
+      → messagesAct count list letter i box bytes ≡ acted final → Leaves count box final
+  messages-leave zero i box bytes final s e =
+      rw (← last-box i box bytes final e) (record { sound = s; counts = omega arith; records-kept = refl })
+  messages-leave (suc more) i box bytes final s e =
+      go (λ box′ sound f. messages-leave more (suc i) box′ (drop (lengthOf bytes) bytes) final sound f) (messageOf list letter bytes .what) refl
+    where
+      Behind : Type 0
+      Behind = (box′ : Box) → soundRow (box′ .row) ≡ true → messagesAct more list letter (suc i) box′ (drop (lengthOf bytes) bytes) ≡ acted final → Leaves more box′ final
+
+      good : Behind → verdictOf (messageOf list letter bytes .what) ≡ Good → Leaves (suc more) box final
+      good rest g =
+          ⊎-elim (λ (d : Went box (messageActs list letter box i bytes) (gapsAfter (gapsOf (box .row)) bytes)).
+          let l = rest (d .box) (d .sound) (sym (messages-next list letter more i box bytes (d .box) (d .acts)) ∙ e) in
+          record { sound = l .sound; counts = omega (arith, l .counts, d .counts); records-kept = l .records-kept ∙ d .records-kept })
+          (λ (d : Fell i (messageActs list letter box i bytes) (gapsAfter (gapsOf (box .row)) bytes)).
+          absurd (not-both (sym (messages-refused list letter more i box bytes _ (d .refuses)) ∙ e)))
+          (good-goes list letter box i bytes g s)
+
+      go : Behind → (w : What) → messageOf list letter bytes .what ≡ w → Leaves (suc more) box final
+      go rest (what.Bad fault) f =
+          absurd (not-both (sym (messages-refused list letter more i box bytes _ (acts-as list letter bytes (messageOf list letter bytes) refl f box i)) ∙ e))
+      go rest what.Heartbeat f = good rest (ap verdictOf f)
+      go rest (what.PassedOver number) f = good rest (ap verdictOf f)
+      go rest (what.Update number level place) f = good rest (ap verdictOf f)
+
+-- ---- the gap rows with one row put back
+
+module _ (rows row : List ℕ) (s : ℕ) (inside : rowCells * s + rowCells ≤ length rows) (wide : length row ≡ rowCells) where
+  abbrev from : ℕ
+  from = rowCells * s
+
+  abbrev rows′ : List ℕ
+  rows′ = putMid from (from + rowCells - from) rows row
+
+  same-wide : length row ≡ length (take (from + rowCells - from) (drop from rows))
+  same-wide = wide ∙ sym (part-length rows s inside)
+
+  put-length : length rows′ ≡ length rows
+  put-length = same-len-mid from (from + rowCells - from) rows row same-wide
+
+  put-here : rowOf rows′ s ≡ row
+  put-here =
+      ap (take rowCells) (drop-at (take from rows) _ from (length-take-le from rows (omega arith))) ∙ take-at row _ rowCells wide
+
+  put-below : (i : ℕ) → i < s → rowOf rows′ i ≡ rowOf rows i
+  put-below i h =
+      sym (part-of-front (rowCells * i) rowCells from rows′ (omega arith))
+      ∙ ap (λ (l : List ℕ). take rowCells (drop (rowCells * i) l)) (take-put from (from + rowCells - from) rows row (omega arith))
+      ∙ part-of-front (rowCells * i) rowCells from rows (omega arith)
+
+  put-above : (i : ℕ) → s < i → rowOf rows′ i ≡ rowOf rows i
+  put-above i h =
+      let end : ℕ = from + rowCells in
+      let n : ℕ = rowCells * i - end in
+      let e : end + n ≡ rowCells * i = omega arith in
+      let far : (l : List ℕ) → drop (rowCells * i) l ≡ drop n (drop end l) = λ l. ap (λ (k : ℕ). drop k l) (sym e) ∙ sym (drop-drop n end l) in
+      ap (take rowCells)
+      (far rows′ ∙ ap (drop n) (drop-put from end rows row (omega arith) inside (same-wide ∙ part-length rows s inside ∙ omega arith)) ∙ sym (far rows))
+
+  pub put-sound : (n : ℕ) → ((i : ℕ) → i < n → soundRow (rowOf rows i) ≡ true) → soundRow row ≡ true → (i : ℕ) → i < n → soundRow (rowOf (withRow rows s row) i) ≡ true
+  put-sound n each sound i h =
+      rw (← put-row rows row s)
+      (⊎-elim (λ (b : i < s). rw (put-below i b) (each i h))
+      (⊎-elim (λ (b : s < i). rw (put-above i b) (each i h)) (λ (b : i ≡ s). rw (b, put-here) sound))
+      (three i s))
+
+  pub with-length : length (withRow rows s row) ≡ length rows
+  with-length = ap length (sym (put-row rows row s)) ∙ put-length
+
+-- ---- the batch
+
+module _ (list rows records batch : List ℕ) (box : Box) (accepted : batchActs list rows records batch ≡ acted box) where
+  abbrev letter : ℕ
+  letter = batchLetter batch
+
+  state : GoodState list rows records
+  state = good-state list rows records batch box accepted
+
+  is-listed : (segment : ℕ) × (segmentOf list letter ≡ some segment)
+  is-listed = go (segmentOf list letter) refl
+    where
+      go : (o : Option ℕ) → segmentOf list letter ≡ o → (segment : ℕ) × (segmentOf list letter ≡ some segment)
+      go none e =
+          absurd (none-accepted list letter e (countOf batch) (dataOf batch) (boxOf list letter rows records) box (good-front list rows records batch box accepted .some-messages) (messages-accepted list rows records batch box accepted))
+      go (some segment) e = (segment, e)
+
+  leaves : Leaves (countOf batch) (boxOf list letter rows records) box
+  leaves =
+      let l = is-listed in
+      messages-leave list letter (countOf batch) 0 (boxOf list letter rows records) (dataOf batch) box
+      (rw (ap (rowIn rows) (l .1)) (state .rows-sound (l .0) (segment-has list letter (l .0) (l .1) .0)))
+      (messages-accepted list rows records batch box accepted)
+
+  -- taken, old and heartbeats are all of its messages
+  pub all-counted : box .taken + box .old + box .heartbeats ≡ countOf batch
+  all-counted = omega (arith, leaves .counts)
+
+  -- what it leaves passes 15, 16 and 18 again
+  pub state-left : GoodState list (rowsAfter list letter rows (acted box)) (recordsAfter records (acted box))
+  state-left =
+      let l = is-listed in
+      let there = segment-has list letter (l .0) (l .1) .0 in
+      let inside : rowCells * l .0 + rowCells ≤ length rows = omega (arith, there, state .rows-enough) in
+      let wide = sound-row-exactly (box .row) .0 (leaves .sound) .0 in
+      let long = with-length rows (box .row) (l .0) inside wide in
+      rw (ap (withRowIn rows (box .row)) (l .1))
+      (record {
+        header = state .header;
+        rows-enough = omega (arith, state .rows-enough, long);
+        records-enough = omega (arith, state .records-enough, leaves .records-kept);
+        rows-sound = put-sound rows (box .row) (l .0) inside wide (segmentsOf list) (state .rows-sound) (leaves .sound);
+      })

@@ -1,0 +1,53 @@
+-- Lent memory: gap rows, 132 numbers a listed segment, and records, 48 cells a contract; both in list order.
+use Prim.Native.Nat.{ℕ, _+_, _*_}
+use mathlib.Core.Bool.{Bool}
+use mathlib.Core.List.{List, [], _∷_, _++_}
+use lib.Dec.{leb}
+use lib.ListN.{length, take, drop}
+use Rattle.layout.specs.declared.rows.Level.{Level}
+use Rattle.layout.specs.declared.rows.Level.the-variants.{One, Two}
+use Rattle.contracts.specs.Below.{allBelow}
+use Rattle.contracts.specs.File.{segmentsOf, contractsOf}
+use Rattle.contracts.specs.Sound.{headerSound}
+use Rattle.sequence.specs.Row.{soundRow}
+use Rattle.quotebox.specs.declared.refusal.Refusal.the-variants.{Memory, List as ListOf, State}
+use Rattle.quotebox.specs.Refusals.{Rule}
+
+-- the cells of a gap row, and of a contract's two records
+abbrev pub rowCells : ℕ
+rowCells = 132
+
+abbrev pub recordCells : ℕ
+recordCells = 48
+
+-- the cells that a call wants for a list's segments and contracts
+abbrev pub rowsWanted : List ℕ → ℕ
+rowsWanted list = rowCells * segmentsOf list
+
+abbrev pub recordsWanted : List ℕ → ℕ
+recordsWanted list = recordCells * contractsOf list
+
+-- the gap row of segment i, and the gap rows with another in its place
+abbrev pub rowOf : List ℕ → ℕ → List ℕ
+rowOf rows i = take rowCells (drop (rowCells * i) rows)
+
+abbrev pub withRow : List ℕ → ℕ → List ℕ → List ℕ
+withRow rows i row = take (rowCells * i) rows ++ row ++ drop (rowCells * i + rowCells) rows
+
+-- a contract's record of a level: its number, then a cell a row from the market type on: 15 at level 1, and behind them 33 at level 2
+abbrev pub recordAt : ℕ → Level → ℕ
+recordAt contract One = recordCells * contract
+recordAt contract Two = recordCells * contract + 15
+
+-- every listed segment's gap row is sound
+abbrev pub rowsSound : ℕ → List ℕ → Bool
+rowsSound n rows = allBelow n (λ i. soundRow (rowOf rows i))
+
+-- 01, the order of checks of the calls after start, the writer apart: 16, 15 for gap rows, 15 for records, 18
+abbrev pub stateRules : List ℕ → List ℕ → List ℕ → List Rule
+stateRules list rows records =
+    record { holds = headerSound list; refusal = ListOf }
+    ∷ record { holds = leb (rowsWanted list) (length rows); refusal = Memory (rowsWanted list) }
+    ∷ record { holds = leb (recordsWanted list) (length records); refusal = Memory (recordsWanted list) }
+    ∷ record { holds = rowsSound (segmentsOf list) rows; refusal = State }
+    ∷ []

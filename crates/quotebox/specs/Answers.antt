@@ -5,6 +5,8 @@ use Rattle.quotebox.specs.declared.answers.Started.{Started}
 use Rattle.quotebox.specs.declared.answers.Judged.{Judged}
 use Rattle.quotebox.specs.declared.answers.Listed.{Listed}
 use Rattle.quotebox.specs.declared.answers.WrittenOff.{WrittenOff}
+use Rattle.quotebox.specs.declared.answers.Recorded.{Recorded}
+use Rattle.quotebox.specs.declared.answers.Reading.{Reading}
 use Rattle.quotebox.specs.Refusals.{refusalNumbers}
 
 abbrev pub startedNumbers : Started → List ℕ
@@ -22,3 +24,12 @@ listedNumbers (Listed.Refused refusal) = refusalNumbers refusal
 abbrev pub writtenOffNumbers : WrittenOff → List ℕ
 writtenOffNumbers (WrittenOff.Removed first last) = 0 ∷ first ∷ last ∷ []
 writtenOffNumbers (WrittenOff.Refused refusal) = refusalNumbers refusal
+
+-- 1 and its number for a record, 0 where there is none
+abbrev pub recordedNumbers : Recorded → List ℕ
+recordedNumbers (Recorded.Record number) = 0 ∷ 1 ∷ number ∷ []
+recordedNumbers Recorded.NoRecord = 0 ∷ 0 ∷ []
+recordedNumbers (Recorded.Refused refusal) = refusalNumbers refusal
+
+abbrev pub readingNumbers : Reading → List ℕ
+readingNumbers reading = recordedNumbers (reading .answer)

@@ -43,11 +43,16 @@ recordAt contract Two = recordCells * contract + 15
 abbrev pub rowsSound : ℕ → List ℕ → Bool
 rowsSound n rows = allBelow n (λ i. soundRow (rowOf rows i))
 
+-- 15 for so many cells lent: "Where both are short, 15 names the gap rows and not the records"
+abbrev pub memoryRules : List ℕ → ℕ → ℕ → List Rule
+memoryRules list rows records =
+    record { holds = leb (rowsWanted list) rows; refusal = Memory (rowsWanted list) }
+    ∷ record { holds = leb (recordsWanted list) records; refusal = Memory (recordsWanted list) }
+    ∷ []
+
 -- 01, the order of checks of the calls after start, the writer apart: 16, 15 for gap rows, 15 for records, 18
 abbrev pub stateRules : List ℕ → List ℕ → List ℕ → List Rule
 stateRules list rows records =
     record { holds = headerSound list; refusal = ListOf }
-    ∷ record { holds = leb (rowsWanted list) (length rows); refusal = Memory (rowsWanted list) }
-    ∷ record { holds = leb (recordsWanted list) (length records); refusal = Memory (recordsWanted list) }
-    ∷ record { holds = rowsSound (segmentsOf list) rows; refusal = State }
-    ∷ []
+    ∷ memoryRules list (length rows) (length records)
+    ++ (record { holds = rowsSound (segmentsOf list) rows; refusal = State } ∷ [])

@@ -1,5 +1,6 @@
 // What each public call answers.
 use crate::refusal::Refusal;
+use layout::Quote;
 
 pub enum Started {
     Started,
@@ -22,4 +23,17 @@ pub enum Listed {
 pub enum WrittenOff {
     Removed(u32, u32),
     Refused(Refusal),
+}
+
+// A record's number, which is its update's.
+pub enum Recorded {
+    Record(u64),
+    NoRecord,
+    Refused(Refusal),
+}
+
+// With the quote of a record; beside any other answer every row is none.
+pub struct Reading {
+    pub answer: Recorded,
+    pub quote: Quote,
 }

@@ -1,7 +1,7 @@
 // A batch: judged whole on scratch memory, and applied only where every message has passed.
 ghost use mathlib.Core.Path.{_≡_};
 ghost use Rattle.quotebox.specs.Refusals.{firstBroken};
-ghost use Rattle.quotebox.specs.Checks.{brokenOf};
+ghost use Rattle.quotebox.specs.State.{checkedRefusal};
 ghost use Rattle.quotebox.specs.Acts.{JudgedMessages};
 ghost use Rattle.quotebox.specs.Batch.{batchRules, rowOfLetter};
 ghost use Rattle.quotebox.specs.Applies.{AcceptedBatch, AppliedBatch};
@@ -25,7 +25,7 @@ const MOST_DATA: usize = 32767;
 
 // Under 5 bytes (1), flag (2, 3), the rest of 1, no messages (4).
 fn check(batch: &[u8]) -> Checked
-    ensures { λ r. ⌜ brokenOf r ≡ firstBroken (batchRules (now (batch .entry))) ⌝ }
+    ensures { λ r. ⌜ checkedRefusal r ≡ firstBroken (batchRules (now (batch .entry))) ⌝ }
 {
     if batch.len() < FRONT {
         return Checked::Refused(Refusal::Size);
@@ -63,7 +63,7 @@ fn judge_data(list: &[u8], rows: &[u32], data: &[u8], count: usize) -> Judged
 pub fn judge(list: &[u8], rows: &[u32], records: &[u64], batch: &[u8]) -> Judged
     ensures { λ r. ⌜ JudgedBatch (now (list .entry)) (now (rows .entry)) (now (records .entry)) (now (batch .entry)) r ⌝ }
 {
-    match state::check(list, rows, records) {
+    match state::check_state(list, rows, records) {
         Checked::Refused(refusal) => Judged::Refused(refusal),
         Checked::Good => match check(batch) {
             Checked::Refused(refusal) => Judged::Refused(refusal),

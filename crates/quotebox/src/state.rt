@@ -1,32 +1,52 @@
-// The check of lent memory that every call after start but the writer begins with.
+// The checks of the state that is handed back: of every call after start but the writer.
 ghost use mathlib.Core.Path.{_≡_};
-ghost use Prim.Native.Nat.{_≤_};
+ghost use Prim.Native.Nat.{_*_, _≤_};
 ghost use lib.ListN.{length};
-ghost use Rattle.contracts.specs.File.{segmentsOf};
 ghost use Rattle.quotebox.specs.Refusals.{firstBroken};
-ghost use Rattle.quotebox.specs.Checks.{brokenOf};
-ghost use Rattle.quotebox.specs.Memory.{rowsWanted, rowsSound, stateRules};
+ghost use Rattle.quotebox.specs.Memory.{rowCells, memoryRules, rowsSound, stateRules};
+ghost use Rattle.quotebox.specs.State.{checkedRefusal, Asks};
 use crate::refusal::Refusal;
+use contracts::Found;
 
 // The cells of a contract's two records.
 pub(crate) const RECORD: usize = 48;
 
-// What checks by rules answer.
-pub enum Checked {
+pub(crate) enum Checked {
     Good,
     Refused(Refusal),
 }
 
-fn rows_sound(list: &[u8], rows: &[u32]) -> bool
-    requires { ⌜ rowsWanted (now list) ≤ length (now rows) ⌝ }
-    ensures { λ r. ⌜ r ≡ rowsSound (segmentsOf (now (list .entry))) (now (rows .entry)) ⌝ }
+// The segment that is asked for.
+pub(crate) enum Asked {
+    Segment(usize),
+    Refused(Refusal),
+}
+
+// 15 for gap rows and then for records, by the numbers of cells lent.
+pub(crate) fn check_memory(list: &[u8], rows: usize, records: usize) -> Checked
+    ensures { λ r. ⌜ checkedRefusal r ≡ firstBroken (memoryRules (now (list .entry)) rows records) ⌝ }
 {
-    let listed = contracts::segments(list);
+    let rows_wanted = sequence::CELLS * contracts::segments(list);
+    if rows < rows_wanted {
+        return Checked::Refused(Refusal::Memory(rows_wanted));
+    }
+    let records_wanted = RECORD * contracts::all_contracts(list);
+    if records < records_wanted {
+        return Checked::Refused(Refusal::Memory(records_wanted));
+    }
+    Checked::Good
+}
+
+// The test behind 18, for the rows of so many segments.
+fn rows_sound(rows: &[u32], segments: usize) -> bool
+    requires { ⌜ rowCells * segments ≤ length (now rows) ⌝ }
+    ensures { λ r. ⌜ r ≡ rowsSound segments (now (rows .entry)) ⌝ }
+{
     let mut i = 0;
-    while i < listed {
-        let from = sequence::CELLS * i;
-        let end = from + sequence::CELLS;
-        if !sequence::sound(&rows[from..end]) {
+    while i < segments {
+        let at = sequence::CELLS * i;
+        let end = at + sequence::CELLS;
+        if !sequence::sound(&rows[at..end]) {
             return false;
         }
         i += 1;
@@ -34,23 +54,32 @@ fn rows_sound(list: &[u8], rows: &[u32]) -> bool
     true
 }
 
-// 16, 15 for gap rows, 15 for records, 18.
-pub(crate) fn check(list: &[u8], rows: &[u32], records: &[u64]) -> Checked
-    ensures { λ r. ⌜ brokenOf r ≡ firstBroken (stateRules (now (list .entry)) (now (rows .entry)) (now (records .entry))) ⌝ }
+pub(crate) fn check_state(list: &[u8], rows: &[u32], records: &[u64]) -> Checked
+    ensures { λ r. ⌜ checkedRefusal r ≡ firstBroken (stateRules (now (list .entry)) (now (rows .entry)) (now (records .entry))) ⌝ }
 {
     if !contracts::header_sound(list) {
         return Checked::Refused(Refusal::List);
     }
-    let row_cells = sequence::CELLS * contracts::segments(list);
-    if rows.len() < row_cells {
-        return Checked::Refused(Refusal::Memory(row_cells));
+    match check_memory(list, rows.len(), records.len()) {
+        Checked::Good => {
+            if rows_sound(rows, contracts::segments(list)) {
+                return Checked::Good;
+            }
+            Checked::Refused(Refusal::State)
+        }
+        Checked::Refused(refusal) => Checked::Refused(refusal),
     }
-    let record_cells = RECORD * contracts::all_contracts(list);
-    if records.len() < record_cells {
-        return Checked::Refused(Refusal::Memory(record_cells));
+}
+
+// The state, and then the segment of a letter: 6 where it isn't listed.
+pub(crate) fn check_segment(list: &[u8], rows: &[u32], records: &[u64], letter: u8) -> Asked
+    ensures { λ r. ⌜ Asks (now (list .entry)) (now (rows .entry)) (now (records .entry)) letter r ⌝ }
+{
+    match check_state(list, rows, records) {
+        Checked::Good => match contracts::segment_of(list, letter) {
+            Found::At(segment) => Asked::Segment(segment),
+            Found::Nowhere => Asked::Refused(Refusal::Code(0)),
+        },
+        Checked::Refused(refusal) => Asked::Refused(refusal),
     }
-    if !rows_sound(list, rows) {
-        return Checked::Refused(Refusal::State);
-    }
-    Checked::Good
 }

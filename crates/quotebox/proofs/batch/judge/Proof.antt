@@ -5,7 +5,7 @@ use mathlib.Core.List.{List}
 use native.Mathlib.Omega.{arith}
 use Rattle.quotebox.specs.Batch.{countOf, batchRules, actedNumbers}
 use Rattle.quotebox.specs.BatchLaws.{state-refuses, front-refuses, messages-decide}
-use Rattle.quotebox.specs.Checks.{brokenOf}
+use Rattle.quotebox.specs.State.{checkedRefusal}
 use Rattle.quotebox.specs.Good.{GoodFront}
 use Rattle.quotebox.specs.GoodLaws.{state-exact, front-exact, rows-ready}
 use Rattle.quotebox.specs.Memory.{stateRules}
@@ -23,7 +23,7 @@ module _ (c : tie.After-enum-told) where
   start = c .before .before .before .before .before .before .before
 
   state : Hold (stateRules (start .args .list .now) (start .args .rows .now) (start .args .records .now))
-  state = none-hold (stateRules (start .args .list .now) (start .args .rows .now) (start .args .records .now)) (sym (c .before .before .check .ensures) ∙ ap brokenOf (c .enum-told .given .1))
+  state = none-hold (stateRules (start .args .list .now) (start .args .rows .now) (start .args .records .now)) (sym (c .before .before .check-state .ensures) ∙ ap checkedRefusal (c .enum-told .given .1))
 
   ready : RowsReady (start .args .list .now) (start .args .rows .now)
   ready =
@@ -39,7 +39,7 @@ module _ (c : tie.After-enum-told2) where
   batch = start passed .args .batch .now
 
   front : Hold (batchRules batch)
-  front = none-hold (batchRules batch) (sym (c .before .before .check2 .ensures) ∙ ap brokenOf (c .enum-told2 .given .1))
+  front = none-hold (batchRules batch) (sym (c .before .before .check .ensures) ∙ ap checkedRefusal (c .enum-told2 .given .1))
 
   good : GoodFront batch
   good = front-exact batch .0 front
@@ -48,8 +48,8 @@ count-is : (c : tie.After-u16-at) → c .u16-at .result ≡ countOf (batch (c .b
 unfolding countOf
 count-is c = c .u16-at .ensures
 
-check-requires : tie.Need-check-requires
-check-requires c κs = search needs
+check-state-requires : tie.Need-check-state-requires
+check-state-requires c κs = search needs
 
 enum-known-refusal : tie.Need-enum-known-refusal
 enum-known-refusal c = search needs
@@ -57,8 +57,8 @@ enum-known-refusal c = search needs
 enum-told : tie.Need-enum-told
 enum-told c = search needs
 
-check-requires-2 : tie.Need-check-requires-2
-check-requires-2 c κs = search needs
+check-requires : tie.Need-check-requires
+check-requires c κs = search needs
 
 enum-known-refusal-2 : tie.Need-enum-known-refusal-2
 enum-known-refusal-2 c = search needs
@@ -91,7 +91,7 @@ returns c =
       answers =
           sym
           (ap actedNumbers
-          (state-refuses (a .list .now) (a .rows .now) (a .records .now) (a .batch .now) _ (sym (c .before .before .before .check .ensures) ∙ ap brokenOf (c .before .refusal .given .1))));
+          (state-refuses (a .list .now) (a .rows .now) (a .records .now) (a .batch .now) _ (sym (c .before .before .before .check-state .ensures) ∙ ap checkedRefusal (c .before .refusal .given .1))));
     }
 
 returns-2 : tie.Need-returns-2
@@ -102,7 +102,7 @@ returns-2 c =
       answers =
           sym
           (ap actedNumbers
-          (front-refuses (a .list .now) (a .rows .now) (a .records .now) (a .batch .now) (state d) _ (sym (c .before .before .before .check2 .ensures) ∙ ap brokenOf (c .before .refusal2 .given .1))));
+          (front-refuses (a .list .now) (a .rows .now) (a .records .now) (a .batch .now) (state d) _ (sym (c .before .before .before .check .ensures) ∙ ap checkedRefusal (c .before .refusal2 .given .1))));
     }
 
 returns-3 : tie.Need-returns-3
@@ -119,10 +119,10 @@ pub judge-spec : {M : Type 1} → statement M
 judge-spec =
     tie.close
     (tie.spec
-    check-requires
+    check-state-requires
     enum-known-refusal
     enum-told
-    check-requires-2
+    check-requires
     enum-known-refusal-2
     enum-told-2
     u16-at-requires

@@ -1,87 +1,79 @@
--- The loop's invariant: every row passed is sound.
-use borrow.Author.Needs.{needs}
-use Prim.Native.Nat.{ℕ, _-_, _≤_}
-use mathlib.Core.Path.{_≡_, ap, sym, _∙_}
-use mathlib.Core.Bool.{Bool, true}
+-- The loop's invariant: the rows of the segments passed are sound.
+use Prim.Native.Nat.{ℕ, _+_, _-_, _*_, _≤_}
+use mathlib.Core.Path.{_≡_, refl, sym, ap, _∙_}
+use mathlib.Core.Bool.{true}
 use native.Mathlib.Omega.{arith}
-use Rattle.contracts.specs.Below.{allBelow}
-use Rattle.contracts.specs.BelowLaws.{one-fails, pass-on}
-use Rattle.sequence.specs.Row.{soundRow}
-use Rattle.contracts.specs.File.{segmentsOf}
+use borrow.Author.Needs.{needs}
 use borrow.Author.Tests.{not-true, not-false}
-use Rattle.quotebox.specs.Memory.{rowOf}
-use Rattle.quotebox.specs.MemoryLaws.{row-part}
+use Rattle.contracts.specs.BelowLaws.{pass-on, one-fails}
+use Rattle.sequence.specs.Row.{soundRow}
+use Rattle.quotebox.specs.Memory.{rowCells, rowOf, rowsSound}
 use Rattle.quotebox.proofs.state.rows_sound.Statement.{statement}
 use Rattle.quotebox.proofs.state.rows_sound.Tie as tie
 
 abbrev Inv-loop : tie.InvT-loop
-Inv-loop list rows listed i₀ i = (i ≤ listed) × (allBelow i (λ (j : ℕ). soundRow (rowOf rows j)) ≡ true)
+Inv-loop rows segments i₀ i = (i ≤ segments) × (rowsSound i rows ≡ true)
 
 abbrev μ-loop : tie.MeasureT-loop
-μ-loop list rows listed i₀ i = listed - i
-
-segments-requires : tie.Need-segments-requires Inv-loop μ-loop
-segments-requires c κs = search needs
+μ-loop rows segments i₀ i = segments - i
 
 loop-holds : tie.Need-loop-holds Inv-loop μ-loop
-loop-holds c = search needs
+loop-holds c = (omega arith, refl)
 
-mul-from : tie.Need-mul-from Inv-loop μ-loop
-mul-from c = search needs
+mul-at : tie.Need-mul-at Inv-loop μ-loop
+mul-at c = omega arith
 
 add-end : tie.Need-add-end Inv-loop μ-loop
-add-end c = search needs
+add-end c = omega arith
 
 mul-sound : tie.Need-mul-sound Inv-loop μ-loop
-mul-sound c = search needs
+mul-sound c = omega arith
 
 sub-sound : tie.Need-sub-sound Inv-loop μ-loop
-sub-sound c = search needs
+sub-sound c = omega arith
 
 part-sound-start : tie.Need-part-sound-start Inv-loop μ-loop
-part-sound-start c = search needs
+part-sound-start c = omega arith
 
 part-sound-end : tie.Need-part-sound-end Inv-loop μ-loop
-part-sound-end c = search needs
+part-sound-end c = omega arith
 
 sound-requires : tie.Need-sound-requires Inv-loop μ-loop
 sound-requires c κs = search needs
 
--- what is known once a row was looked at
-module _ (c : tie.After-sound Inv-loop μ-loop) where
-  abbrev start : tie.Start Inv-loop μ-loop
-  start = c .before .before .before .before .before .before .before
-
-  abbrev tested : ℕ → Bool
-  tested j = soundRow (rowOf (start .args .rows .now) j)
-
-  abbrev at : ℕ
-  at = c .before .before .before .loop .i
-
-  row-is : tested at ≡ c .sound .result
-  row-is = sym (c .sound .ensures ∙ ap soundRow (row-part (start .args .rows .now) at))
+-- the test of one row
+tested : (c : tie.After-sound Inv-loop μ-loop) → soundRow (rowOf (c .before .before .before .before .before .args .rows .now) (c .before .before .before .loop .i)) ≡ c .sound .result
+tested c =
+    let i : ℕ = c .before .before .before .loop .i in
+    let part : rowCells * i + rowCells - rowCells * i ≡ rowCells = omega arith in
+    sym (rw part at (c .sound .ensures))
 
 returns : tie.Need-returns Inv-loop μ-loop
 returns c =
-    let d = c .before in
-    sym (one-fails (tested d) (segmentsOf (start d .args .list .now)) (at d) (omega (arith, c .before .before .before .before .before .segments .ensures)) (row-is d ∙ not-true _ (c .if1 .taken)))
+    let at = c .before .before .before .before in
+    let a = at .before .before .args in
+    let fails = not-true (c .before .sound .result) (c .if1 .taken) in
+    sym (one-fails (λ j. soundRow (rowOf (a .rows .now) j)) (a .segments) (at .loop .i) (omega arith) (tested (c .before) ∙ fails))
 
 add-i : tie.Need-add-i Inv-loop μ-loop
-add-i c = search needs
+add-i c = omega arith
 
 loop-less : tie.Need-loop-less Inv-loop μ-loop
-loop-less c = search needs
+loop-less c = omega arith
 
 loop-again : tie.Need-loop-again Inv-loop μ-loop
 loop-again c =
-    let d = c .before in
-    (omega arith, pass-on (tested d) (at d) (d .before .before .before .loop .inv .1) (row-is d ∙ not-false _ (c .if1 .left)))
+    let at = c .before .before .before .before in
+    let a = at .before .before .args in
+    let passes = not-false (c .before .sound .result) (c .if1 .left) in
+    (omega arith, pass-on (λ j. soundRow (rowOf (a .rows .now) j)) (at .loop .i) (at .loop .inv .1) (tested (c .before) ∙ passes))
 
 returns-2 : tie.Need-returns-2 Inv-loop μ-loop
 returns-2 c =
-    let l = c .before .loop in
-    let all : l .i ≡ segmentsOf (c .before .before .before .before .before .args .list .now) = omega (arith, c .before .before .segments .ensures) in
-    sym (rw all at (l .inv .1))
+    let at = c .before in
+    let a = at .before .before .args in
+    let all : at .loop .i ≡ a .segments = omega arith in
+    sym (at .loop .inv .1) ∙ ap (λ (k : ℕ). rowsSound k (a .rows .now)) all
 
 pub rows-sound-spec : {M : Type 1} → statement M
 rows-sound-spec =
@@ -89,9 +81,8 @@ rows-sound-spec =
     (tie.spec
     Inv-loop
     μ-loop
-    segments-requires
     loop-holds
-    mul-from
+    mul-at
     add-end
     mul-sound
     sub-sound

@@ -1,0 +1,99 @@
+-- The loop's invariant: the first i cells of the record stand behind the key's, and every other is 0.
+use Prim.Native.Nat.{ℕ, _+_, _-_, _≤_}
+use mathlib.Core.Path.{_≡_, refl, sym, ap, ap₂, _∙_}
+use mathlib.Core.List.{List}
+use native.Mathlib.Numerals.{add-one}
+use native.Mathlib.Omega.{arith}
+use borrow.Author.Needs.{needs}
+use lib.ListN.{length, set, drop, replicate, length-set, length-drop, length-replicate}
+use lib.Seq.{paste, paste-zero, paste-suc, getD-drop}
+use Rattle.quotebox.specs.Record.{recordRows}
+use Rattle.quotebox.specs.RecordLaws.{rows-few, cells-copied}
+use Rattle.quotebox.proofs.record.cells_at.Statement.{statement}
+use Rattle.quotebox.proofs.record.cells_at.Tie as tie
+
+abbrev Inv-loop : tie.InvT-loop
+Inv-loop records at count first cells₀ i₀ cells i = (i ≤ count) × (length cells ≡ 37) × (cells ≡ paste cells₀ 5 (drop (at + 1) records) i)
+
+abbrev μ-loop : tie.MeasureT-loop
+μ-loop records at count first cells₀ i₀ cells i = count - i
+
+record-rows-requires : tie.Need-record-rows-requires Inv-loop μ-loop
+record-rows-requires c κs = search needs
+
+add-first : tie.Need-add-first Inv-loop μ-loop
+add-first c = omega arith
+
+loop-holds : tie.Need-loop-holds Inv-loop μ-loop
+loop-holds c =
+    let a = c .before .before .args in
+    (omega arith, refl, paste-zero (replicate 37 0) 5 (drop (a .at + 1) (a .records .now)))
+
+add-cells : tie.Need-add-cells Inv-loop μ-loop
+add-cells c = omega arith
+
+mul-cells : tie.Need-mul-cells Inv-loop μ-loop
+mul-cells c = omega arith
+
+shared-slice-read-cells : tie.Need-shared-slice-read-cells Inv-loop μ-loop
+shared-slice-read-cells c = omega arith
+
+-- no record has more rows than cells are left behind the key's
+few : (c : tie.In-loop Inv-loop μ-loop) → c .before .loop .i ≤ 31
+few c = omega (arith, rows-few (c .before .before .before .before .args .level))
+
+add-cells-2 : tie.Need-add-cells-2 Inv-loop μ-loop
+add-cells-2 c = omega (arith, few (c .before))
+
+mul-cells-2 : tie.Need-mul-cells-2 Inv-loop μ-loop
+mul-cells-2 c = omega (arith, few (c .before))
+
+array-write-cells : tie.Need-array-write-cells Inv-loop μ-loop
+array-write-cells c = omega (arith, few (c .before))
+
+add-i : tie.Need-add-i Inv-loop μ-loop
+add-i c = omega arith
+
+loop-less : tie.Need-loop-less Inv-loop μ-loop
+loop-less c = omega arith
+
+loop-again : tie.Need-loop-again Inv-loop μ-loop
+loop-again c =
+    let at = c .before .before in
+    let l = at .loop in
+    let a = at .before .before .before .args in
+    let zeros : List ℕ = replicate 37 0 in
+    let from : List ℕ = drop (a .at + 1) (a .records .now) in (
+      omega arith,
+      length-set (l .cells) (5 + l .i) _ ∙ l .inv .1,
+      ap₂ (λ (ns : List ℕ) (v : ℕ). set ns (5 + l .i) v) (l .inv .2) (sym (getD-drop (a .at + 1) (a .records .now) (l .i) 0))
+          ∙ paste-suc zeros 5 from (l .i) 0 (simp length-replicate (omega (arith, few (c .before)))) (simp length-drop (omega arith))
+          ∙ ap (paste zeros 5 from) (sym (add-one (l .i))),
+    )
+
+returns : tie.Need-returns Inv-loop μ-loop
+returns c =
+    let l = c .before .loop in
+    let a = c .before .before .before .before .args in
+    let all : l .i ≡ recordRows (a .level) = omega arith in
+    l .inv .2 ∙ ap (paste (replicate 37 0) 5 (drop (a .at + 1) (a .records .now))) all ∙ cells-copied (a .records .now) (a .at) (a .level) (omega arith)
+
+pub cells-at-spec : {M : Type 1} → statement M
+cells-at-spec =
+    tie.close
+    (tie.spec
+    Inv-loop
+    μ-loop
+    record-rows-requires
+    add-first
+    loop-holds
+    add-cells
+    mul-cells
+    shared-slice-read-cells
+    add-cells-2
+    mul-cells-2
+    array-write-cells
+    add-i
+    loop-less
+    loop-again
+    returns)

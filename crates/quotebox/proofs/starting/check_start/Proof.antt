@@ -1,0 +1,65 @@
+-- Check by check, each answer is the first broken rule's.
+use mathlib.Core.Path.{_≡_, sym, ap, _∙_}
+use mathlib.Core.Bool.{true}
+use borrow.Author.Needs.{needs}
+use borrow.Author.Tests.{not-true, not-false}
+use Rattle.contracts.specs.File.{segmentsOf}
+use Rattle.contracts.specs.Sound.{sound}
+use Rattle.quotebox.specs.Start.{eachStarts}
+use Rattle.quotebox.specs.StartLaws.{unsound-list, no-start, memory-decides}
+use Rattle.quotebox.proofs.starting.check_start.Statement.{statement}
+use Rattle.quotebox.proofs.starting.check_start.Tie as tie
+
+held : (c : tie.Else1) → sound (c .before .before .before .before .args .list .now) ≡ true
+held c = sym (c .before .sound .ensures) ∙ not-false (c .before .sound .result) (c .if1 .left)
+
+-- the test of the start numbers
+tested : (c : tie.After-each-starts) → let a = c .before .before .before .before .before .before .args in
+    eachStarts (segmentsOf (a .list .now)) (a .starts .now) ≡ c .each-starts .result
+tested c =
+    let a = c .before .before .before .before .before .before .args in
+    ap (λ n. eachStarts n (a .starts .now)) (sym (c .before .segments .ensures)) ∙ sym (c .each-starts .ensures)
+
+sound-requires : tie.Need-sound-requires
+sound-requires c κs = search needs
+
+returns : tie.Need-returns
+returns c =
+    let a = c .before .before .before .before .args in
+    let fails = not-true (c .before .sound .result) (c .if1 .taken) in
+    sym (unsound-list (a .list .now) (a .starts .now) (a .rows) (a .records) (sym (c .before .sound .ensures) ∙ fails))
+
+segments-requires : tie.Need-segments-requires
+segments-requires c κs = search needs
+
+each-starts-requires : tie.Need-each-starts-requires
+each-starts-requires c κs = search needs
+
+returns-2 : tie.Need-returns-2
+returns-2 c =
+    let d = c .before in
+    let a = d .before .before .before .before .before .before .args in
+    let fails = not-true (d .each-starts .result) (c .if2 .taken) in
+    sym (no-start (a .list .now) (a .starts .now) (a .rows) (a .records) (held (d .before .before)) (tested d ∙ fails))
+
+check-memory-requires : tie.Need-check-memory-requires
+check-memory-requires c κs = search needs
+
+returns-3 : tie.Need-returns-3
+returns-3 c =
+    let d = c .before .before in
+    let a = d .before .before .before .before .before .before .args in
+    let passes = not-false (d .each-starts .result) (c .before .if2 .left) in
+    c .check-memory .ensures ∙ sym (memory-decides (a .list .now) (a .starts .now) (a .rows) (a .records) (held (d .before .before)) (tested d ∙ passes))
+
+pub check-start-spec : {M : Type 1} → statement M
+check-start-spec =
+    tie.close
+    (tie.spec
+    sound-requires
+    returns
+    segments-requires
+    each-starts-requires
+    returns-2
+    check-memory-requires
+    returns-3)

@@ -1,0 +1,66 @@
+-- The state first, and then the letter.
+use mathlib.Core.Path.{_≡_, sym, ap, _∙_}
+use mathlib.Core.Option.{none}
+use borrow.Author.Needs.{needs}
+use Rattle.contracts.specs.Answers.{placeOf}
+use Rattle.quotebox.specs.Refusals.{firstBroken}
+use Rattle.quotebox.specs.Memory.{stateRules}
+use Rattle.quotebox.specs.State.{checkedRefusal}
+use Rattle.quotebox.specs.StateLaws.{state-broken, letter-broken, segment-holds}
+use Rattle.quotebox.proofs.state.check_segment.Statement.{statement}
+use Rattle.quotebox.proofs.state.check_segment.Tie as tie
+
+good : (c : tie.After-enum-told) → let a = c .before .before .before .before .before .before .args in
+    firstBroken (stateRules (a .list .now) (a .rows .now) (a .records .now)) ≡ none
+good c = sym (c .before .before .check-state .ensures) ∙ ap checkedRefusal (c .enum-told .given .1)
+
+check-state-requires : tie.Need-check-state-requires
+check-state-requires c κs = search needs
+
+enum-told : tie.Need-enum-told
+enum-told c = search needs
+
+segment-of-requires : tie.Need-segment-of-requires
+segment-of-requires c κs = search needs
+
+enum-known-segment : tie.Need-enum-known-segment
+enum-known-segment c = search needs
+
+enum-told-2 : tie.Need-enum-told-2
+enum-told-2 c = search needs
+
+enum-known-refusal : tie.Need-enum-known-refusal
+enum-known-refusal c = search needs
+
+returns : tie.Need-returns
+returns c =
+    let d = c .before .before .before in
+    let a = d .before .before .before .before .before .before .before .args in
+    let found = sym (d .segment-of .ensures) ∙ ap placeOf (c .before .segment .given .1) in
+    (segment-holds (a .list .now) (a .rows .now) (a .records .now) (a .letter) (good (d .before)) _ found, found)
+
+returns-2 : tie.Need-returns-2
+returns-2 c =
+    let d = c .before .before in
+    let a = d .before .before .before .before .before .before .before .args in
+    letter-broken (a .list .now) (a .rows .now) (a .records .now) (a .letter) (good (d .before)) (sym (d .segment-of .ensures) ∙ ap placeOf (c .enum-told2 .given .1))
+
+returns-3 : tie.Need-returns-3
+returns-3 c =
+    let d = c .before .before .before in
+    let a = d .before .before .before .before .args in
+    state-broken (a .list .now) (a .rows .now) (a .records .now) (a .letter) _ (sym (d .check-state .ensures) ∙ ap checkedRefusal (c .before .refusal .given .1))
+
+pub check-segment-spec : {M : Type 1} → statement M
+check-segment-spec =
+    tie.close
+    (tie.spec
+    check-state-requires
+    enum-told
+    segment-of-requires
+    enum-known-segment
+    enum-told-2
+    enum-known-refusal
+    returns
+    returns-2
+    returns-3)

@@ -1,0 +1,82 @@
+-- Check by check, each answer is the first broken rule's.
+use mathlib.Core.Path.{_≡_, sym, ap, _∙_}
+use mathlib.Core.Bool.{true}
+use mathlib.Core.Option.{none}
+use borrow.Author.Needs.{needs}
+use borrow.Author.Tests.{not-true, not-false}
+use lib.ListN.{length}
+use Rattle.contracts.specs.Sound.{headerSound}
+use Rattle.quotebox.specs.Refusals.{firstBroken}
+use Rattle.quotebox.specs.Memory.{memoryRules, rowsSound}
+use Rattle.quotebox.specs.State.{checkedRefusal}
+use Rattle.quotebox.specs.StateLaws.{list-broken, memory-lent, memory-broken, row-broken, state-holds}
+use Rattle.quotebox.proofs.state.check_state.Statement.{statement}
+use Rattle.quotebox.proofs.state.check_state.Tie as tie
+
+held : (c : tie.Else1) → headerSound (c .before .before .before .before .before .args .list .now) ≡ true
+held c = sym (c .before .header-sound .ensures) ∙ not-false (c .before .header-sound .result) (c .if1 .left)
+
+lent : (c : tie.After-enum-told) → let a = c .before .before .before .before .before .before .before .before .args in
+    firstBroken (memoryRules (a .list .now) (length (a .rows .now)) (length (a .records .now))) ≡ none
+lent c = sym (c .before .before .check-memory .ensures) ∙ ap checkedRefusal (c .enum-told .given .1)
+
+header-sound-requires : tie.Need-header-sound-requires
+header-sound-requires c κs = search needs
+
+returns : tie.Need-returns
+returns c =
+    let a = c .before .before .before .before .before .args in
+    let fails = not-true (c .before .header-sound .result) (c .if1 .taken) in
+    sym (list-broken (a .list .now) (a .rows .now) (a .records .now) (sym (c .before .header-sound .ensures) ∙ fails))
+
+check-memory-requires : tie.Need-check-memory-requires
+check-memory-requires c κs = search needs
+
+enum-told : tie.Need-enum-told
+enum-told c = search needs
+
+segments-requires : tie.Need-segments-requires
+segments-requires c κs = search needs
+
+rows-sound-requires : tie.Need-rows-sound-requires
+rows-sound-requires c κs =
+    let a = c .before .before .before .before .before .before .before .before .before .args in
+    rw (c .segments .ensures) (memory-lent (a .list .now) (length (a .rows .now)) (length (a .records .now)) (lent (c .before)) .0)
+
+returns-2 : tie.Need-returns-2
+returns-2 c =
+    let told = c .before .before .before in
+    let a = told .before .before .before .before .before .before .before .before .args in
+    let passes = ap (λ n. rowsSound n (a .rows .now)) (sym (c .before .before .segments .ensures)) ∙ sym (c .before .rows-sound .ensures) ∙ c .if2 .taken in
+    sym (state-holds (a .list .now) (a .rows .now) (a .records .now) (held (told .before .before .before)) (lent told) passes)
+
+enum-known-refusal : tie.Need-enum-known-refusal
+enum-known-refusal c = search needs
+
+returns-3 : tie.Need-returns-3
+returns-3 c =
+    let told = c .before .before .before in
+    let a = told .before .before .before .before .before .before .before .before .args in
+    let fails = ap (λ n. rowsSound n (a .rows .now)) (sym (c .before .before .segments .ensures)) ∙ sym (c .before .rows-sound .ensures) ∙ c .if2 .left in
+    sym (row-broken (a .list .now) (a .rows .now) (a .records .now) (held (told .before .before .before)) (lent told) fails)
+
+returns-4 : tie.Need-returns-4
+returns-4 c =
+    let d = c .before .before .before in
+    let a = d .before .before .before .before .before .before .args in
+    sym (memory-broken (a .list .now) (a .rows .now) (a .records .now) (held (d .before)) _ (sym (d .check-memory .ensures) ∙ ap checkedRefusal (c .before .refusal .given .1)))
+
+pub check-state-spec : {M : Type 1} → statement M
+check-state-spec =
+    tie.close
+    (tie.spec
+    header-sound-requires
+    returns
+    check-memory-requires
+    enum-told
+    segments-requires
+    rows-sound-requires
+    returns-2
+    enum-known-refusal
+    returns-3
+    returns-4)

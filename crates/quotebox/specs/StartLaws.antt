@@ -1,0 +1,105 @@
+-- Laws of a start: when it is refused, and what an accepted one leaves.
+use Prim.Native.Nat.{ℕ, zero, suc, _+_, _*_, _≤_, _<_}
+use mathlib.Core.Path.{_≡_, refl, ap, sym, _∙_}
+use mathlib.Core.Bool.{true, false}
+use mathlib.Core.Logic.{_↔_, ⊎-elim}
+use mathlib.Core.List.{List, _∷_, _++_, append-assoc}
+use mathlib.Core.Option.{none, some}
+use native.Mathlib.Omega.{arith}
+use native.Mathlib.Numerals.{add-one}
+use borrow.Author.Tests.{le-leb, ltb-true, lt-ltb}
+use lib.Dec.{ltb}
+use lib.ListN.{length, drop, replicate, length-append}
+use Rattle.laws.specs.Order.{order}
+use Rattle.contracts.specs.BelowLaws.{each-passes, all-pass}
+use Rattle.contracts.specs.File.{segmentsOf}
+use Rattle.contracts.specs.Sound.{Sound, sound}
+use Rattle.contracts.specs.SoundLaws.{sound-exact}
+use Rattle.sequence.specs.Gaps.{begun}
+use Rattle.sequence.specs.RowLaws.{laid-length}
+use Rattle.quotebox.specs.declared.refusal.Refusal.the-variants.{Numbering, List as ListOf}
+use Rattle.quotebox.specs.Refusals.{Rule, firstBroken}
+use Rattle.quotebox.specs.FirstBrokenLaws.{rule-held}
+use Rattle.quotebox.specs.Memory.{rowCells, rowsWanted, recordsWanted, rowOf, withRow, memoryRules}
+use Rattle.quotebox.specs.RowsLaws.{row-laid, row-behind}
+use Rattle.quotebox.specs.StateLaws.{memory-lent}
+use Rattle.quotebox.specs.Start.{startOf, eachStarts, startRules, startedRow, startedRows}
+
+-- what start asks: 16, 10 and 15
+pub record GoodStart (list starts : List ℕ) (rows records : ℕ) : Type 0 where
+  pub list-sound : Sound list
+  pub started : (i : ℕ) → i < segmentsOf list → 0 < startOf starts i
+  pub rows-lent : rowsWanted list ≤ rows
+  pub records-lent : recordsWanted list ≤ records
+
+module _ (list starts : List ℕ) (rows records : ℕ) where
+  abbrev numbers : Rule
+  numbers = record { holds = eachStarts (segmentsOf list) starts; refusal = Numbering 0 }
+
+  pub unsound-list : sound list ≡ false → firstBroken (startRules list starts rows records) ≡ some ListOf
+  unfolding startRules
+  unsound-list h = rw h
+
+  pub no-start : sound list ≡ true → eachStarts (segmentsOf list) starts ≡ false → firstBroken (startRules list starts rows records) ≡ some (Numbering 0)
+  unfolding startRules
+  no-start h n = rw (h, n)
+
+  pub memory-decides : sound list ≡ true → eachStarts (segmentsOf list) starts ≡ true → firstBroken (startRules list starts rows records) ≡ firstBroken (memoryRules list rows records)
+  unfolding startRules
+  memory-decides h n = rw (h, n)
+
+  is-good : firstBroken (startRules list starts rows records) ≡ none → GoodStart list starts rows records
+  unfolding startRules eachStarts
+  is-good e =
+      let first = rule-held (record { holds = sound list; refusal = ListOf }) (numbers ∷ memoryRules list rows records) e in
+      let second = rule-held numbers (memoryRules list rows records) (first .1) in
+      let room = memory-lent list rows records (second .1) in
+      record {
+        list-sound = sound-exact list .0 (first .0);
+        started = λ i h. ltb-true 0 (startOf starts i) (each-passes (λ j. ltb 0 (startOf starts j)) (segmentsOf list) (second .0) i h);
+        rows-lent = room .0;
+        records-lent = room .1;
+      }
+
+  good-holds : GoodStart list starts rows records → firstBroken (startRules list starts rows records) ≡ none
+  unfolding eachStarts
+  good-holds good =
+      memory-decides (sound-exact list .1 (good .list-sound))
+      (all-pass (λ j. ltb 0 (startOf starts j)) (segmentsOf list) (λ i h. lt-ltb 0 (startOf starts i) (good .started i h)))
+      ∙ rw (le-leb (rowsWanted list) rows (good .rows-lent), le-leb (recordsWanted list) records (good .records-lent))
+
+  -- a start is accepted exactly when it is good
+  pub start-exact : firstBroken (startRules list starts rows records) ≡ none ↔ GoodStart list starts rows records
+  start-exact = (is-good, good-holds)
+
+-- ---- the rows that a start leaves
+
+pub started-length : (number : ℕ) → length (startedRow number) ≡ rowCells
+started-length number = laid-length (replicate rowCells 0) (begun number) refl (omega arith)
+
+module _ (starts : List ℕ) where
+  pub started-lengths : (n : ℕ) → length (startedRows n starts) ≡ rowCells * n
+  started-lengths zero = refl
+  started-lengths (suc n) =
+      simp (length-append, started-lengths n, started-length (startOf starts n)) (omega arith)
+
+  -- one segment more
+  pub started-more : (n : ℕ) (rows : List ℕ)
+      → withRow (startedRows n starts ++ drop (rowCells * n) rows) n (startedRow (startOf starts n))
+      ≡ startedRows (n + 1) starts ++ drop (rowCells * (n + 1)) rows
+  started-more n rows =
+      let end : rowCells * n + rowCells ≡ rowCells * (n + 1) = omega arith in
+      row-laid (startedRows n starts) rows (startedRow (startOf starts n)) n (started-lengths n)
+      ∙ ap (λ (k : ℕ). startedRows (suc n) starts ++ drop k rows) end
+      ∙ ap (λ (k : ℕ). startedRows k starts ++ drop (rowCells * (n + 1)) rows) (sym (add-one n))
+
+  -- each segment's row
+  pub started-row : (n : ℕ) (rest : List ℕ) (i : ℕ) → i < n → rowOf (startedRows n starts ++ rest) i ≡ startedRow (startOf starts i)
+  started-row zero rest i h = absurd (omega arith)
+  started-row (suc n) rest i h =
+      let row : List ℕ = startedRow (startOf starts n) in
+      ⊎-elim (λ (l : n ≤ i).
+      let here : i ≡ n = omega arith in
+      rw here (row-behind (startedRows n starts) row rest n (started-lengths n) (started-length (startOf starts n))))
+      (λ (l : i < n). rw (append-assoc (startedRows n starts) row rest) (started-row n (row ++ rest) i l))
+      (order n i)

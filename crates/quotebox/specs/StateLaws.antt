@@ -1,0 +1,121 @@
+-- Laws of the state's checks: none is refused exactly where the state is good, and what a good state gives.
+use Prim.Native.Nat.{ℕ, _+_, _*_, _≤_, _<_}
+use mathlib.Core.Path.{_≡_, _∙_}
+use mathlib.Core.Bool.{true, false}
+use mathlib.Core.Logic.{_↔_}
+use mathlib.Core.List.{List, [], _∷_, _++_}
+use mathlib.Core.Option.{none, some}
+use native.Mathlib.Omega.{arith}
+use borrow.Author.Tests.{le-leb, leb-true}
+use lib.Dec.{leb}
+use lib.ListN.{length}
+use Rattle.contracts.specs.BelowLaws.{each-passes, all-pass}
+use Rattle.contracts.specs.File.{segmentsOf}
+use Rattle.contracts.specs.HeaderLaws.{header-exact}
+use Rattle.contracts.specs.Lookup.{segmentOf}
+use Rattle.contracts.specs.LookupLaws.{segment-has}
+use Rattle.contracts.specs.Sound.{headerSound}
+use Rattle.sequence.specs.Row.{soundRow}
+use Rattle.message.specs.Head.{isSome}
+use Rattle.quotebox.specs.declared.refusal.Refusal.{Refusal}
+use Rattle.quotebox.specs.declared.refusal.Refusal.the-variants.{Code, Memory, List as ListOf, State}
+use Rattle.quotebox.specs.Refusals.{Rule, firstBroken}
+use Rattle.quotebox.specs.FirstBrokenLaws.{rule-held, one-broken, last-holds, last-broken, last-held}
+use Rattle.quotebox.specs.Memory.{rowCells, rowsWanted, recordsWanted, rowOf, rowsSound, memoryRules, stateRules}
+use Rattle.quotebox.specs.State.{segmentRules, GoodState}
+
+-- 15 in its two places
+pub memory-lent : (list : List ℕ) (rows records : ℕ) → firstBroken (memoryRules list rows records) ≡ none → (rowsWanted list ≤ rows) × (recordsWanted list ≤ records)
+memory-lent list rows records e =
+    let more : Rule = record { holds = leb (recordsWanted list) records; refusal = Memory (recordsWanted list) } in
+    let first = rule-held (record { holds = leb (rowsWanted list) rows; refusal = Memory (rowsWanted list) }) (more ∷ []) e in
+    let second = rule-held more [] (first .1) in
+    (leb-true (rowsWanted list) rows (first .0), leb-true (recordsWanted list) records (second .0))
+
+module _ (list rows records : List ℕ) where
+  abbrev soundness : Rule
+  soundness = record { holds = rowsSound (segmentsOf list) rows; refusal = State }
+
+  abbrev lent : List Rule
+  lent = memoryRules list (length rows) (length records)
+
+  abbrev behind : List Rule
+  behind = lent ++ (soundness ∷ [])
+
+  -- ---- the first broken rule, check by check
+
+  pub list-broken : headerSound list ≡ false → firstBroken (stateRules list rows records) ≡ some ListOf
+  list-broken h = rw h
+
+  module _ (h : headerSound list ≡ true) where
+    header-holds : firstBroken (stateRules list rows records) ≡ firstBroken behind
+    header-holds = rw h
+
+    pub memory-broken : (r : Refusal) → firstBroken lent ≡ some r → firstBroken (stateRules list rows records) ≡ some r
+    memory-broken r e = header-holds ∙ one-broken lent (soundness ∷ []) r e
+
+    pub row-broken : firstBroken lent ≡ none → rowsSound (segmentsOf list) rows ≡ false → firstBroken (stateRules list rows records) ≡ some State
+    row-broken e s = header-holds ∙ last-broken lent soundness e s
+
+    pub state-holds : firstBroken lent ≡ none → rowsSound (segmentsOf list) rows ≡ true → firstBroken (stateRules list rows records) ≡ none
+    state-holds e s = header-holds ∙ last-holds lent soundness e s
+
+  -- ---- 16, 15 and 18 are not given exactly where the state is good
+
+  is-good : firstBroken (stateRules list rows records) ≡ none → GoodState list rows records
+  is-good e =
+      let header = rule-held (record { holds = headerSound list; refusal = ListOf }) behind e in
+      let last = last-held lent soundness (header .1) in
+      let room = memory-lent list (length rows) (length records) (last .0) in
+      record {
+        header = header-exact list .0 (header .0);
+        rows-lent = room .0;
+        records-lent = room .1;
+        rows-sound = each-passes (λ i. soundRow (rowOf rows i)) (segmentsOf list) (last .1);
+      }
+
+  good-holds : GoodState list rows records → firstBroken (stateRules list rows records) ≡ none
+  good-holds good =
+      state-holds (header-exact list .1 (good .header))
+      (rw (le-leb (rowsWanted list) (length rows) (good .rows-lent), le-leb (recordsWanted list) (length records) (good .records-lent)))
+      (all-pass (λ i. soundRow (rowOf rows i)) (segmentsOf list) (good .rows-sound))
+
+  pub state-exact : firstBroken (stateRules list rows records) ≡ none ↔ GoodState list rows records
+  state-exact = (is-good, good-holds)
+
+  -- ---- the segment that is asked for
+
+  module _ (letter : ℕ) where
+    abbrev listed : Rule
+    listed = record { holds = isSome (segmentOf list letter); refusal = Code 0 }
+
+    pub state-broken : (r : Refusal) → firstBroken (stateRules list rows records) ≡ some r → firstBroken (segmentRules list rows records letter) ≡ some r
+    unfolding segmentRules
+    state-broken r e = one-broken (stateRules list rows records) (listed ∷ []) r e
+
+    pub letter-broken : firstBroken (stateRules list rows records) ≡ none → segmentOf list letter ≡ none → firstBroken (segmentRules list rows records letter) ≡ some (Code 0)
+    unfolding segmentRules
+    letter-broken e n = last-broken (stateRules list rows records) listed e (rw n)
+
+    pub segment-holds : firstBroken (stateRules list rows records) ≡ none → (i : ℕ) → segmentOf list letter ≡ some i → firstBroken (segmentRules list rows records letter) ≡ none
+    unfolding segmentRules
+    segment-holds e i s = last-holds (stateRules list rows records) listed e (rw s)
+
+    pub state-held : firstBroken (segmentRules list rows records letter) ≡ none → GoodState list rows records
+    unfolding segmentRules
+    state-held e = is-good (last-held (stateRules list rows records) listed e .0)
+
+    pub letter-listed : firstBroken (segmentRules list rows records letter) ≡ none → isSome (segmentOf list letter) ≡ true
+    unfolding segmentRules
+    letter-listed e = last-held (stateRules list rows records) listed e .1
+
+    -- the row of a segment that is asked for is there, and sound
+    module _ (e : firstBroken (segmentRules list rows records letter) ≡ none) (i : ℕ) (s : segmentOf list letter ≡ some i) where
+      inside : i < segmentsOf list
+      inside = segment-has list letter i s .0
+
+      pub row-there : rowCells * i + rowCells ≤ length rows
+      row-there = let room = state-held e .rows-lent in let h = inside in omega arith
+
+      pub row-sound : soundRow (rowOf rows i) ≡ true
+      row-sound = state-held e .rows-sound i inside

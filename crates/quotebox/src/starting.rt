@@ -1,0 +1,87 @@
+// A start: each listed segment's gap row begins, and every record is cleared.
+ghost use mathlib.Core.Path.{_≡_};
+ghost use mathlib.Core.List.{_++_};
+ghost use Prim.Native.Nat.{_*_, _≤_};
+ghost use lib.ListN.{length, drop, replicate};
+ghost use Rattle.quotebox.specs.Refusals.{firstBroken};
+ghost use Rattle.quotebox.specs.Memory.{rowCells};
+ghost use Rattle.quotebox.specs.State.{checkedRefusal};
+ghost use Rattle.quotebox.specs.Start.{startOf, eachStarts, startRules, startedRows};
+ghost use Rattle.quotebox.specs.CallPromises.{StartedBox};
+use crate::answers::Started;
+use crate::refusal::Refusal;
+use crate::rows;
+use crate::state;
+use crate::state::Checked;
+
+// A segment's start number; one that is missing counts as 0.
+fn start_of(starts: &[u32], segment: usize) -> u32
+    ensures { λ r. ⌜ r ≡ startOf (now (starts .entry)) segment ⌝ }
+{
+    if segment < starts.len() {
+        return starts[segment];
+    }
+    0
+}
+
+fn each_starts(starts: &[u32], segments: usize) -> bool
+    ensures { λ r. ⌜ r ≡ eachStarts segments (now (starts .entry)) ⌝ }
+{
+    let mut i = 0;
+    while i < segments {
+        if start_of(starts, i) == 0 {
+            return false;
+        }
+        i += 1;
+    }
+    true
+}
+
+fn check_start(list: &[u8], starts: &[u32], rows: usize, records: usize) -> Checked
+    ensures { λ r. ⌜ checkedRefusal r ≡ firstBroken (startRules (now (list .entry)) (now (starts .entry)) rows records) ⌝ }
+{
+    if !contracts::sound(list) {
+        return Checked::Refused(Refusal::List);
+    }
+    if !each_starts(starts, contracts::segments(list)) {
+        return Checked::Refused(Refusal::Numbering(0));
+    }
+    state::check_memory(list, rows, records)
+}
+
+fn begin_rows(starts: &[u32], rows: &mut [u32], segments: usize)
+    requires { ⌜ rowCells * segments ≤ length (now rows) ⌝ }
+    ensures { λ _. ⌜ now (rows .exit) ≡ startedRows segments (now (starts .entry)) ++ drop (rowCells * segments) (now (rows .entry)) ⌝ }
+{
+    let mut row = [0u32; 132];
+    let mut i = 0;
+    while i < segments {
+        sequence::start(&mut row, start_of(starts, i));
+        rows::put_row(rows, i, &row);
+        i += 1;
+    }
+}
+
+fn clear(records: &mut [u64], cells: usize)
+    requires { ⌜ cells ≤ length (now records) ⌝ }
+    ensures { λ _. ⌜ now (records .exit) ≡ replicate cells 0 ++ drop cells (now (records .entry)) ⌝ }
+{
+    let mut i = 0;
+    while i < cells {
+        records[i] = 0;
+        i += 1;
+    }
+}
+
+pub fn start(list: &[u8], starts: &[u32], rows: &mut [u32], records: &mut [u64]) -> Started
+    ensures { λ r. ⌜ StartedBox (now (list .entry)) (now (starts .entry)) (now (rows .entry)) (now (records .entry)) r (now (rows .exit)) (now (records .exit)) ⌝ }
+{
+    match check_start(list, starts, rows.len(), records.len()) {
+        Checked::Good => {
+            begin_rows(starts, rows, contracts::segments(list));
+            clear(records, state::RECORD * contracts::all_contracts(list));
+            Started::Started
+        }
+        Checked::Refused(refusal) => Started::Refused(refusal),
+    }
+}

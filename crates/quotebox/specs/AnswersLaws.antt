@@ -1,72 +1,23 @@
 -- An answer's numbers tell the answer: a way back from the numbers, and so which rule was broken, or that none was.
 use Prim.Native.Nat.{ℕ}
-use mathlib.Core.Path.{_≡_, refl, sym, ap, _∙_}
-use mathlib.Core.Bool.{Bool, false, cond, true≢false}
+use mathlib.Core.Path.{_≡_, refl, sym, ap}
+use mathlib.Core.Bool.{cond}
 use mathlib.Core.List.{List, _∷_}
 use mathlib.Core.Option.{Option, none, some}
 use lib.Dec.{eqb}
 use lib.ListN.{getD}
 use Rattle.quotebox.specs.declared.refusal.Refusal.{Refusal}
-use Rattle.quotebox.specs.declared.refusal.Refusal.the-variants.{Size, Packed, Flag, Count, Frame, Code, Trailer, Length, Checksum, Numbering, Field, Range, Contract, Gaps, Memory, List as ListOf, NoGap, State}
+use Rattle.quotebox.specs.declared.answers.Judged.{Judged}
 use Rattle.quotebox.specs.declared.answers.Started.{Started}
 use Rattle.quotebox.specs.declared.answers.Listed.{Listed}
 use Rattle.quotebox.specs.declared.answers.WrittenOff.{WrittenOff}
 use Rattle.quotebox.specs.declared.answers.Recorded.{Recorded}
 use Rattle.quotebox.specs.Refusals.{refusalNumbers}
-use Rattle.quotebox.specs.Answers.{startedNumbers, listedNumbers, writtenOffNumbers, recordedNumbers}
+use Rattle.quotebox.specs.RefusalsLaws.{told, refusalOf, accepts, refusal-back, refusal-told, never}
+use Rattle.quotebox.specs.Answers.{judgedNumbers, startedNumbers, listedNumbers, writtenOffNumbers, recordedNumbers}
 use Rattle.quotebox.specs.Calls.{answered}
 
--- a way back makes values with the same numbers the same
-module _ {A : Type 0} (numbers : A → List ℕ) (back : List ℕ → A) (again : (a : A) → back (numbers a) ≡ a) where
-  told : (a b : A) → numbers a ≡ numbers b → a ≡ b
-  told a b e = sym (again a) ∙ (ap back e ∙ again b)
-
--- ---- refusals
-
--- the refusal of a number, with its message, row and cells wanted
-abbrev numbered : ℕ → ℕ → ℕ → ℕ → Refusal
-numbered number message row wanted =
-    cond (eqb number 1) Size (cond (eqb number 2) Packed (cond (eqb number 3) Flag (cond (eqb number 4) Count
-    (cond (eqb number 5) (Frame message) (cond (eqb number 6) (Code message) (cond (eqb number 7) (Trailer message)
-    (cond (eqb number 8) (Length message) (cond (eqb number 9) (Checksum message) (cond (eqb number 10) (Numbering message)
-    (cond (eqb number 11) (Field message row) (cond (eqb number 12) (Range message row) (cond (eqb number 13) (Contract message)
-    (cond (eqb number 14) (Gaps message) (cond (eqb number 15) (Memory wanted) (cond (eqb number 16) ListOf
-    (cond (eqb number 17) NoGap State))))))))))))))))
-
-abbrev refusalOf : List ℕ → Refusal
-refusalOf ns = numbered (getD ns 0 0) (getD ns 1 0) (getD ns 2 0) (getD ns 3 0)
-
--- an accepted call's numbers begin with 0, and no refusal's do
-abbrev accepts : List ℕ → Bool
-accepts ns = eqb (getD ns 0 0) 0
-
-pub refusal-back : (r : Refusal) → (refusalOf (refusalNumbers r) ≡ r) × (accepts (refusalNumbers r) ≡ false)
-refusal-back Size = (refl, refl)
-refusal-back Packed = (refl, refl)
-refusal-back Flag = (refl, refl)
-refusal-back Count = (refl, refl)
-refusal-back (Frame message) = (refl, refl)
-refusal-back (Code message) = (refl, refl)
-refusal-back (Trailer message) = (refl, refl)
-refusal-back (Length message) = (refl, refl)
-refusal-back (Checksum message) = (refl, refl)
-refusal-back (Numbering message) = (refl, refl)
-refusal-back (Field message row) = (refl, refl)
-refusal-back (Range message row) = (refl, refl)
-refusal-back (Contract message) = (refl, refl)
-refusal-back (Gaps message) = (refl, refl)
-refusal-back (Memory wanted) = (refl, refl)
-refusal-back ListOf = (refl, refl)
-refusal-back NoGap = (refl, refl)
-refusal-back State = (refl, refl)
-
-pub refusal-told : (r s : Refusal) → refusalNumbers r ≡ refusalNumbers s → r ≡ s
-refusal-told = told refusalNumbers refusalOf (λ r. refusal-back r .0)
-
 -- ---- which rule was broken
-
-never : (r : Refusal) (values : List ℕ) → refusalNumbers r ≡ 0 ∷ values → ⊥
-never r values e = true≢false (sym (ap accepts e) ∙ refusal-back r .1)
 
 -- a refusal that is answered is that of the first broken rule
 pub refused-by : (o : Option Refusal) (values : List ℕ) (r : Refusal) → refusalNumbers r ≡ answered o values → o ≡ some r
@@ -97,6 +48,16 @@ started-back (Started.Refused r) = refused-back (λ ns. Started.Started) Started
 
 pub started-told : (a b : Started) → startedNumbers a ≡ startedNumbers b → a ≡ b
 started-told = told startedNumbers startedOf started-back
+
+abbrev countsAnswered : List ℕ → Judged
+countsAnswered ns = Judged.Accepted (getD ns 1 0) (getD ns 2 0) (getD ns 3 0)
+
+judged-back : (a : Judged) → answerOf countsAnswered Judged.Refused (judgedNumbers a) ≡ a
+judged-back (Judged.Accepted taken old heartbeats) = refl
+judged-back (Judged.Refused r) = refused-back countsAnswered Judged.Refused r
+
+pub judged-told : (a b : Judged) → judgedNumbers a ≡ judgedNumbers b → a ≡ b
+judged-told = told judgedNumbers (answerOf countsAnswered Judged.Refused) judged-back
 
 abbrev runsAnswered : List ℕ → Listed
 runsAnswered ns = Listed.Runs (getD ns 1 0) (getD ns 2 0)

@@ -9,7 +9,7 @@ mod reference;
 
 use asks::{Ask, Bench, LARGEST_BATCH, LARGEST_LIST};
 use feed::{Book, Pace};
-use program::{Held, Options};
+use program::{Contracts, Held, Options};
 use random::Random;
 use reference::{GAP_ROW, KEY, MOST_RUNS, NONE, PRICE, RECORD, RUNS};
 use std::collections::BTreeMap;
@@ -366,10 +366,11 @@ fn note(ask: &Ask, line: &str, seen: &mut Seen) {
         (None, Ask::Write { level, .. }) => met(format!("a message of level {level} written")),
         (None, Ask::Record { level, .. }) if line != "record none" => met(format!("a record of level {level} read")),
         (None, Ask::Gaps { .. }) => {
-            if line.contains(" 4294967295 ") {
+            let words: Vec<&str> = line.split(' ').collect();
+            if words[2] == "4294967295" {
                 met("the highest number of all".into());
             }
-            if line.contains(" 64 ") {
+            if words[3] == "64" {
                 met("64 runs".into());
             }
         }
@@ -429,7 +430,8 @@ fn sessions(options: &Options, held: &mut Held) {
         calls += s.lines.len();
         batches += s.asked.iter().filter(|ask| matches!(ask, Ask::Judge(_) | Ask::Take(_))).count();
         let expected: Vec<String> = s.lines.iter().map(|(_, line)| line.clone()).chain(["end".into()]).collect();
-        let said = options.run(contracts.as_deref(), &s.input);
+        let contracts = contracts.as_deref().map_or(Contracts::Missing, Contracts::File);
+        let said = options.run(contracts, &s.input);
         held.lines(&expected, &said, |line| {
             let at = format!("calls: seed {} session {number}", options.seed);
             match s.lines.get(line) {
@@ -538,20 +540,25 @@ fn paper(options: &Options, held: &mut Held) {
         held.hold(by_reference == lines, || format!("reference: {name}: {by_reference:?}"));
         let input: Vec<u8> = asked.iter().flat_map(|ask| ask.bytes()).collect();
         let lines: Vec<String> = lines.into_iter().chain(["end".into()]).collect();
-        held.lines(&lines, &options.run(Some(&list), &input), |line| format!("calls: case {name}, line {line}"));
+        held.lines(&lines, &options.run(Contracts::File(&list), &input), |line| format!("calls: case {name}, line {line}"));
     }
 }
 
-// The file itself: missing, at its largest, one key too large to be read.
+// The file itself: missing, a folder, at its largest, one key too large to be read; and input that comes in pieces.
 fn files(options: &Options, held: &mut Held) {
     let mut r = Random::new(options.seed);
-    for keys in [128usize, 129, 419, 420] {
-        let list = Book { segments: vec![(b'D', feed::keys(&mut r, keys))] }.bytes();
-        let asked = [Ask::Start(vec![1]), Ask::Gaps { letter: b'D', cells: 0 }];
-        let mut bench = Bench::new(Some(&list));
+    let mut lists: Vec<Vec<u8>> = [1usize, 128, 129, 419, 420].map(|n| Book { segments: vec![(b'D', feed::keys(&mut r, n))] }.bytes()).to_vec();
+    lists.extend([vec![], vec![0; LARGEST_LIST], vec![0; LARGEST_LIST + 1]]);
+    let all = lists.iter().map(|list| Contracts::File(list)).chain([Contracts::Missing, Contracts::Folder]);
+    for (i, contracts) in all.enumerate() {
+        let asked = [Ask::Start(vec![1]), numbered(b'D', [2, 3]), Ask::Gaps { letter: b'D', cells: 2 }, price_case("1.5"), Ask::Off { letter: b'D' }];
+        let mut bench = Bench::new(contracts.bytes());
         let lines: Vec<String> = asked.iter().filter_map(|ask| bench.answer(ask)).chain(["end".into()]).collect();
         let input: Vec<u8> = asked.iter().flat_map(|ask| ask.bytes()).collect();
-        held.lines(&lines, &options.run(Some(&list), &input), |line| format!("calls: a file of {keys} keys, line {line}"));
+        held.lines(&lines, &options.run(contracts, &input), |line| format!("calls: file {i}, line {line}"));
+        for piece in [1, 7] {
+            held.lines(&lines, &options.run_dripping(contracts, &input, piece), |line| format!("calls: file {i}, {piece} bytes at a time, line {line}"));
+        }
     }
 }
 
@@ -585,7 +592,7 @@ fn writes(options: &Options, held: &mut Held) {
             })
             .collect();
         let input: Vec<u8> = quotes.iter().flat_map(|q| q.0.bytes()).collect();
-        let said = options.run(None, &input);
+        let said = options.run(Contracts::Missing, &input);
         let mut said = said.lines();
         for (i, (_, letter, level, number, key, values)) in quotes.iter().enumerate() {
             let line = said.next().unwrap_or("");

@@ -1,8 +1,13 @@
 // Runs a compiled program in a folder of its own and holds what it says against the lines expected of it.
+#![allow(dead_code)] // each test uses a part
+
 use std::env;
 use std::fs::{self, File};
-use std::path::PathBuf;
-use std::process::{Command, Stdio};
+use std::io::Write;
+use std::path::{Path, PathBuf};
+use std::process::{Command, Output, Stdio};
+use std::thread;
+use std::time::Duration;
 
 pub struct Options {
     program: Vec<String>,
@@ -30,20 +35,38 @@ impl Options {
         options
     }
 
-    // What the program prints, in a folder with this file `contracts` or with none.
-    pub fn run(&self, contracts: Option<&[u8]>, input: &[u8]) -> String {
+    // What the program prints, its input a file.
+    pub fn run(&self, contracts: Contracts, input: &[u8]) -> String {
+        self.in_folder(contracts, input, |program, folder| program.stdin(Stdio::from(File::open(folder.join("input")).unwrap())).output())
+    }
+
+    // The same through a pipe that hands over few bytes at a time.
+    pub fn run_dripping(&self, contracts: Contracts, input: &[u8], piece: usize) -> String {
+        self.in_folder(contracts, input, |program, _| {
+            let mut ran = program.stdin(Stdio::piped()).stdout(Stdio::piped()).spawn()?;
+            let mut pipe = ran.stdin.take().unwrap();
+            for bytes in input.chunks(piece) {
+                // A program that has ended no longer reads.
+                if pipe.write_all(bytes).is_err() {
+                    break;
+                }
+                thread::sleep(Duration::from_micros(300));
+            }
+            drop(pipe);
+            ran.wait_with_output()
+        })
+    }
+
+    fn in_folder(&self, contracts: Contracts, input: &[u8], run: impl Fn(&mut Command, &Path) -> std::io::Result<Output>) -> String {
         let folder = env::temp_dir().join(format!("plethuran-{}", std::process::id()));
         fs::create_dir_all(&folder).unwrap();
-        if let Some(list) = contracts {
-            fs::write(folder.join("contracts"), list).unwrap();
+        match contracts {
+            Contracts::Missing => {}
+            Contracts::Folder => fs::create_dir(folder.join("contracts")).unwrap(),
+            Contracts::File(list) => fs::write(folder.join("contracts"), list).unwrap(),
         }
         fs::write(folder.join("input"), input).unwrap();
-        let ran = Command::new(&self.program[0])
-            .args(&self.program[1..])
-            .current_dir(&folder)
-            .stdin(Stdio::from(File::open(folder.join("input")).unwrap()))
-            .output()
-            .expect("the program runs");
+        let ran = run(Command::new(&self.program[0]).args(&self.program[1..]).current_dir(&folder), &folder).expect("the program runs");
         if let Some(keep) = &self.keep {
             fs::create_dir_all(keep).unwrap();
             for name in ["contracts", "input"] {
@@ -53,6 +76,23 @@ impl Options {
         fs::remove_dir_all(&folder).unwrap();
         let ending = if ran.status.success() { String::new() } else { format!("(it ended with {})\n", ran.status) };
         String::from_utf8_lossy(&ran.stdout).into_owned() + &ending
+    }
+}
+
+// What stands in the program's folder under the name `contracts`.
+#[derive(Clone, Copy)]
+pub enum Contracts<'a> {
+    Missing,
+    Folder,
+    File(&'a [u8]),
+}
+
+impl<'a> Contracts<'a> {
+    pub fn bytes(self) -> Option<&'a [u8]> {
+        match self {
+            Contracts::File(list) => Some(list),
+            Contracts::Missing | Contracts::Folder => None,
+        }
     }
 }
 

@@ -161,9 +161,9 @@ pub fn a_text(r: &mut Random, kind: Kind, width: usize) -> Vec<u8> {
 // A text that is no number of its kind, or none in its range.
 pub fn a_wrong_text(r: &mut Random, kind: Kind, width: usize) -> Vec<u8> {
     let texts: &[&str] = match (kind == PRICE, kind == QUANTITY) {
-        (true, _) => &["100000000000", "1.00000000", "0.00000000", "99999999999999999", "100000000000.0", "00000000.00000000", "100000000000.0x"],
+        (true, _) => &["100000000000", "1.00000000", "0.00000000", "99999999999999999", "100000000000.0", "00000000.00000000", "100000000000.0x", "1.00000000x", "1.00000000 1", "1.00000000."],
         (_, true) => &["1.0", "1.", "0.5", "12345678901."],
-        _ => &["10000000000000000", "1.000", "0.001", "9999999999999999999999999", "10000000000000000.00", "18446744073709551616", "184467440737095516.16"],
+        _ => &["10000000000000000", "1.000", "0.001", "9999999999999999999999999", "10000000000000000.00", "18446744073709551616", "184467440737095516.16", "1.000x", "1.000 1"],
     };
     let shapes = ["100.", ".5", "-1", "+1", "1 2", "1. 5", "1 .5", "1..5", "1.5.5", "1,5", ".", "1e5", "x", "\u{0}", "5\u{0}", "\u{b}1", "1\u{9}", "/", ":"];
     let text = if r.one_in(2) { r.pick(texts) } else { r.pick(&shapes) };
@@ -282,9 +282,10 @@ fn damage_sum(r: &mut Random, message: &mut [u8]) {
 }
 
 // An update whose sum has a byte that is lowered, made by trying contents.
-pub fn a_lowered_update(r: &mut Random, letter: u8, number: u32, key: &Key) -> Vec<u8> {
+fn a_lowered_update(r: &mut Random, book: &Book, letter: u8, number: u32) -> Vec<u8> {
+    let key = book.a_key(r, letter);
     loop {
-        let message = an_update(r, letter, 1, number, key);
+        let message = an_update(r, letter, 1, number, &key);
         let sum = &message[message.len() - 3..message.len() - 1];
         if sum.iter().any(|b| matches!(b, 9 | 12 | 16 | 18)) {
             return message;
@@ -292,10 +293,27 @@ pub fn a_lowered_update(r: &mut Random, letter: u8, number: u32, key: &Key) -> V
     }
 }
 
+// The level of an update that stands; anything else is made into one first.
+fn as_update(r: &mut Random, book: &Book, letter: u8, number: u32, message: &mut Vec<u8>) -> usize {
+    if message[1] == b'N' {
+        if let Some(k) = LENGTHS.iter().position(|&length| length == message.len()) {
+            return k + 1;
+        }
+    }
+    let (level, key) = (1 + r.below(2) as usize, book.a_key(r, letter));
+    *message = an_update(r, letter, level, number, &key);
+    level
+}
+
+// With the right sum again, as a rule: now and then it stays the old one, and a second rule is broken.
+fn reseal(r: &mut Random, message: &mut [u8]) {
+    if !r.one_in(5) {
+        seal(message);
+    }
+}
+
 // Damages a message so that a rule 5 to 13 is broken; `number` is what a number of it may be.
 pub fn damage(r: &mut Random, rule: u8, book: &Book, letter: u8, number: u32, message: &mut Vec<u8>) {
-    let mut key = book.a_key(r, letter);
-    let level = 1 + r.below(2) as usize;
     match rule {
         5 => {
             let length = message.len() as u16;
@@ -305,50 +323,49 @@ pub fn damage(r: &mut Random, rule: u8, book: &Book, letter: u8, number: u32, me
         6 => {
             let at = r.below(2) as usize;
             message[at] = if at == 0 { r.pick(b"DTFdt\x00\xff") } else { r.pick(b"@[an`{\x00\xff1 h") };
-            seal(message);
+            reseal(r, message);
         }
         7 => *message.last_mut().unwrap() = r.pick(&[0, 10, 12, 14, 141, 255]),
-        8 => {
-            *message = an_update(r, letter, level, number, &key);
-            if r.one_in(4) {
-                message[1] = b'H';
-            }
-            let length = r.pick(&[11, 12, 248, 250, 504, 506, 260]);
-            message.resize(length, b' ');
-            message[2..4].copy_from_slice(&(length as u16).to_be_bytes());
-            seal(message);
-            *message.last_mut().unwrap() = 13;
-        }
+        8 => damage_length(r, book, letter, number, message),
         9 => {
-            match r.below(4) {
+            match r.below(6) {
                 0 => *message = sealed([letter, b'H'], 0, &[]),
-                1 => *message = a_lowered_update(r, letter, number, &key),
-                2 => *message = an_update(r, letter, level, number, &key),
+                1 => *message = a_lowered_update(r, book, letter, number),
                 _ => {}
             }
             damage_sum(r, message);
         }
+        10 if message[1] == b'H' || r.one_in(8) => *message = sealed([letter, b'H'], 1 + r.below(9) as u32, &[]),
         10 => {
-            if message[1] == b'H' || r.one_in(8) {
-                *message = sealed([letter, b'H'], 1 + r.below(9) as u32, &[]);
-            } else {
-                message[4..8].fill(0);
-                seal(message);
-            }
+            message[4..8].fill(0);
+            reseal(r, message);
         }
         11 | 12 => {
-            *message = an_update(r, letter, level, number, &key);
+            let level = as_update(r, book, letter, number, message);
             for _ in 0..1 + r.below(3) {
                 damage_row(r, level, message);
             }
-            seal(message);
+            reseal(r, message);
         }
         _ => {
-            let at = r.below(KEY as u64) as usize;
-            key[at] = r.pick(b"\x00\x1f!~\x7f\xff Z");
-            *message = an_update(r, letter, level, number, &key);
+            as_update(r, book, letter, number, message);
+            message[8 + r.below(KEY as u64) as usize] = r.pick(b"\x00\x1f!~\x7f\xff Z");
+            reseal(r, message);
         }
     }
+}
+
+// A length that is none of its code's, with all else as it should be.
+fn damage_length(r: &mut Random, book: &Book, letter: u8, number: u32, message: &mut Vec<u8>) {
+    as_update(r, book, letter, number, message);
+    if r.one_in(4) {
+        message[1] = b'H';
+    }
+    let length = r.pick(&[11, 12, 248, 250, 504, 506, 260]);
+    message.resize(length, b' ');
+    message[2..4].copy_from_slice(&(length as u16).to_be_bytes());
+    *message.last_mut().unwrap() = 13;
+    reseal(r, message);
 }
 
 // ---- batches
@@ -467,15 +484,19 @@ pub fn a_sound_batch(r: &mut Random, book: &Book, letter: u8, pace: Pace, row: &
 // A batch for a segment, sound or with up to two things wrong, each at the first, a middle or the last message.
 pub fn a_batch(r: &mut Random, book: &Book, letter: u8, pace: Pace, row: &[u32]) -> Vec<u8> {
     let mut messages = a_sound_batch(r, book, letter, pace, row);
-    let wrong = r.pick(&[0, 0, 0, 1, 1, 2]);
-    for _ in 0..wrong {
-        let last = messages.len() - 1;
-        let at = match r.below(3) {
-            0 => 0,
-            1 => last,
-            _ => r.below(messages.len() as u64) as usize,
-        };
-        let rule = 5 + r.below(9) as u8;
+    let wrong = r.pick(&[0, 0, 0, 1, 1, 2, 2]);
+    // The last rules first, since one message may be damaged twice.
+    let mut rules: Vec<u8> = (0..wrong).map(|_| 5 + r.below(9) as u8).collect();
+    rules.sort_by(|a, b| b.cmp(a));
+    let mut at = 0;
+    for (k, rule) in rules.into_iter().enumerate() {
+        if k == 0 || r.one_in(2) {
+            at = match r.below(3) {
+                0 => 0,
+                1 => messages.len() - 1,
+                _ => r.below(messages.len() as u64) as usize,
+            };
+        }
         let number = a_number(r, pace, row);
         damage(r, rule, book, letter, number, &mut messages[at]);
     }

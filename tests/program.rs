@@ -17,7 +17,7 @@ pub struct Options {
 }
 
 impl Options {
-    // PROGRAM... [--seed N] [--times N] [--keep FOLDER]
+    // [PROGRAM...] [--seed N] [--times N] [--keep FOLDER]
     pub fn read() -> Options {
         let mut options = Options { program: vec![], seed: 1, times: 1, keep: None };
         let mut args = env::args().skip(1);
@@ -31,7 +31,9 @@ impl Options {
             }
         }
         // The program is run elsewhere than here.
-        options.program[0] = fs::canonicalize(&options.program[0]).expect("the program is there").display().to_string();
+        if let Some(path) = options.program.first_mut() {
+            *path = fs::canonicalize(&path).expect("the program is there").display().to_string();
+        }
         options
     }
 

@@ -229,7 +229,7 @@ pub fn read_rows(level: usize, data: &[u8], cells: &mut [u64; MOST_CELLS]) -> Re
     Ok(())
 }
 
-fn write_rows(level: usize, key: &[u8; KEY], values: &[u64]) -> Result<Vec<u8>, (u8, usize)> {
+pub fn write_rows(level: usize, key: &[u8; KEY], values: &[u64]) -> Result<Vec<u8>, (u8, usize)> {
     let mut data = vec![];
     for (i, &(row, width)) in layout(level).iter().enumerate() {
         let value = if i < MARKET_TYPE_ROW { 0 } else { values[i - MARKET_TYPE_ROW] };
@@ -315,7 +315,7 @@ fn body<'a>(list: &'a [u8], segment: &Segment) -> &'a [u8] {
     &list[segment.offset..segment.offset + KEY * segment.count]
 }
 
-fn bodies_sound(list: &[u8], header: &Header) -> bool {
+pub fn bodies_sound(list: &[u8], header: &Header) -> bool {
     header.segments().iter().all(|segment| {
         let keys: Vec<&[u8]> = body(list, segment).chunks(KEY).collect();
         keys.iter().all(|key| key.iter().all(|b| (32..=126).contains(b))) && keys.windows(2).all(|w| w[0] < w[1])

@@ -12,9 +12,10 @@ use Rattle.quotebox.specs.declared.answers.Started.{Started}
 use Rattle.quotebox.specs.declared.answers.Listed.{Listed}
 use Rattle.quotebox.specs.declared.answers.WrittenOff.{WrittenOff}
 use Rattle.quotebox.specs.declared.answers.Recorded.{Recorded}
+use Rattle.quotebox.specs.declared.answers.Written.{Written}
 use Rattle.quotebox.specs.Refusals.{refusalNumbers}
 use Rattle.quotebox.specs.RefusalsLaws.{told, refusalOf, accepts, refusal-back, refusal-told, never}
-use Rattle.quotebox.specs.Answers.{judgedNumbers, startedNumbers, listedNumbers, writtenOffNumbers, recordedNumbers}
+use Rattle.quotebox.specs.Answers.{judgedNumbers, startedNumbers, listedNumbers, writtenOffNumbers, recordedNumbers, writtenNumbers}
 use Rattle.quotebox.specs.Calls.{answered}
 
 -- ---- which rule was broken
@@ -89,3 +90,13 @@ recorded-back (Recorded.Refused r) = refused-back recordAnswered Recorded.Refuse
 
 pub recorded-told : (a b : Recorded) → recordedNumbers a ≡ recordedNumbers b → a ≡ b
 recorded-told = told recordedNumbers (answerOf recordAnswered Recorded.Refused) recorded-back
+
+abbrev lengthAnswered : List ℕ → Written
+lengthAnswered ns = Written.Message (getD ns 1 0)
+
+written-back : (a : Written) → answerOf lengthAnswered Written.Refused (writtenNumbers a) ≡ a
+written-back (Written.Message length) = refl
+written-back (Written.Refused r) = refused-back lengthAnswered Written.Refused r
+
+pub written-told : (a b : Written) → writtenNumbers a ≡ writtenNumbers b → a ≡ b
+written-told = told writtenNumbers (answerOf lengthAnswered Written.Refused) written-back

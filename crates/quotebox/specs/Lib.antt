@@ -35,3 +35,7 @@ pub mod StateLaws
 pub mod StepLaws
 pub mod TookLaws
 pub mod UnreadLaws
+pub mod Writer
+pub mod WriterLaws
+pub mod WriterPromises
+pub mod WriterPromisesLaws

@@ -1,0 +1,5 @@
+pub mod ReadBack
+pub mod ReadBackLaws
+pub mod ReadBackStepsLaws
+pub mod WrittenFieldsLaws
+pub mod WrittenGoodLaws

@@ -1,2 +1,7 @@
 pub mod Past
 pub mod Histories
+pub mod Segment
+pub mod SegmentLaws
+pub mod StoresLaws
+pub mod Kept
+pub mod KeptLaws

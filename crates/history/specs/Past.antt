@@ -1,6 +1,6 @@
 -- What has come in a history, told by the calls' inputs and answers alone, and what by it was taken, written off and is
 -- missing: 01 "Sequence and gaps".
-use Prim.Native.Nat.{ℕ, zero, suc, _-_, max}
+use Prim.Native.Nat.{ℕ, zero, suc, _+_, _-_, max}
 use mathlib.Core.Bool.{Bool, true, false, not, cond, _&&_, _||_}
 use mathlib.Core.List.{List, [], _∷_}
 use mathlib.Core.Option.{Option, none, some}
@@ -77,9 +77,13 @@ held (m ∷ ms) n = eqb (numberOf m) n || held ms n
 abbrev pub isNew : ℕ → List Message → (ℕ → Bool) → ℕ → Bool
 isNew start taken written n = leb start n && not (held taken n) && not (written n)
 
+-- a message that comes is taken: heartbeats never are
+abbrev pub comesNew : ℕ → List Message → (ℕ → Bool) → Message → Bool
+comesNew start taken written m = isNumbered (m .what) && isNew start taken written (numberOf m)
+
 -- the messages taken when one more has come
 abbrev pub taking : ℕ → (ℕ → Bool) → Message → List Message → List Message
-taking start written m taken = cond (isNumbered (m .what) && isNew start taken written (numberOf m)) (m ∷ taken) taken
+taking start written m taken = cond (comesNew start taken written m) (m ∷ taken) taken
 
 -- the messages of a segment that were taken, the latest first
 abbrev pub takenOf : ℕ → ℕ → List Event → List Message
@@ -87,6 +91,24 @@ takenOf letter start [] = []
 takenOf letter start (came l m ∷ past) =
     cond (eqb l letter) (taking start (wroteOffIn letter past) m (takenOf letter start past)) (takenOf letter start past)
 takenOf letter start (off l r ∷ past) = takenOf letter start past
+
+-- what becomes of a message that comes after a past: "A number above highest, or missing, is taken. All others are old"
+abbrev pub isTaken : ℕ → ℕ → List Event → Message → Bool
+isTaken letter start past m = comesNew start (takenOf letter start past) (wroteOffIn letter past) m
+
+abbrev pub isOld : ℕ → ℕ → List Event → Message → Bool
+isOld letter start past m = isNumbered (m .what) && not (isTaken letter start past m)
+
+abbrev pub isHeartbeat : What → Bool
+isHeartbeat Heartbeat = true
+isHeartbeat (PassedOver number) = false
+isHeartbeat (Update number level place) = false
+isHeartbeat (Bad fault) = false
+
+-- how many of the messages that come in turn pass a test of the past before them and themselves
+abbrev pub howMany : (List Event → Message → Bool) → ℕ → List Message → List Event → ℕ
+howMany test letter [] past = 0
+howMany test letter (m ∷ ms) past = cond (test past m) 1 0 + howMany test letter ms (came letter m ∷ past)
 
 -- ---- highest, and what is missing
 

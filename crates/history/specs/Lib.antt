@@ -5,3 +5,5 @@ pub mod SegmentLaws
 pub mod StoresLaws
 pub mod Kept
 pub mod KeptLaws
+pub mod Turn
+pub mod TurnLaws

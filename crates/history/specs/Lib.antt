@@ -7,3 +7,5 @@ pub mod Kept
 pub mod KeptLaws
 pub mod Turn
 pub mod TurnLaws
+pub mod Holds
+pub mod HoldsLaws

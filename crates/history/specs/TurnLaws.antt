@@ -60,7 +60,7 @@ pub taken-elsewhere : (letter start l : ℕ) (m : Message) (past : List Event) �
 taken-elsewhere letter start l m past n = rw (ne-eqb l letter n)
 
 -- one segment has a letter
-one-segment : (list : List ℕ) (letter i j : ℕ) → segmentOf list letter ≡ some i → segmentOf list letter ≡ some j → i ≡ j
+pub one-segment : (list : List ℕ) (letter i j : ℕ) → segmentOf list letter ≡ some i → segmentOf list letter ≡ some j → i ≡ j
 one-segment list letter i j e f = let both : some i ≡ some j = sym e ∙ f in cc
 
 -- ---- a number acts
@@ -185,12 +185,12 @@ module _ (list records : List ℕ) (letter i : ℕ) (listed : segmentOf list let
       elsewhere : (contract ≡ contractsBefore list j + p → ⊥) → Now
       elsewhere n =
           let not-it : eqb letter l && (eqb place p && sameLevel level v) ≡ false =
-              ⊎-elim (λ (e : letter ≡ l).
-              let seg : i ≡ j = one-segment list l i j (ap (segmentOf list) (sym e) ∙ listed) s in
-              let apart : place ≡ p → ⊥ = λ f. n (ap₂ _+_ (ap (contractsBefore list) seg) f) in
-              simp (ne-eqb place p apart, and-false))
-              (λ (d : letter ≡ l → ⊥). simp (ne-eqb letter l d))
-              (same letter l)
+          ⊎-elim (λ (e : letter ≡ l).
+          let seg : i ≡ j = one-segment list l i j (ap (segmentOf list) (sym e) ∙ listed) s in
+          let apart : place ≡ p → ⊥ = λ f. n (ap₂ _+_ (ap (contractsBefore list) seg) f) in
+          simp (ne-eqb place p apart, and-false))
+          (λ (d : letter ≡ l → ⊥). simp (ne-eqb letter l d))
+          (same letter l)
           in
           rw not-it (away (contracts-apart (contractsBefore list j + p) v contract level (λ e. n (sym e))))
 
@@ -313,8 +313,8 @@ module _ (list starts : List ℕ) (letter i : ℕ) (listed : segmentOf list lett
         let some-number : 0 < number = rw (u .kind-is, u .number-is) at (good-exact list letter bytes .0 (ap verdictOf e) .numbering) in
         number-turns m (rw e) changed (stored-long at number (recordOf level (m .cells)) (box .records))
         (λ new.
-            records-changed list starts (box .records) letter i listed past m (f .records-fit) (changed (box .records)) new
-            (update-changes list (box .records) letter i listed place there level (f .records-long) m number e some-number _ cells-are))
+        records-changed list starts (box .records) letter i listed past m (f .records-fit) (changed (box .records)) new
+        (update-changes list (box .records) letter i listed place there level (f .records-long) m number e some-number _ cells-are))
         k box′
         (ap (λ (n : ℕ). numberActs box k n changed) (ap numberIn e)
         ∙ ap (λ (c : ℕ). numberActs box k number (stored (recordAt c level) number (recordOf level (m .cells)))) (sym contract)
@@ -329,8 +329,8 @@ module _ (list starts : List ℕ) (letter i : ℕ) (listed : segmentOf list lett
         go (what.PassedOver number) e =
             number-turns m (rw e) (λ records. records) refl
             (λ new.
-                records-changed list starts (box .records) letter i listed past m (f .records-fit) (box .records) new
-                (λ l j place level s h o kept. unchanged (box .records) _ level (eqb letter l && isOf place level (m .what)) m o (rw e (and-false (eqb letter l))) kept))
+            records-changed list starts (box .records) letter i listed past m (f .records-fit) (box .records) new
+            (λ l j place level s h o kept. unchanged (box .records) _ level (eqb letter l && isOf place level (m .what)) m o (rw e (and-false (eqb letter l))) kept))
             k box′ (ap (λ (number : ℕ). numberActs box k number (λ records. records)) (ap numberIn e) ∙ sym (acts-as list letter bytes m refl e box k) ∙ acts)
         go (what.Update number level place) e = update-turns number level place e
 

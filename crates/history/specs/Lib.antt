@@ -9,3 +9,5 @@ pub mod Turn
 pub mod TurnLaws
 pub mod Holds
 pub mod HoldsLaws
+pub mod Exactly
+pub mod ListingLaws

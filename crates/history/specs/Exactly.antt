@@ -1,13 +1,19 @@
 -- What the demands say of the answers after a history, in the words of its past.
 use Prim.Native.Nat.{ℕ, _*_, _≤_, _<_}
 use mathlib.Core.Path.{_≡_}
-use mathlib.Core.Bool.{true}
-use mathlib.Core.List.{List}
+use mathlib.Core.Bool.{true, false}
+use mathlib.Core.List.{List, List·Memᴰ}
 use lib.ListN.{length, take}
 use Rattle.sequence.specs.Apart.{Apart}
 use Rattle.sequence.specs.Runs.{Run, run, names, missing}
 use Rattle.sequence.specs.Row.{pairs}
-use Rattle.history.specs.Past.{Event, highestIn, missingIn}
+use Rattle.layout.specs.declared.rows.Level.{Level}
+use Rattle.layout.specs.Quote.{quoteOf}
+use Rattle.message.specs.declared.body.Message.{Message}
+use Rattle.quotebox.specs.declared.answers.Reading.{Reading}
+use Rattle.quotebox.specs.declared.answers.Recorded.{Recorded}
+use Rattle.quotebox.specs.Record.{blank}
+use Rattle.history.specs.Past.{Event, highestIn, missingIn, numberOf, isOf}
 
 -- the runs that a listing put in lent cells: two cells for each that it answers
 abbrev pub runsPut : ℕ → List ℕ → List Run
@@ -22,3 +28,17 @@ pub record NamesMissing (letter start : ℕ) (past : List Event) (highest runs :
   -- no number is named twice
   pub each-once : (n i j : ℕ) → i < runs → j < runs → names (run (runsPut runs cells) i) n ≡ true → names (run (runsPut runs cells) j) n ≡ true → i ≡ j
   pub exactly : (n : ℕ) → missing (runsPut runs cells) n ≡ missingIn letter start past n
+
+-- the highest-numbered update of a contract and level among the messages taken
+pub record IsNewest (place : ℕ) (level : Level) (taken : List Message) (m : Message) : Type 0 where
+  pub was-taken : List·Memᴰ m taken
+  pub of-contract : isOf place level (m .what) ≡ true
+  pub highest : (k : Message) → List·Memᴰ k taken → isOf place level (k .what) ≡ true → numberOf k ≤ numberOf m
+
+abbrev pub NoUpdate : ℕ → Level → List Message → Type 0
+NoUpdate place level taken = (m : Message) → List·Memᴰ m taken → isOf place level (m .what) ≡ false
+
+-- "each record is its contract's highest-numbered update taken": its number, and its rows as they stand in its message
+pub data ReadsNewest (place : ℕ) (level : Level) (taken : List Message) (reading : Reading) : Type 0 where
+  no-record : NoUpdate place level taken → reading .answer ≡ Recorded.NoRecord → reading .quote ≡ blank → ReadsNewest place level taken reading
+  a-record : (m : Message) → IsNewest place level taken m → reading .answer ≡ Recorded.Record (numberOf m) → reading .quote ≡ quoteOf level (m .cells) → ReadsNewest place level taken reading

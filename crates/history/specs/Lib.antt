@@ -11,3 +11,5 @@ pub mod Holds
 pub mod HoldsLaws
 pub mod Exactly
 pub mod ListingLaws
+pub mod NewestLaws
+pub mod RecordLaws

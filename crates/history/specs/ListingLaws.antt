@@ -106,7 +106,7 @@ module _ {list starts rows records : List ℕ} {past : List Event} (r : Reached 
 
   -- ---- what is answered: highest and the number of runs where the cells are enough, else 15
 
-  segment-good : firstBroken (segmentRules list rows records letter) ≡ none
+  pub segment-good : firstBroken (segmentRules list rows records letter) ≡ none
   segment-good = segment-holds list rows records letter (state-exact list rows records .1 (reached-holds r .state)) i s
 
   wanted-are : wanted (gapsOfLetter list rows letter .runs) ≡ 2 * runsStanding letter start past

@@ -3,7 +3,9 @@ use Prim.Native.Nat.{ℕ, _*_, _≤_, _<_}
 use mathlib.Core.Path.{_≡_}
 use mathlib.Core.Bool.{true, false}
 use mathlib.Core.List.{List, List·Memᴰ}
+use mathlib.Core.Option.{some}
 use lib.ListN.{length, take}
+use Rattle.contracts.specs.Lookup.{segmentOf}
 use Rattle.sequence.specs.Apart.{Apart}
 use Rattle.sequence.specs.Runs.{Run, run, names, missing}
 use Rattle.sequence.specs.Row.{pairs}
@@ -12,8 +14,10 @@ use Rattle.layout.specs.Quote.{quoteOf}
 use Rattle.message.specs.declared.body.Message.{Message}
 use Rattle.quotebox.specs.declared.answers.Reading.{Reading}
 use Rattle.quotebox.specs.declared.answers.Recorded.{Recorded}
+use Rattle.quotebox.specs.Batch.{batchLetter}
 use Rattle.quotebox.specs.Record.{blank}
-use Rattle.history.specs.Past.{Event, highestIn, missingIn, numberOf, isOf}
+use Rattle.quotebox.specs.Start.{startOf}
+use Rattle.history.specs.Past.{Event, batchMessages, highestIn, missingIn, numberOf, isOf, isTaken, isOld, isHeartbeat, howMany}
 
 -- the runs that a listing put in lent cells: two cells for each that it answers
 abbrev pub runsPut : ℕ → List ℕ → List Run
@@ -42,3 +46,11 @@ NoUpdate place level taken = (m : Message) → List·Memᴰ m taken → isOf pla
 pub data ReadsNewest (place : ℕ) (level : Level) (taken : List Message) (reading : Reading) : Type 0 where
   no-record : NoUpdate place level taken → reading .answer ≡ Recorded.NoRecord → reading .quote ≡ blank → ReadsNewest place level taken reading
   a-record : (m : Message) → IsNewest place level taken m → reading .answer ≡ Recorded.Record (numberOf m) → reading .quote ≡ quoteOf level (m .cells) → ReadsNewest place level taken reading
+
+-- the counts of an accepted batch are those of its messages, each by what became of it when it came
+pub record CountsCame (list starts : List ℕ) (past : List Event) (batch : List ℕ) (taken old heartbeats : ℕ) : Type 0 where
+  pub segment : ℕ
+  pub listed : segmentOf list (batchLetter batch) ≡ some segment
+  pub taken-are : taken ≡ howMany (isTaken (batchLetter batch) (startOf starts segment)) (batchLetter batch) (batchMessages list batch) past
+  pub old-are : old ≡ howMany (isOld (batchLetter batch) (startOf starts segment)) (batchLetter batch) (batchMessages list batch) past
+  pub heartbeats-are : heartbeats ≡ howMany (λ before m. isHeartbeat (m .what)) (batchLetter batch) (batchMessages list batch) past

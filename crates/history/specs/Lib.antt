@@ -13,3 +13,4 @@ pub mod Exactly
 pub mod ListingLaws
 pub mod NewestLaws
 pub mod RecordLaws
+pub mod CountsLaws

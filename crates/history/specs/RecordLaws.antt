@@ -1,14 +1,16 @@
 -- Demand 3, "each record is its contract's highest-numbered update taken".
 use Prim.Native.Nat.{ℕ, suc, _+_, _-_, _<_}
 use mathlib.Core.Path.{_≡_, refl, sym, ap, _∙_}
-use mathlib.Core.Bool.{false}
+use mathlib.Core.Bool.{false, true≢false}
 use mathlib.Core.List.{List, _∷_, _++_}
 use mathlib.Core.Option.{Option, none, some}
+use mathlib.Core.Logic.{_↔_}
 use native.Mathlib.Omega.{arith}
 use borrow.Author.Tests.{ne-eqb}
 use lib.Dec.{eqb}
 use lib.ListN.{length, getD, take, drop, replicate, length-drop}
 use lib.Seq.{drop-drop}
+use Rattle.laws.specs.Choice.{clash}
 use Rattle.laws.specs.Lists.{middle}
 use Rattle.contracts.specs.File.{letterAt, contractsBefore, keyOf}
 use Rattle.contracts.specs.Lookup.{segmentOf, placeIn}
@@ -42,7 +44,7 @@ use Rattle.history.specs.KeptLaws.{quote-cells, kept-number}
 use Rattle.history.specs.Histories.{Reached}
 use Rattle.history.specs.HoldsLaws.{reached-holds}
 use Rattle.history.specs.ListingLaws.{segment-good}
-use Rattle.history.specs.Exactly.{ReadsNewest, no-record, a-record}
+use Rattle.history.specs.Exactly.{NoUpdate, ReadsNewest, no-record, a-record}
 use Rattle.history.specs.NewestLaws.{Found, newest-found}
 
 -- ---- a record that holds an update gives its rows back
@@ -104,3 +106,12 @@ module _ {list starts rows records : List ℕ} {past : List Event} (r : Reached 
       let sound = reached-holds r .list-sound in
       reads-key (letterAt list i) i (segment-exact list (sound .header) (letterAt list i) i .1 (l .segment, refl)) (keyOf list i place) place
       (key-exact list i (keyOf list i place) sound (l .segment) place .1 (l .place, refl)) level reading p
+
+-- "A contract with no update taken reads as 'no record'", and no other does
+pub no-record-exactly : {place : ℕ} {level : Level} {taken : List Message} {reading : Reading} → ReadsNewest place level taken reading
+    → reading .answer ≡ Recorded.NoRecord ↔ NoUpdate place level taken
+no-record-exactly (no-record none-taken answer quote) = ((λ e. none-taken), (λ n. answer))
+no-record-exactly (a-record m is answer quote) = (
+  (λ e. let clashes : Recorded.Record (numberOf m) ≡ Recorded.NoRecord = sym answer ∙ e in absurd (clash (cc))),
+  (λ none-taken. absurd (true≢false (sym (is .of-contract) ∙ none-taken m (is .was-taken)))),
+)

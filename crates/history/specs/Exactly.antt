@@ -1,23 +1,29 @@
 -- What the demands say of the answers after a history, in the words of its past.
-use Prim.Native.Nat.{ℕ, _*_, _≤_, _<_}
+use Prim.Native.Nat.{ℕ, zero, suc, _*_, _≤_, _<_}
 use mathlib.Core.Path.{_≡_}
 use mathlib.Core.Bool.{true, false}
-use mathlib.Core.List.{List, List·Memᴰ}
+use mathlib.Core.List.{List, _∷_, List·Memᴰ}
+use mathlib.Core.Logic.{_⊎_}
 use mathlib.Core.Option.{some}
-use lib.ListN.{length, take}
+use lib.ListN.{length, take, drop}
 use Rattle.contracts.specs.Lookup.{segmentOf}
 use Rattle.sequence.specs.Apart.{Apart}
 use Rattle.sequence.specs.Runs.{Run, run, names, missing}
+use Rattle.sequence.specs.Gaps.{most}
 use Rattle.sequence.specs.Row.{pairs}
 use Rattle.layout.specs.declared.rows.Level.{Level}
 use Rattle.layout.specs.Quote.{quoteOf}
 use Rattle.message.specs.declared.body.Message.{Message}
+use Rattle.message.specs.Fields.{lengthOf}
+use Rattle.message.specs.Good.{GoodMessage}
+use Rattle.message.specs.Message.{messageOf}
 use Rattle.quotebox.specs.declared.answers.Reading.{Reading}
 use Rattle.quotebox.specs.declared.answers.Recorded.{Recorded}
-use Rattle.quotebox.specs.Batch.{batchLetter}
+use Rattle.quotebox.specs.Batch.{batchLetter, countOf, dataOf}
+use Rattle.quotebox.specs.Good.{GoodFront}
 use Rattle.quotebox.specs.Record.{blank}
 use Rattle.quotebox.specs.Start.{startOf}
-use Rattle.history.specs.Past.{Event, batchMessages, highestIn, missingIn, numberOf, isOf, isTaken, isOld, isHeartbeat, howMany}
+use Rattle.history.specs.Past.{Event, came, batchMessages, highestIn, missingIn, runsStanding, numberOf, isOf, isTaken, isOld, isHeartbeat, howMany}
 
 -- the runs that a listing put in lent cells: two cells for each that it answers
 abbrev pub runsPut : ℕ → List ℕ → List Run
@@ -54,3 +60,24 @@ pub record CountsCame (list starts : List ℕ) (past : List Event) (batch : List
   pub taken-are : taken ≡ howMany (isTaken (batchLetter batch) (startOf starts segment)) (batchLetter batch) (batchMessages list batch) past
   pub old-are : old ≡ howMany (isOld (batchLetter batch) (startOf starts segment)) (batchLetter batch) (batchMessages list batch) past
   pub heartbeats-are : heartbeats ≡ howMany (λ before m. isHeartbeat (m .what)) (batchLetter batch) (batchMessages list batch) past
+
+-- the past when the message that bytes begin with has come
+abbrev pub cameNext : List ℕ → ℕ → List ℕ → List Event → List Event
+cameNext list letter bytes past = came letter (messageOf list letter bytes) ∷ past
+
+-- of so many messages from message k on, message i is the one at which over 64 runs would stand, counted from the set of
+-- missing numbers, and no rule refuses before: it and every message before it is good, 5 to 13
+abbrev pub OverAt : ℕ → List ℕ → ℕ → ℕ → List Event → ℕ → List ℕ → ℕ → Type 0
+OverAt zero list letter start past k bytes i = ⊥
+OverAt (suc more) list letter start past k bytes i =
+    GoodMessage list letter bytes
+    × (((i ≡ k) × (most < runsStanding letter start (cameNext list letter bytes past)))
+    ⊎ ((runsStanding letter start (cameNext list letter bytes past) ≤ most)
+    × OverAt more list letter start (cameNext list letter bytes past) (suc k) (drop (lengthOf bytes) bytes) i))
+
+pub record OverInBatch (list starts : List ℕ) (past : List Event) (batch : List ℕ) (i : ℕ) : Type 0 where
+  -- 1 to 4 before the messages
+  pub front : GoodFront batch
+  pub segment : ℕ
+  pub listed : segmentOf list (batchLetter batch) ≡ some segment
+  pub over : OverAt (countOf batch) list (batchLetter batch) (startOf starts segment) past 0 (dataOf batch) i

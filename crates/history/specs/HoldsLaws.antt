@@ -94,6 +94,18 @@ module _ {list starts rows records : List ℕ} {past : List Event} (h : Holds li
   abbrev ms : List Message
   ms = batchMessages list batch
 
+  module _ (i : ℕ) (s : segmentOf list letter ≡ some i) where
+    pub box-before : BoxFits list starts letter i past (boxOf list letter rows records)
+    box-before =
+        let there = segment-has list letter i s .0 in
+        let row : rowIn rows (segmentOf list letter) ≡ rowOf rows i = ap (rowIn rows) s in
+        record {
+          row-sound = rw row (h .state .rows-sound i there);
+          gaps-fit = rw row (h .gaps-fit letter i s);
+          records-fit = h .records-fit;
+          records-long = h .state .records-lent;
+        }
+
   module _ (box : Box) (acts : batchActs list rows records batch ≡ acted box) where
     pub batch-listed : (i : ℕ) × (segmentOf list letter ≡ some i)
     batch-listed = go (segmentOf list letter) refl
@@ -106,20 +118,9 @@ module _ {list starts rows records : List ℕ} {past : List Event} (h : Holds li
         go (some i) e = (i, e)
 
     module _ (i : ℕ) (s : segmentOf list letter ≡ some i) where
-      box-before : BoxFits list starts letter i past (boxOf list letter rows records)
-      box-before =
-          let there = segment-has list letter i s .0 in
-          let row : rowIn rows (segmentOf list letter) ≡ rowOf rows i = ap (rowIn rows) s in
-          record {
-            row-sound = rw row (h .state .rows-sound i there);
-            gaps-fit = rw row (h .gaps-fit letter i s);
-            records-fit = h .records-fit;
-            records-long = h .state .records-lent;
-          }
-
       pub batch-turned : Turned list starts letter i past (boxOf list letter rows records) ms box
       batch-turned =
-          messages-turn list starts letter i s (countOf batch) 0 past (boxOf list letter rows records) (dataOf batch) box box-before
+          messages-turn list starts letter i s (countOf batch) 0 past (boxOf list letter rows records) (dataOf batch) box (box-before i s)
           (messages-accepted list rows records batch box acts)
 
       pub batch-holds : {rows′ records′ : List ℕ} → rows′ ≡ rowsAfter list letter rows (acted box) → records′ ≡ recordsAfter records (acted box)

@@ -14,3 +14,4 @@ pub mod ListingLaws
 pub mod NewestLaws
 pub mod RecordLaws
 pub mod CountsLaws
+pub mod FullLaws

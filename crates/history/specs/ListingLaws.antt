@@ -15,7 +15,6 @@ use Rattle.contracts.specs.Lookup.{segmentOf}
 use Rattle.sequence.specs.Apart.{Apart}
 use Rattle.sequence.specs.Runs.{Run, run, names, missing, runsIn}
 use Rattle.sequence.specs.RunsLaws.{named}
-use Rattle.sequence.specs.RunsCountLaws.{runs-counted}
 use Rattle.sequence.specs.Gaps.{Gaps, wanted}
 use Rattle.sequence.specs.Row.{pairs, flat, gapsOf}
 use Rattle.sequence.specs.Sound.{Sound}
@@ -38,6 +37,7 @@ use Rattle.quotebox.specs.declared.refusal.Refusal.{Refusal}
 use Rattle.quotebox.specs.declared.refusal.Refusal.the-variants.{Memory}
 use Rattle.history.specs.Past.{Event, wroteOffIn, takenOf, highestOf, highestIn, missingBy, missingIn, runsStanding}
 use Rattle.history.specs.Segment.{Fits}
+use Rattle.history.specs.SegmentLaws.{fits-standing}
 use Rattle.history.specs.Histories.{Reached}
 use Rattle.history.specs.HoldsLaws.{reached-holds}
 use Rattle.history.specs.Exactly.{runsPut, NamesMissing}
@@ -82,11 +82,7 @@ module _ {list starts rows records : List ℕ} {past : List Event} (r : Reached 
 
   -- as many runs stand as the missing numbers make
   pub runs-are : length (gapsOfLetter list rows letter .runs) ≡ runsStanding letter start past
-  runs-are =
-      let g : Gaps = gapsOfLetter list rows letter in
-      runs-counted (suc (g .highest)) (sound-apart (fits-here .sound)) (omega arith)
-      ∙ ap (λ (held : ℕ → Bool). runsIn held (suc (g .highest))) (fun-ext (fits-here .missing-is))
-      ∙ ap (λ (n : ℕ). runsIn (missingIn letter start past) (suc n)) (fits-here .highest-is)
+  runs-are = fits-standing start (takenOf letter start past) (wroteOffIn letter past) (gapsOfLetter list rows letter) fits-here
 
   -- "After any sequence of calls from a fresh start, the gap list names exactly the missing numbers"
   pub gaps-exactly : (cells : List ℕ) (highest runs : ℕ) (cells′ : List ℕ) → ListedRuns list rows records letter cells (Listed.Runs highest runs) cells′

@@ -128,8 +128,11 @@ abbrev pub missingIn : ℕ → ℕ → List Event → ℕ → Bool
 missingIn letter start past n = missingBy start (takenOf letter start past) (wroteOffIn letter past) n
 
 -- how many runs the missing numbers make
+abbrev pub standingBy : ℕ → List Message → (ℕ → Bool) → ℕ
+standingBy start taken written = runsIn (missingBy start taken written) (suc (highestOf start taken))
+
 abbrev pub runsStanding : ℕ → ℕ → List Event → ℕ
-runsStanding letter start past = runsIn (missingIn letter start past) (suc (highestIn letter start past))
+runsStanding letter start past = standingBy start (takenOf letter start past) (wroteOffIn letter past)
 
 -- ---- the highest-numbered update of a contract
 

@@ -1,21 +1,24 @@
 -- A start, a message and a write-off keep a segment's gaps beside what its past says.
 use Prim.Native.Nat.{ℕ, suc, _-_, _≤_, _<_, max}
-use mathlib.Core.Path.{_≡_, refl, sym, ap, _∙_}
+use mathlib.Core.Path.{_≡_, refl, sym, ap, fun-ext, _∙_}
 use mathlib.Core.Bool.{Bool, true, false, not, cond, _&&_, _||_, true≢false}
 use mathlib.Core.List.{List, [], _∷_}
 use mathlib.Core.Logic.{⊎-elim}
 use native.Mathlib.Omega.{arith}
 use borrow.Author.Tests.{le-leb, lt-leb, lt-ltb, le-ltb, eq-eqb, ne-eqb, eqb-true}
 use lib.Dec.{leb, ltb, eqb}
+use lib.ListN.{length}
 use Rattle.laws.specs.Choice.{either}
 use Rattle.laws.specs.Order.{order, same}
 use Rattle.laws.specs.Tests.{and-false, and-true, or-false, any}
-use Rattle.sequence.specs.Runs.{_to_, names, missing}
+use Rattle.sequence.specs.Runs.{_to_, names, missing, runsIn}
+use Rattle.sequence.specs.RunsCountLaws.{runs-counted}
+use Rattle.sequence.specs.SoundLaws.{sound-apart}
 use Rattle.sequence.specs.RunsLaws.{named}
 use Rattle.sequence.specs.Gaps.{Gaps, begun, takes, full, after, wroteOff, writtenOff, writeOffAnswer}
-use Rattle.sequence.specs.GapsLaws.{begun-sound, after-sound, after-missing, wroteOff-sound, wroteOff-lowest, wroteOff-missing, missing-inside}
+use Rattle.sequence.specs.GapsLaws.{begun-sound, after-sound, after-missing, after-counted, wroteOff-sound, wroteOff-lowest, wroteOff-missing, missing-inside}
 use Rattle.message.specs.declared.body.Message.{Message}
-use Rattle.history.specs.Past.{numberOf, held, isNew, highestOf, missingBy}
+use Rattle.history.specs.Past.{numberOf, held, isNew, highestOf, missingBy, standingBy}
 use Rattle.history.specs.Segment.{Fits}
 
 -- a number taken is not above the highest
@@ -65,20 +68,13 @@ module _ (start : ℕ) (taken : List Message) (written : ℕ → Bool) (g : Gaps
       (λ (o : g .highest < n). simp (lt-ltb (g .highest) n o, le-leb start n (omega arith), above-not-held n o, not-written n o))
       (order n (g .highest))
 
-  module _ (m : Message) (fits : full g (numberOf m) ≡ false) where
+  -- the numbers that are missing when a message has been taken
+  module _ (m : Message) where
     abbrev k : ℕ
     k = numberOf m
 
-    pub fits-taken : Fits start (m ∷ taken) written (after g k)
-    fits-taken =
-        let high = f .highest-is in
-        record {
-          sound = after-sound g (f .sound) k fits;
-          start-is = f .start-is;
-          highest-is = omega arith;
-          missing-is = λ j. after-missing g (f .sound) k j ∙ missing-now j;
-          written-below = λ j e. let under = f .written-below j e in omega arith;
-        }
+    pub after-is : (j : ℕ) → missing (after g k .runs) j ≡ missingBy start (m ∷ taken) written j
+    after-is j = after-missing g (f .sound) k j ∙ missing-now j
       where
         Now : ℕ → Type 0
         Now j = not (eqb j k) && (missing (g .runs) j || ltb (g .highest) j && ltb j k) ≡ missingBy start (m ∷ taken) written j
@@ -121,6 +117,33 @@ module _ (start : ℕ) (taken : List Message) (written : ℕ → Bool) (g : Gaps
             ⊎-elim (λ (e : j ≡ k). simp (eq-eqb j k e, eq-eqb k j (sym e), and-false))
             (λ (n : j ≡ k → ⊥). ⊎-elim (below j n) (above j n) (order j (g .highest)))
             (same j k)
+
+    pub highest-after : after g k .highest ≡ highestOf start (m ∷ taken)
+    highest-after = let high = f .highest-is in omega arith
+
+    -- 14 counts the runs that would stand by the missing numbers
+    pub after-standing : length (after g k .runs) ≡ standingBy start (m ∷ taken) written
+    after-standing =
+        after-counted g (f .sound) k
+        ∙ ap (λ (missed : ℕ → Bool). runsIn missed (suc (after g k .highest))) (fun-ext (λ j. sym (after-missing g (f .sound) k j) ∙ after-is j))
+        ∙ ap (λ (n : ℕ). runsIn (missingBy start (m ∷ taken) written) (suc n)) highest-after
+
+    pub fits-taken : full g k ≡ false → Fits start (m ∷ taken) written (after g k)
+    fits-taken few =
+        record {
+          sound = after-sound g (f .sound) k few;
+          start-is = f .start-is;
+          highest-is = highest-after;
+          missing-is = after-is;
+          written-below = λ j e. let under = f .written-below j e in omega arith;
+        }
+
+  -- as many runs stand as the missing numbers make
+  pub fits-standing : length (g .runs) ≡ standingBy start taken written
+  fits-standing =
+      runs-counted (suc (g .highest)) (sound-apart (f .sound)) (omega arith)
+      ∙ ap (λ (missed : ℕ → Bool). runsIn missed (suc (g .highest))) (fun-ext (f .missing-is))
+      ∙ ap (λ (n : ℕ). runsIn (missingBy start taken written) (suc n)) (f .highest-is)
 
   -- ---- a run is written off
 

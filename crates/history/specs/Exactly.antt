@@ -3,9 +3,10 @@ use Prim.Native.Nat.{ℕ, zero, suc, _*_, _≤_, _<_}
 use mathlib.Core.Path.{_≡_}
 use mathlib.Core.Bool.{true, false}
 use mathlib.Core.List.{List, _∷_, List·Memᴰ}
-use mathlib.Core.Logic.{_⊎_}
+use mathlib.Core.Logic.{_⊎_, _↔_}
 use mathlib.Core.Option.{some}
 use lib.ListN.{length, take, drop}
+use Rattle.contracts.specs.File.{segmentsOf, letterAt}
 use Rattle.contracts.specs.Lookup.{segmentOf}
 use Rattle.sequence.specs.Apart.{Apart}
 use Rattle.sequence.specs.Runs.{Run, run, names, missing}
@@ -23,7 +24,7 @@ use Rattle.quotebox.specs.Batch.{batchLetter, countOf, dataOf}
 use Rattle.quotebox.specs.Good.{GoodFront}
 use Rattle.quotebox.specs.Record.{blank}
 use Rattle.quotebox.specs.Start.{startOf}
-use Rattle.history.specs.Past.{Event, came, batchMessages, highestIn, missingIn, runsStanding, numberOf, isOf, isTaken, isOld, isHeartbeat, howMany}
+use Rattle.history.specs.Past.{Event, came, wroteOffIn, takenOf, batchMessages, highestIn, missingIn, runsStanding, numberOf, isOf, isTaken, isOld, isHeartbeat, howMany}
 
 -- the runs that a listing put in lent cells: two cells for each that it answers
 abbrev pub runsPut : ℕ → List ℕ → List Run
@@ -81,3 +82,16 @@ pub record OverInBatch (list starts : List ℕ) (past : List Event) (batch : Lis
   pub segment : ℕ
   pub listed : segmentOf list (batchLetter batch) ≡ some segment
   pub over : OverAt (countOf batch) list (batchLetter batch) (startOf starts segment) past 0 (dataOf batch) i
+
+-- nothing was written off
+abbrev pub NoneWrittenOff : List Event → Type 0
+NoneWrittenOff past = (letter n : ℕ) → wroteOffIn letter past n ≡ false
+
+-- two boxes of one contract list and the same start numbers "that took the same messages", in whatever order and however
+-- cut into batches, with nothing written off
+pub record SameTaken (list starts : List ℕ) (past : List Event) (starts′ : List ℕ) (past′ : List Event) : Type 0 where
+  pub same-starts : (i : ℕ) → i < segmentsOf list → startOf starts i ≡ startOf starts′ i
+  pub same-messages : (i : ℕ) → i < segmentsOf list → (m : Message)
+      → List·Memᴰ m (takenOf (letterAt list i) (startOf starts i) past) ↔ List·Memᴰ m (takenOf (letterAt list i) (startOf starts′ i) past′)
+  pub none-off : NoneWrittenOff past
+  pub none-off′ : NoneWrittenOff past′

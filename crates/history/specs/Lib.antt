@@ -15,3 +15,5 @@ pub mod NewestLaws
 pub mod RecordLaws
 pub mod CountsLaws
 pub mod FullLaws
+pub mod TakenLaws
+pub mod AgreeLaws

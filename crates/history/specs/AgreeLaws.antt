@@ -1,22 +1,22 @@
 -- Demand 3, "Two boxes that took the same messages agree".
-use Prim.Native.Nat.{ℕ, _<_}
+use Prim.Native.Nat.{ℕ}
 use mathlib.Core.Path.{_≡_, refl, sym, ap, ap₂, subst, _∙_}
 use mathlib.Core.Bool.{Bool, not, _&&_}
 use mathlib.Core.List.{List, [], _∷_, _++_, List·Memᴰ}
 use mathlib.Core.Option.{Option, none, some}
 use mathlib.Core.Logic.{_↔_}
 use lib.Dec.{leb}
-use lib.ListN.{length, drop}
+use lib.ListN.{length}
 use Rattle.laws.specs.Choice.{clash}
 use Rattle.contracts.specs.File.{letterAt}
 use Rattle.contracts.specs.Lookup.{segmentOf, placeIn}
 use Rattle.contracts.specs.LookupLaws.{segment-has}
 use Rattle.layout.specs.declared.rows.Level.{Level}
 use Rattle.layout.specs.Quote.{quoteOf}
-use Rattle.sequence.specs.Runs.{Run, missing}
+use Rattle.sequence.specs.Runs.{missing}
 use Rattle.sequence.specs.Gaps.{Gaps, wanted}
 use Rattle.sequence.specs.GapsLaws.{same-gaps}
-use Rattle.sequence.specs.Row.{gapsOf, flat}
+use Rattle.sequence.specs.Row.{gapsOf}
 use Rattle.message.specs.declared.body.Message.{Message}
 use Rattle.quotebox.specs.declared.refusal.Refusal.{Refusal}
 use Rattle.quotebox.specs.declared.refusal.Refusal.the-variants.{Code, Contract, Memory}

@@ -2,16 +2,16 @@
 use Prim.Native.Nat.{ℕ, zero, suc, _+_, _≤_, _<_}
 use mathlib.Core.Path.{_≡_, refl, sym, ap, subst, _∙_}
 use mathlib.Core.Bool.{Bool, true, false, cond, _&&_}
-use mathlib.Core.List.{List, [], _∷_, _++_}
+use mathlib.Core.List.{List, _∷_}
 use mathlib.Core.Option.{Option, none, some}
-use mathlib.Core.Logic.{_⊎_, _↔_, inl, inr, ⊎-elim, Iff·trans, Iff·symm}
+use mathlib.Core.Logic.{_↔_, inl, inr, ⊎-elim}
 use native.Mathlib.Omega.{arith}
 use borrow.Author.Tests.{ltb-true}
 use lib.Dec.{leb, ltb, eqb}
 use lib.ListN.{length, drop}
 use Rattle.laws.specs.Choice.{clash, either}
 use Rattle.contracts.specs.Lookup.{segmentOf}
-use Rattle.sequence.specs.Gaps.{Gaps, most, takes, full, after, runsAfter}
+use Rattle.sequence.specs.Gaps.{Gaps, most, takes, full, runsAfter}
 use Rattle.sequence.specs.Row.{gapsOf}
 use Rattle.message.specs.declared.body.Message.{Message}
 use Rattle.message.specs.declared.body.What.{What}
@@ -31,15 +31,10 @@ use Rattle.quotebox.specs.ActsLaws.{acts-as}
 use Rattle.quotebox.specs.Batch.{Box, Acted, acted, refused, stored, contractAt, recordOf, numberActs, messageActs, messagesAct, batchActs, batchRules, batchLetter, boxOf, flagOf, sizeOf, countOf, dataOf}
 use Rattle.quotebox.specs.BatchLaws.{front-refuses, messages-decide}
 use Rattle.quotebox.specs.GoodLaws.{front-exact}
-use Rattle.quotebox.specs.OrderLaws.{refused-exact}
-use Rattle.quotebox.specs.Promises.{JudgedBatch, TookBatch}
 use Rattle.quotebox.specs.Rules.{Hold}
 use Rattle.quotebox.specs.RulesLaws.{none-hold}
 use Rattle.quotebox.specs.ScratchLaws.{never-good}
 use Rattle.quotebox.specs.StateLaws.{state-exact}
-use Rattle.quotebox.specs.TookLaws.{judged-refused}
-use Rattle.quotebox.specs.declared.answers.Judged.{Judged}
-use Rattle.quotebox.specs.declared.answers.Judged.the-variants.{Refused}
 use Rattle.quotebox.specs.Memory.{recordAt, stateRules}
 use Rattle.quotebox.specs.MessagesLaws.{not-both, messages-next, messages-refused}
 use Rattle.quotebox.specs.Refusals.{firstBroken, ofFault}
@@ -236,7 +231,7 @@ module _ {list starts rows records : List ℕ} {past : List Event} (r : Reached 
   state : Hold (stateRules list rows records)
   state = none-hold (stateRules list rows records) (state-exact list rows records .1 (reached-holds r .state))
 
-  acts-over : batchActs list rows records batch ≡ refused (GapsOver i) ↔ OverInBatch list starts past batch i
+  pub acts-over : batchActs list rows records batch ≡ refused (GapsOver i) ↔ OverInBatch list starts past batch i
   acts-over = (is-over, over-is)
     where
       is-over : batchActs list rows records batch ≡ refused (GapsOver i) → OverInBatch list starts past batch i
@@ -265,12 +260,3 @@ module _ {list starts rows records : List ℕ} {past : List Event} (r : Reached 
           messages-decide list rows records batch state (front-exact batch .1 (w .front))
           ∙ over-exact list starts letter (w .segment) (w .listed) (countOf batch) 0 past (boxOf list letter rows records) (dataOf batch) i
           (box-before (reached-holds r) batch (w .segment) (w .listed)) .1 (w .over)
-
-  -- "A call is refused for gaps exactly when no earlier rule refuses it and over 64 runs would stand"
-  pub gaps-refused-exactly : (answer : Judged) → JudgedBatch list rows records batch answer → answer ≡ Refused (GapsOver i) ↔ OverInBatch list starts past batch i
-  gaps-refused-exactly answer p =
-      Iff·trans (judged-refused list rows records batch answer p (GapsOver i)) (Iff·trans (Iff·symm (refused-exact list rows records batch (GapsOver i))) acts-over)
-
-  pub take-refused-exactly : (answer : Judged) {rows′ records′ : List ℕ} → TookBatch list rows records batch answer rows′ records′
-      → answer ≡ Refused (GapsOver i) ↔ OverInBatch list starts past batch i
-  take-refused-exactly answer t = gaps-refused-exactly answer (record { answers = t .answers })

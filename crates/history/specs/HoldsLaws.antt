@@ -1,53 +1,52 @@
 -- Every call keeps what holds, and so it holds after every history.
-use Prim.Native.Nat.{ℕ, suc, _+_, _*_, _≤_, _<_}
-use mathlib.Core.Path.{_≡_, refl, sym, ap, subst, fun-ext, _∙_}
-use mathlib.Core.Bool.{Bool, true, false, _&&_, _||_, true≢false}
+use Prim.Native.Nat.{ℕ, _+_, _*_, _≤_, _<_}
+use mathlib.Core.Path.{_≡_, refl, sym, ap, fun-ext, _∙_}
+use mathlib.Core.Bool.{true, _||_, true≢false}
 use mathlib.Core.List.{List, [], _∷_}
 use mathlib.Core.Option.{Option, none, some}
 use mathlib.Core.Logic.{⊎-elim}
 use native.Mathlib.Omega.{arith}
 use borrow.Author.Tests.{eq-eqb, ne-eqb, ltb-true}
-use lib.Dec.{ltb, eqb}
-use lib.ListN.{length, getD}
+use lib.Dec.{ltb}
+use lib.ListN.{length}
 use Rattle.laws.specs.Order.{same}
-use Rattle.contracts.specs.File.{segmentsOf, letterAt, countAt, contractsBefore}
+use Rattle.contracts.specs.File.{letterAt, contractsBefore}
 use Rattle.contracts.specs.Lookup.{segmentOf}
 use Rattle.contracts.specs.LookupLaws.{segment-has}
 use Rattle.contracts.specs.RecordsLaws.{record-kept}
 use Rattle.sequence.specs.Runs.{Run, _to_, run, names}
-use Rattle.sequence.specs.Gaps.{Gaps, begun, wroteOff, lowest, writtenOff, writeOffAnswer}
-use Rattle.sequence.specs.Row.{gapsOf, soundRow}
+use Rattle.sequence.specs.Gaps.{lowest, writtenOff, writeOffAnswer}
+use Rattle.sequence.specs.Row.{gapsOf}
 use Rattle.sequence.specs.RowLaws.{sound-row-exactly}
 use Rattle.message.specs.declared.body.Message.{Message}
 use Rattle.message.specs.Head.{isSome}
-use Rattle.quotebox.specs.declared.refusal.Refusal.{Refusal}
 use Rattle.quotebox.specs.declared.refusal.Refusal.the-variants.{NoGap}
 use Rattle.quotebox.specs.declared.answers.Started.{Started}
 use Rattle.quotebox.specs.declared.answers.Judged.{Judged}
 use Rattle.quotebox.specs.declared.answers.Judged.the-variants as judged
 use Rattle.quotebox.specs.declared.answers.WrittenOff.{WrittenOff}
 use Rattle.quotebox.specs.declared.answers.WrittenOff.the-variants as answer
-use Rattle.quotebox.specs.Batch.{Box, Acted, acted, batchActs, batchLetter, boxOf, countOf, dataOf, actedNumbers, rowIn, withRowIn, rowsAfter, recordsAfter}
-use Rattle.quotebox.specs.BatchLaws.{accepted-box, good-state, good-front, messages-accepted}
+use Rattle.quotebox.specs.Batch.{Box, acted, batchActs, batchLetter, boxOf, countOf, dataOf, rowIn, withRowIn, rowsAfter, recordsAfter}
+use Rattle.quotebox.specs.BatchLaws.{accepted-box, good-front, messages-accepted}
 use Rattle.quotebox.specs.CallAnswersLaws.{accepted-by}
 use Rattle.quotebox.specs.CallPromises.{StartedBox, WroteOffRun}
 use Rattle.quotebox.specs.CallPromisesLaws.{start-refusal, off-refusal, start-good, gaps-started, start-leaves, no-records, answers-lowest, gaps-written-off, others-kept, off-leaves}
+use Rattle.quotebox.specs.CallsLaws.{gaps-are}
 use Rattle.quotebox.specs.Calls.{gapsOfLetter, writeOffRules, runValues, lowestRun}
 use Rattle.quotebox.specs.FirstBrokenLaws.{last-held}
 use Rattle.quotebox.specs.Good.{GoodState as GoodBatchState}
-use Rattle.quotebox.specs.Memory.{rowCells, rowOf, withRow, recordAt}
+use Rattle.quotebox.specs.Memory.{rowCells, rowOf, withRow}
 use Rattle.quotebox.specs.Promises.{TookBatch}
-use Rattle.quotebox.specs.Refusals.{Rule, firstBroken}
+use Rattle.quotebox.specs.Refusals.{firstBroken}
 use Rattle.quotebox.specs.RowsLaws.{row-put, row-kept}
 use Rattle.quotebox.specs.ScratchLaws.{none-accepted}
 use Rattle.quotebox.specs.Start.{startOf}
-use Rattle.quotebox.specs.State.{segmentRules, GoodState}
+use Rattle.quotebox.specs.State.{segmentRules}
 use Rattle.quotebox.specs.StateLaws.{letter-listed}
 use Rattle.quotebox.specs.TookLaws.{refused-keeps, state-good}
-use Rattle.history.specs.Past.{Event, came, off, allCame, batchMessages, takenOf, wroteOffIn, isTaken, isOld, isHeartbeat, howMany, afterTake, afterWriteOff}
+use Rattle.history.specs.Past.{Event, came, off, allCame, batchMessages, takenOf, wroteOffIn, afterTake, afterWriteOff}
 use Rattle.history.specs.Segment.{Fits}
 use Rattle.history.specs.SegmentLaws.{fits-begun, fits-off}
-use Rattle.history.specs.Kept.{RecordsFit}
 use Rattle.history.specs.Turn.{BoxFits, Turned}
 use Rattle.history.specs.TurnLaws.{one-segment, messages-turn}
 use Rattle.history.specs.Histories.{Reached, begun as begins, refusedStart, judge, take, listGaps, writeOff, readRecord}
@@ -178,49 +177,46 @@ off-here letter r past = fun-ext (λ n. rw (eq-eqb letter letter refl))
 off-elsewhere : (letter l : ℕ) (r : Run) (past : List Event) → (l ≡ letter → ⊥) → wroteOffIn letter (off l r ∷ past) ≡ wroteOffIn letter past
 off-elsewhere letter l r past n = fun-ext (λ k. rw (ne-eqb l letter n))
 
-module _ {list starts rows records : List ℕ} {past : List Event} (h : Holds list starts rows records past) (letter : ℕ) where
-  module _ (first last : ℕ) {rows′ : List ℕ} (p : WroteOffRun list rows records letter (answer.Removed first last) rows′) where
-    held : firstBroken (writeOffRules list rows records letter) ≡ none
-    held =
-        accepted-by (firstBroken (writeOffRules list rows records letter)) (runValues (lowestRun (gapsOfLetter list rows letter))) (first ∷ last ∷ []) (p .answers) .0
+module _ {list rows records : List ℕ} {letter : ℕ} (first last : ℕ) {rows′ : List ℕ} (p : WroteOffRun list rows records letter (answer.Removed first last) rows′) where
+  held : firstBroken (writeOffRules list rows records letter) ≡ none
+  held =
+      accepted-by (firstBroken (writeOffRules list rows records letter)) (runValues (lowestRun (gapsOfLetter list rows letter))) (first ∷ last ∷ []) (p .answers) .0
 
-    both-held : (firstBroken (segmentRules list rows records letter) ≡ none) × (ltb 0 (length (gapsOfLetter list rows letter .runs)) ≡ true)
-    unfolding writeOffRules
-    both-held = last-held (segmentRules list rows records letter) (record { holds = ltb 0 (length (gapsOfLetter list rows letter .runs)); refusal = NoGap }) held
+  both-held : (firstBroken (segmentRules list rows records letter) ≡ none) × (ltb 0 (length (gapsOfLetter list rows letter .runs)) ≡ true)
+  unfolding writeOffRules
+  both-held = last-held (segmentRules list rows records letter) (record { holds = ltb 0 (length (gapsOfLetter list rows letter .runs)); refusal = NoGap }) held
 
-    off-listed : (i : ℕ) × (segmentOf list letter ≡ some i)
-    off-listed = is-some (segmentOf list letter) (letter-listed list rows records letter (both-held .0))
+  pub off-listed : (i : ℕ) × (segmentOf list letter ≡ some i)
+  off-listed = is-some (segmentOf list letter) (letter-listed list rows records letter (both-held .0))
 
-    module _ (i : ℕ) (s : segmentOf list letter ≡ some i) where
-      gaps-are : gapsOfLetter list rows letter ≡ gapsOf (rowOf rows i)
-      unfolding gapsOfLetter
-      gaps-are = ap (λ (o : Option ℕ). gapsOf (rowIn rows o)) s
+  off-answer : (i : ℕ) → segmentOf list letter ≡ some i → writeOffAnswer (gapsOf (rowOf rows i)) ≡ writtenOff first last
+  unfolding writeOffAnswer
+  off-answer i s =
+      let low = answers-lowest first last p in
+      rw (← gaps-are list rows records letter (both-held .0) i s)
+      (lowest-there (gapsOfLetter list rows letter .runs) first last (ltb-true 0 _ (both-held .1)) (low .0) (low .1))
 
-      off-answer : writeOffAnswer (gapsOf (rowOf rows i)) ≡ writtenOff first last
-      unfolding writeOffAnswer
-      off-answer =
-          let low = answers-lowest first last p in
-          rw (← gaps-are) (lowest-there (gapsOfLetter list rows letter .runs) first last (ltb-true 0 _ (both-held .1)) (low .0) (low .1))
+  module _ {starts : List ℕ} {past : List Event} (h : Holds list starts rows records past) (i : ℕ) (s : segmentOf list letter ≡ some i) where
+    off-gaps : (l j : ℕ) → segmentOf list l ≡ some j
+        → Fits (startOf starts j) (takenOf l (startOf starts j) past) (wroteOffIn l (off letter (first to last) ∷ past)) (gapsOf (rowOf rows′ j))
+    off-gaps l j t =
+        ⊎-elim (λ (e : letter ≡ l).
+        let here : i ≡ j = one-segment list l i j (ap (segmentOf list) (sym e) ∙ s) t in
+        rw (← here, ← e, gaps-written-off first last p i s, off-here letter (first to last) past)
+        (fits-off (startOf starts i) (takenOf letter (startOf starts i) past) (wroteOffIn letter past) (gapsOf (rowOf rows i)) (h .gaps-fit letter i s) first last (off-answer i s)))
+        (λ (n : letter ≡ l → ⊥).
+        rw (off-elsewhere l letter (first to last) past n, others-kept first last p i s j (segments-differ list letter l i j s t (λ e. n (sym e))))
+        (h .gaps-fit l j t))
+        (same letter l)
 
-      gaps : (l j : ℕ) → segmentOf list l ≡ some j
-          → Fits (startOf starts j) (takenOf l (startOf starts j) past) (wroteOffIn l (off letter (first to last) ∷ past)) (gapsOf (rowOf rows′ j))
-      gaps l j t =
-          ⊎-elim (λ (e : letter ≡ l).
-          let here : i ≡ j = one-segment list l i j (ap (segmentOf list) (sym e) ∙ s) t in
-          rw (← here, ← e, gaps-written-off first last p i s, off-here letter (first to last) past)
-          (fits-off (startOf starts i) (takenOf letter (startOf starts i) past) (wroteOffIn letter past) (gapsOf (rowOf rows i)) (h .gaps-fit letter i s) first last off-answer))
-          (λ (n : letter ≡ l → ⊥).
-          rw (off-elsewhere l letter (first to last) past n, others-kept first last p i s j (segments-differ list letter l i j s t (λ e. n (sym e))))
-          (h .gaps-fit l j t))
-          (same letter l)
+    removed-holds : Holds list starts rows′ records (off letter (first to last) ∷ past)
+    removed-holds = record { list-sound = h .list-sound; state = off-leaves first last p i s; gaps-fit = off-gaps; records-fit = h .records-fit }
 
-      removed-holds : Holds list starts rows′ records (off letter (first to last) ∷ past)
-      removed-holds = record { list-sound = h .list-sound; state = off-leaves first last p i s; gaps-fit = gaps; records-fit = h .records-fit }
-
-  -- whatever a write-off is answered
-  pub off-holds : (a : WrittenOff) {rows′ : List ℕ} → WroteOffRun list rows records letter a rows′ → Holds list starts rows′ records (afterWriteOff letter a past)
-  off-holds (answer.Removed first last) p = let l = off-listed first last p in removed-holds first last p (l .0) (l .1)
-  off-holds (answer.Refused refusal) p = rw (off-refusal refusal p .1) h
+-- whatever a write-off is answered
+pub off-holds : {list starts rows records : List ℕ} {past : List Event} → Holds list starts rows records past → (letter : ℕ) (a : WrittenOff) {rows′ : List ℕ}
+    → WroteOffRun list rows records letter a rows′ → Holds list starts rows′ records (afterWriteOff letter a past)
+off-holds h letter (answer.Removed first last) p = let l = off-listed first last p in removed-holds first last p h (l .0) (l .1)
+off-holds h letter (answer.Refused refusal) p = rw (off-refusal refusal p .1) h
 
 -- ---- every history
 

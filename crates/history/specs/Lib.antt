@@ -13,7 +13,8 @@ pub mod Exactly
 pub mod ListingLaws
 pub mod NewestLaws
 pub mod RecordLaws
-pub mod CountsLaws
 pub mod FullLaws
 pub mod TakenLaws
 pub mod AgreeLaws
+pub mod Demands
+pub mod DemandsLaws

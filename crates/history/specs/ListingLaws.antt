@@ -1,7 +1,7 @@
 -- Demand 3, "After any sequence of calls from a fresh start, the gap list names exactly the missing numbers".
-use Prim.Native.Nat.{ℕ, suc, _+_, _*_, _≤_, _<_}
-use mathlib.Core.Path.{_≡_, refl, sym, ap, ap₂, fun-ext, _∙_}
-use mathlib.Core.Bool.{Bool, true}
+use Prim.Native.Nat.{ℕ, suc, _*_, _≤_, _<_}
+use mathlib.Core.Path.{_≡_, refl, sym, ap, ap₂, _∙_}
+use mathlib.Core.Bool.{true}
 use mathlib.Core.List.{List, [], _∷_}
 use mathlib.Core.Option.{Option, none, some}
 use mathlib.Core.Logic.{⊎-elim}
@@ -12,30 +12,27 @@ use lib.Dec.{leb}
 use lib.ListN.{length}
 use Rattle.laws.specs.Order.{three, climbs}
 use Rattle.contracts.specs.Lookup.{segmentOf}
-use Rattle.sequence.specs.Apart.{Apart}
-use Rattle.sequence.specs.Runs.{Run, run, names, missing, runsIn}
+use Rattle.sequence.specs.Runs.{Run, run, names, missing}
 use Rattle.sequence.specs.RunsLaws.{named}
 use Rattle.sequence.specs.Gaps.{Gaps, wanted}
-use Rattle.sequence.specs.Row.{pairs, flat, gapsOf}
+use Rattle.sequence.specs.Row.{pairs, flat}
 use Rattle.sequence.specs.Sound.{Sound}
 use Rattle.sequence.specs.SoundLaws.{sound-apart}
-use Rattle.message.specs.declared.body.Message.{Message}
 use Rattle.quotebox.specs.declared.answers.Listed.{Listed}
-use Rattle.quotebox.specs.Batch.{rowIn}
 use Rattle.quotebox.specs.CallPromises.{ListedRuns}
 use Rattle.quotebox.specs.CallPromisesLaws.{answers-runs, runs-in-cells}
+use Rattle.quotebox.specs.CallsLaws.{gaps-are}
 use Rattle.quotebox.specs.Calls.{answered, gapsOfLetter, listRules, listValues}
 use Rattle.quotebox.specs.CallAnswersLaws.{listed-told}
 use Rattle.quotebox.specs.Answers.{listedNumbers}
 use Rattle.quotebox.specs.FirstBrokenLaws.{last-holds, last-broken}
-use Rattle.quotebox.specs.Memory.{rowOf}
 use Rattle.quotebox.specs.Refusals.{firstBroken}
 use Rattle.quotebox.specs.Start.{startOf}
 use Rattle.quotebox.specs.State.{segmentRules}
 use Rattle.quotebox.specs.StateLaws.{state-exact, segment-holds}
 use Rattle.quotebox.specs.declared.refusal.Refusal.{Refusal}
 use Rattle.quotebox.specs.declared.refusal.Refusal.the-variants.{Memory}
-use Rattle.history.specs.Past.{Event, wroteOffIn, takenOf, highestOf, highestIn, missingBy, missingIn, runsStanding}
+use Rattle.history.specs.Past.{Event, wroteOffIn, takenOf, highestIn, runsStanding}
 use Rattle.history.specs.Segment.{Fits}
 use Rattle.history.specs.SegmentLaws.{fits-standing}
 use Rattle.history.specs.Histories.{Reached}
@@ -73,12 +70,11 @@ module _ {list starts rows records : List ℕ} {past : List Event} (r : Reached 
   abbrev start : ℕ
   start = startOf starts i
 
-  pub gaps-here : gapsOfLetter list rows letter ≡ gapsOf (rowOf rows i)
-  unfolding gapsOfLetter
-  gaps-here = ap (λ (o : Option ℕ). gapsOf (rowIn rows o)) s
+  pub segment-good : firstBroken (segmentRules list rows records letter) ≡ none
+  segment-good = segment-holds list rows records letter (state-exact list rows records .1 (reached-holds r .state)) i s
 
   pub fits-here : Fits start (takenOf letter start past) (wroteOffIn letter past) (gapsOfLetter list rows letter)
-  fits-here = rw gaps-here (reached-holds r .gaps-fit letter i s)
+  fits-here = rw (gaps-are list rows records letter segment-good i s) (reached-holds r .gaps-fit letter i s)
 
   -- as many runs stand as the missing numbers make
   pub runs-are : length (gapsOfLetter list rows letter .runs) ≡ runsStanding letter start past
@@ -102,18 +98,15 @@ module _ {list starts rows records : List ℕ} {past : List Event} (r : Reached 
 
   -- ---- what is answered: highest and the number of runs where the cells are enough, else 15
 
-  pub segment-good : firstBroken (segmentRules list rows records letter) ≡ none
-  segment-good = segment-holds list rows records letter (state-exact list rows records .1 (reached-holds r .state)) i s
-
   wanted-are : wanted (gapsOfLetter list rows letter .runs) ≡ 2 * runsStanding letter start past
   wanted-are = ap (λ (n : ℕ). 2 * n) runs-are
 
   module _ (cells : List ℕ) (answer : Listed) (cells′ : List ℕ) (p : ListedRuns list rows records letter cells answer cells′) where
-    told : Option Refusal → List ℕ
+    abbrev told : Option Refusal → List ℕ
     told o = answered o (listValues (gapsOfLetter list rows letter))
 
     pub runs-answered : 2 * runsStanding letter start past ≤ length cells → answer ≡ Listed.Runs (highestIn letter start past) (runsStanding letter start past)
-    unfolding listRules told
+    unfolding listRules
     runs-answered h =
         let g : Gaps = gapsOfLetter list rows letter in
         let room = le-leb (wanted (g .runs)) (length cells) (rw wanted-are h) in
@@ -122,7 +115,7 @@ module _ {list starts rows records : List ℕ} {past : List Event} (r : Reached 
         listed-told answer (Listed.Runs (highestIn letter start past) (runsStanding letter start past)) (p .answers ∙ ap told holds ∙ values)
 
     pub runs-refused : length cells < 2 * runsStanding letter start past → answer ≡ Listed.Refused (Memory (2 * runsStanding letter start past))
-    unfolding listRules told
+    unfolding listRules
     runs-refused h =
         let g : Gaps = gapsOfLetter list rows letter in
         let short = lt-leb (wanted (g .runs)) (length cells) (rw wanted-are h) in

@@ -5,7 +5,7 @@ use mathlib.Core.Bool.{Bool, true, false, not, cond, _&&_, _||_}
 use mathlib.Core.List.{List, [], _∷_}
 use mathlib.Core.Option.{Option, none, some}
 use lib.Dec.{leb, ltb, eqb}
-use lib.ListN.{length, drop}
+use lib.ListN.{drop}
 use Rattle.layout.specs.declared.rows.Level.{Level}
 use Rattle.layout.specs.declared.rows.Level.the-variants.{One, Two}
 use Rattle.sequence.specs.Runs.{Run, _to_, names, runsIn}

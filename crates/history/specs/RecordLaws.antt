@@ -1,6 +1,6 @@
 -- Demand 3, "each record is its contract's highest-numbered update taken".
 use Prim.Native.Nat.{ℕ, suc, _+_, _-_, _<_}
-use mathlib.Core.Path.{_≡_, refl, sym, ap, _∙_}
+use mathlib.Core.Path.{_≡_, sym, ap, _∙_}
 use mathlib.Core.Bool.{false, true≢false}
 use mathlib.Core.List.{List, _∷_, _++_}
 use mathlib.Core.Option.{Option, none, some}
@@ -8,22 +8,18 @@ use mathlib.Core.Logic.{_↔_}
 use native.Mathlib.Omega.{arith}
 use borrow.Author.Tests.{ne-eqb}
 use lib.Dec.{eqb}
-use lib.ListN.{length, getD, take, drop, replicate, length-drop}
+use lib.ListN.{length, take, drop, replicate, length-drop}
 use lib.Seq.{drop-drop}
 use Rattle.laws.specs.Choice.{clash}
 use Rattle.laws.specs.Lists.{middle}
-use Rattle.contracts.specs.File.{letterAt, contractsBefore, keyOf}
+use Rattle.contracts.specs.File.{contractsBefore}
 use Rattle.contracts.specs.Lookup.{segmentOf, placeIn}
-use Rattle.contracts.specs.LookupLaws.{segment-exact, key-exact, key-at-place}
-use Rattle.contracts.specs.Records.{Listed}
+use Rattle.contracts.specs.LookupLaws.{key-at-place}
 use Rattle.layout.specs.declared.rows.Level.{Level}
-use Rattle.layout.specs.declared.quote.Quote.{Quote}
 use Rattle.layout.specs.Cells.{filled}
 use Rattle.layout.specs.Quote.{quoteOf}
 use Rattle.layout.specs.Rows.{keyRows}
 use Rattle.message.specs.declared.body.Message.{Message}
-use Rattle.message.specs.Message.{keyPlace}
-use Rattle.message.specs.MessageLaws.{key-in}
 use Rattle.quotebox.specs.declared.refusal.Refusal.{Refusal}
 use Rattle.quotebox.specs.declared.answers.Reading.{Reading}
 use Rattle.quotebox.specs.declared.answers.Recorded.{Recorded}
@@ -33,11 +29,9 @@ use Rattle.quotebox.specs.CallAnswersLaws.{recorded-told}
 use Rattle.quotebox.specs.CallPromises.{ReadRecord}
 use Rattle.quotebox.specs.Calls.{answered}
 use Rattle.quotebox.specs.Memory.{recordAt}
-use Rattle.quotebox.specs.Record.{recordRules, recordRows, recordOfKey, recordNumber, recordValues, cellsAt, blank, quoteAt, quoteBeside}
+use Rattle.quotebox.specs.Record.{recordRows, recordOfKey, recordNumber, recordValues, cellsAt, quoteAt, quoteBeside}
 use Rattle.quotebox.specs.RecordLaws.{key-holds, record-found, record-lent}
-use Rattle.quotebox.specs.Refusals.{firstBroken}
 use Rattle.quotebox.specs.Start.{startOf}
-use Rattle.quotebox.specs.State.{segmentRules}
 use Rattle.history.specs.Past.{Event, numberOf, takenOf, newest}
 use Rattle.history.specs.Kept.{KeptAs, Kept}
 use Rattle.history.specs.KeptLaws.{quote-cells, kept-number}
@@ -97,15 +91,6 @@ module _ {list starts rows records : List ℕ} {past : List Event} (r : Reached 
       (newest place level taken)
       (reached-holds r .records-fit letter i place level s (key-at-place list i key place found .0))
       (newest-found place level taken)
-
-  -- "each record is its contract's highest-numbered update taken": for each listed contract and level
-  pub records-exactly : (i place : ℕ) → Listed list i place → (level : Level) (reading : Reading)
-      → ReadRecord list rows records (letterAt list i) (keyOf list i place) level reading
-      → ReadsNewest place level (takenOf (letterAt list i) (startOf starts i) past) reading
-  records-exactly i place l level reading p =
-      let sound = reached-holds r .list-sound in
-      reads-key (letterAt list i) i (segment-exact list (sound .header) (letterAt list i) i .1 (l .segment, refl)) (keyOf list i place) place
-      (key-exact list i (keyOf list i place) sound (l .segment) place .1 (l .place, refl)) level reading p
 
 -- "A contract with no update taken reads as 'no record'", and no other does
 pub no-record-exactly : {place : ℕ} {level : Level} {taken : List Message} {reading : Reading} → ReadsNewest place level taken reading

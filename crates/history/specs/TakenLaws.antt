@@ -1,8 +1,8 @@
 -- Laws of the messages taken: no two have one number, none stands below the start, and the same messages in any order have
 -- the same numbers, the same highest and the same highest-numbered update.
-use Prim.Native.Nat.{ℕ, suc, _-_, _≤_, _<_, max}
+use Prim.Native.Nat.{ℕ, _-_, _≤_, _<_, max}
 use mathlib.Core.Path.{_≡_, refl, sym, ap, _∙_}
-use mathlib.Core.Bool.{Bool, true, false, not, cond, _&&_, _||_, true≢false}
+use mathlib.Core.Bool.{Bool, true, false, not, cond, true≢false}
 use mathlib.Core.List.{List, [], _∷_, List·Memᴰ, List·Memᴰ·head, List·Memᴰ·tail, List·Memᴰ·not-nil, List·Memᴰ·cases-cons}
 use mathlib.Core.Option.{Option, none, some}
 use mathlib.Core.Logic.{_⊎_, _↔_, inl, inr, ⊎-elim}
@@ -16,7 +16,6 @@ use Rattle.laws.specs.Tests.{any, both, all-three, or-true}
 use Rattle.layout.specs.declared.rows.Level.{Level}
 use Rattle.message.specs.declared.body.Message.{Message}
 use Rattle.history.specs.Past.{Event, came, off, isNumbered, numberOf, held, isNew, comesNew, wroteOffIn, takenOf, highestOf}
-use Rattle.history.specs.Exactly.{IsNewest}
 use Rattle.history.specs.NewestLaws.{Found}
 
 -- ---- numbers of messages

@@ -1,7 +1,7 @@
 -- The box of a batch beside what the past says, as its messages act in turn.
 use Prim.Native.Nat.{ℕ, _+_, _≤_}
 use mathlib.Core.Path.{_≡_}
-use mathlib.Core.Bool.{true, cond}
+use mathlib.Core.Bool.{true}
 use mathlib.Core.List.{List}
 use lib.ListN.{length}
 use Rattle.sequence.specs.Row.{gapsOf, soundRow}
@@ -9,7 +9,7 @@ use Rattle.message.specs.declared.body.Message.{Message}
 use Rattle.quotebox.specs.Batch.{Box}
 use Rattle.quotebox.specs.Memory.{recordsWanted}
 use Rattle.quotebox.specs.Start.{startOf}
-use Rattle.history.specs.Past.{Event, came, wroteOffIn, takenOf, isTaken, isOld, isHeartbeat, howMany, allCame}
+use Rattle.history.specs.Past.{Event, wroteOffIn, takenOf, isTaken, isOld, isHeartbeat, howMany, allCame}
 use Rattle.history.specs.Segment.{Fits}
 use Rattle.history.specs.Kept.{RecordsFit}
 

@@ -1,13 +1,13 @@
 -- A message that acts keeps the box beside what the past says, and so do messages that act in turn.
-use Prim.Native.Nat.{ℕ, zero, suc, _+_, _*_, _≤_, _<_}
+use Prim.Native.Nat.{ℕ, zero, suc, _+_, _≤_, _<_}
 use mathlib.Core.Path.{_≡_, refl, sym, ap, ap₂, subst, _∙_}
-use mathlib.Core.Bool.{Bool, true, false, not, cond, _&&_, true≢false}
+use mathlib.Core.Bool.{Bool, true, false, cond, _&&_, true≢false}
 use mathlib.Core.List.{List, [], _∷_}
-use mathlib.Core.Option.{Option, none, some}
+use mathlib.Core.Option.{Option, some}
 use mathlib.Core.Logic.{_⊎_, inl, inr, ⊎-elim}
 use native.Mathlib.Omega.{arith}
 use borrow.Author.Tests.{eq-eqb, ne-eqb}
-use lib.Dec.{leb, ltb, eqb}
+use lib.Dec.{ltb, eqb}
 use lib.ListN.{length, getD, drop}
 use lib.Seq.{sets, length-sets}
 use Rattle.laws.specs.Choice.{either}
@@ -24,13 +24,12 @@ use Rattle.layout.specs.Quote.{cellsOf}
 use Rattle.layout.specs.QuoteTrip.{read-kept}
 use Rattle.sequence.specs.Gaps.{Gaps, takes, full, after}
 use Rattle.sequence.specs.GapsLaws.{after-sound}
-use Rattle.sequence.specs.Row.{gapsOf, laid, soundRow}
+use Rattle.sequence.specs.Row.{gapsOf, laid}
 use Rattle.sequence.specs.RowLaws.{laid-gaps, laid-sound, sound-row-exactly}
 use Rattle.message.specs.declared.body.Message.{Message}
 use Rattle.message.specs.declared.body.What.{What}
 use Rattle.message.specs.declared.body.What.the-variants as what
-use Rattle.message.specs.declared.head.Head.the-variants.{Good}
-use Rattle.message.specs.CallerLaws.{IsUpdate, update-told}
+use Rattle.message.specs.CallerLaws.{update-told}
 use Rattle.message.specs.GoodLaws.{good-exact}
 use Rattle.message.specs.Fields.{lengthOf, dataOf}
 use Rattle.message.specs.Message.{keyOf, messageOf}
@@ -38,13 +37,12 @@ use Rattle.message.specs.MessageLaws.{key-in}
 use Rattle.message.specs.Numbers.{verdictOf, numberIn}
 use Rattle.quotebox.specs.ActsLaws.{acts-as}
 use Rattle.quotebox.specs.Batch.{Box, Acted, acted, refused, stored, contractIn, contractAt, recordOf, numberActs, messageActs, messagesAct}
-use Rattle.quotebox.specs.Memory.{recordAt, recordCells, recordsWanted}
+use Rattle.quotebox.specs.Memory.{recordAt, recordsWanted}
 use Rattle.quotebox.specs.MessagesLaws.{not-both, messages-next, messages-refused, messages-end, messages-over}
 use Rattle.quotebox.specs.Record.{recordRows}
 use Rattle.quotebox.specs.RecordLaws.{record-inside}
 use Rattle.quotebox.specs.Start.{startOf}
-use Rattle.history.specs.Past.{Event, came, off, isNumbered, numberOf, wroteOffIn, comesNew, taking, takenOf, isTaken, isOld, isHeartbeat, howMany, allCame, messagesOf, sameLevel, isOf, higher, newest}
-use Rattle.history.specs.Segment.{Fits}
+use Rattle.history.specs.Past.{Event, came, isNumbered, numberOf, wroteOffIn, comesNew, taking, takenOf, isHeartbeat, messagesOf, sameLevel, isOf, higher, newest}
 use Rattle.history.specs.SegmentLaws.{takes-new, fits-taken}
 use Rattle.history.specs.Kept.{Kept, RecordsFit}
 use Rattle.history.specs.KeptLaws.{quote-long, same-level, levels-apart, contracts-apart, kept-stored, kept-apart}

@@ -18,3 +18,4 @@ pub mod TakenLaws
 pub mod AgreeLaws
 pub mod Demands
 pub mod DemandsLaws
+pub mod Cases

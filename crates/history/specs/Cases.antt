@@ -1,7 +1,7 @@
 -- 01 "Cases", P11 to P13, by what a past says.
 use Prim.Native.Nat.{ℕ, zero, suc, _*_}
 use mathlib.Core.Path.{_≡_, refl}
-use mathlib.Core.Bool.{Bool, true, false, cond}
+use mathlib.Core.Bool.{Bool, cond}
 use mathlib.Core.List.{List, [], _∷_, _++_, map}
 use Rattle.sequence.specs.Runs.{_to_}
 use Rattle.message.specs.declared.body.Message.{Message}

@@ -1,8 +1,10 @@
 -- Records beside what the past says.
 use Prim.Native.Nat.{ℕ, suc, _+_, _<_}
 use mathlib.Core.Path.{_≡_}
-use mathlib.Core.List.{List, _∷_}
+use mathlib.Core.Bool.{cond}
+use mathlib.Core.List.{List, [], _∷_}
 use mathlib.Core.Option.{Option, none, some}
+use lib.Dec.{ltb}
 use lib.ListN.{getD, take, drop}
 use Rattle.contracts.specs.File.{countAt, contractsBefore}
 use Rattle.contracts.specs.Lookup.{segmentOf}
@@ -14,7 +16,17 @@ use Rattle.quotebox.specs.Batch.{recordOf}
 use Rattle.quotebox.specs.Memory.{recordAt}
 use Rattle.quotebox.specs.Record.{recordRows}
 use Rattle.quotebox.specs.Start.{startOf}
-use Rattle.history.specs.Past.{Event, numberOf, takenOf, newest}
+use Rattle.history.specs.Past.{Event, numberOf, takenOf, isOf}
+
+-- of two updates the one with the greater number
+abbrev pub higher : Message → Option Message → Option Message
+higher m none = some m
+higher m (some k) = cond (ltb (numberOf k) (numberOf m)) (some m) (some k)
+
+-- the highest-numbered update of a contract and level among messages, if there is one
+abbrev pub newest : ℕ → Level → List Message → Option Message
+newest place level [] = none
+newest place level (m ∷ ms) = cond (isOf place level (m .what)) (higher m (newest place level ms)) (newest place level ms)
 
 -- a record that holds an update: its number, then its rows; its cells are those of a quote
 pub record KeptAs (records : List ℕ) (at : ℕ) (level : Level) (m : Message) : Type 0 where

@@ -22,8 +22,8 @@ use Rattle.message.specs.declared.body.Message.{Message}
 use Rattle.quotebox.specs.Batch.{stored, recordOf}
 use Rattle.quotebox.specs.Memory.{recordAt}
 use Rattle.quotebox.specs.Record.{recordRows}
-use Rattle.history.specs.Past.{numberOf, sameLevel, higher}
-use Rattle.history.specs.Kept.{KeptAs, Kept}
+use Rattle.history.specs.Past.{numberOf, sameLevel}
+use Rattle.history.specs.Kept.{higher, KeptAs, Kept}
 use Rattle.history.specs.StoresLaws.{part-first, stored-here, stored-apart}
 
 -- ---- the cells of an update

@@ -3,8 +3,7 @@
 use Prim.Native.Nat.{ℕ, zero, suc, _+_, _-_, max}
 use mathlib.Core.Bool.{Bool, true, false, not, cond, _&&_, _||_}
 use mathlib.Core.List.{List, [], _∷_}
-use mathlib.Core.Option.{Option, none, some}
-use lib.Dec.{leb, ltb, eqb}
+use lib.Dec.{leb, eqb}
 use lib.ListN.{drop}
 use Rattle.layout.specs.declared.rows.Level.{Level}
 use Rattle.layout.specs.declared.rows.Level.the-variants.{One, Two}
@@ -134,7 +133,7 @@ standingBy start taken written = runsIn (missingBy start taken written) (suc (hi
 abbrev pub runsStanding : ℕ → ℕ → List Event → ℕ
 runsStanding letter start past = standingBy start (takenOf letter start past) (wroteOffIn letter past)
 
--- ---- the highest-numbered update of a contract
+-- ---- updates
 
 abbrev pub sameLevel : Level → Level → Bool
 sameLevel One One = true
@@ -148,12 +147,3 @@ isOf place level Heartbeat = false
 isOf place level (PassedOver number) = false
 isOf place level (Update number l p) = eqb p place && sameLevel l level
 isOf place level (Bad fault) = false
-
-abbrev pub higher : Message → Option Message → Option Message
-higher m none = some m
-higher m (some k) = cond (ltb (numberOf k) (numberOf m)) (some m) (some k)
-
--- the highest-numbered update of a contract and level among messages, if there is one
-abbrev pub newest : ℕ → Level → List Message → Option Message
-newest place level [] = none
-newest place level (m ∷ ms) = cond (isOf place level (m .what)) (higher m (newest place level ms)) (newest place level ms)

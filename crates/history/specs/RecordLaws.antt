@@ -12,14 +12,21 @@ use lib.ListN.{length, take, drop, replicate, length-drop}
 use lib.Seq.{drop-drop}
 use Rattle.laws.specs.Choice.{clash}
 use Rattle.laws.specs.Lists.{middle}
-use Rattle.contracts.specs.File.{contractsBefore}
+use Rattle.contracts.specs.File.{contractsBefore, keyOf}
 use Rattle.contracts.specs.Lookup.{segmentOf, placeIn}
 use Rattle.contracts.specs.LookupLaws.{key-at-place}
 use Rattle.layout.specs.declared.rows.Level.{Level}
 use Rattle.layout.specs.Cells.{filled}
 use Rattle.layout.specs.Quote.{quoteOf}
-use Rattle.layout.specs.Rows.{keyRows}
+use Rattle.layout.specs.Rows.{keyRows, rowsOf, messageLength}
+use Rattle.layout.specs.Read.{readRows}
 use Rattle.message.specs.declared.body.Message.{Message}
+use Rattle.message.specs.declared.body.What.the-variants.{Update}
+use Rattle.message.specs.CallerLaws.{update-told}
+use Rattle.message.specs.Fields.{lengthOf, dataOf, numberOf as bytesNumber}
+use Rattle.message.specs.Message.{messageOf, keyOf as bytesKey}
+use Rattle.message.specs.MessageLaws.{key-in}
+use Rattle.message.specs.Numbers.{verdictOf}
 use Rattle.quotebox.specs.declared.refusal.Refusal.{Refusal}
 use Rattle.quotebox.specs.declared.answers.Reading.{Reading}
 use Rattle.quotebox.specs.declared.answers.Recorded.{Recorded}
@@ -32,8 +39,8 @@ use Rattle.quotebox.specs.Memory.{recordAt}
 use Rattle.quotebox.specs.Record.{recordRows, recordOfKey, recordNumber, recordValues, cellsAt, quoteAt, quoteBeside}
 use Rattle.quotebox.specs.RecordLaws.{key-holds, record-found, record-lent}
 use Rattle.quotebox.specs.Start.{startOf}
-use Rattle.history.specs.Past.{Event, numberOf, takenOf, newest}
-use Rattle.history.specs.Kept.{KeptAs, Kept}
+use Rattle.history.specs.Past.{Event, numberOf, takenOf}
+use Rattle.history.specs.Kept.{newest, KeptAs, Kept}
 use Rattle.history.specs.KeptLaws.{quote-cells, kept-number}
 use Rattle.history.specs.Histories.{Reached}
 use Rattle.history.specs.HoldsLaws.{reached-holds}
@@ -100,3 +107,21 @@ no-record-exactly (a-record m is answer quote) = (
   (λ e. let clashes : Recorded.Record (numberOf m) ≡ Recorded.NoRecord = sym answer ∙ e in absurd (clash (cc))),
   (λ none-taken. absurd (true≢false (sym (is .of-contract) ∙ none-taken m (is .was-taken)))),
 )
+
+-- what an update of a past is by its message's bytes: its number, its contract's key, and its rows as they were read
+pub record UpdateSays (list : List ℕ) (i : ℕ) (bytes : List ℕ) (m : Message) (number : ℕ) (level : Level) (place : ℕ) : Type 0 where
+  pub number-is : bytesNumber bytes ≡ number
+  pub key-is : bytesKey bytes ≡ keyOf list i place
+  pub level-is : lengthOf bytes ≡ messageLength (rowsOf level)
+  pub rows-are : m .cells ≡ filled (readRows 0 (rowsOf level) (dataOf bytes) .cells)
+
+pub update-says : (list : List ℕ) (letter i : ℕ) → segmentOf list letter ≡ some i → (bytes : List ℕ) (number : ℕ) (level : Level) (place : ℕ)
+    → messageOf list letter bytes .what ≡ Update number level place → UpdateSays list i bytes (messageOf list letter bytes) number level place
+update-says list letter i s bytes number level place e =
+    let u = update-told list letter bytes (ap verdictOf e) number level place e in
+    record {
+      number-is = u .number-is;
+      key-is = sym (key-at-place list i (bytesKey bytes) place (sym (key-in list letter (bytesKey bytes) s) ∙ u .place-is) .1);
+      level-is = u .level-is;
+      rows-are = u .cells-are;
+    }

@@ -42,9 +42,9 @@ use Rattle.quotebox.specs.MessagesLaws.{not-both, messages-next, messages-refus
 use Rattle.quotebox.specs.Record.{recordRows}
 use Rattle.quotebox.specs.RecordLaws.{record-inside}
 use Rattle.quotebox.specs.Start.{startOf}
-use Rattle.history.specs.Past.{Event, came, isNumbered, numberOf, wroteOffIn, comesNew, taking, takenOf, isHeartbeat, messagesOf, sameLevel, isOf, higher, newest}
+use Rattle.history.specs.Past.{Event, came, isNumbered, numberOf, wroteOffIn, comesNew, taking, takenOf, isHeartbeat, messagesOf, sameLevel, isOf}
 use Rattle.history.specs.SegmentLaws.{takes-new, fits-taken}
-use Rattle.history.specs.Kept.{Kept, RecordsFit}
+use Rattle.history.specs.Kept.{higher, newest, Kept, RecordsFit}
 use Rattle.history.specs.KeptLaws.{quote-long, same-level, levels-apart, contracts-apart, kept-stored, kept-apart}
 use Rattle.history.specs.Turn.{BoxFits, Turned}
 

@@ -66,13 +66,17 @@ pub record CountsCame (list starts : List ℕ) (past : List Event) (batch : List
 abbrev pub cameNext : List ℕ → ℕ → List ℕ → List Event → List Event
 cameNext list letter bytes past = came letter (messageOf list letter bytes) ∷ past
 
+-- 14: "more than 64 runs would stand"
+abbrev pub TooMany : ℕ → Type 0
+TooMany runs = most < runs
+
 -- of so many messages from message k on, message i is the one at which over 64 runs would stand, counted from the set of
 -- missing numbers, and no rule refuses before: it and every message before it is good, 5 to 13
 abbrev pub OverAt : ℕ → List ℕ → ℕ → ℕ → List Event → ℕ → List ℕ → ℕ → Type 0
 OverAt zero list letter start past k bytes i = ⊥
 OverAt (suc more) list letter start past k bytes i =
     GoodMessage list letter bytes
-    × (((i ≡ k) × (most < runsStanding letter start (cameNext list letter bytes past)))
+    × (((i ≡ k) × TooMany (runsStanding letter start (cameNext list letter bytes past)))
     ⊎ ((runsStanding letter start (cameNext list letter bytes past) ≤ most)
     × OverAt more list letter start (cameNext list letter bytes past) (suc k) (drop (lengthOf bytes) bytes) i))
 

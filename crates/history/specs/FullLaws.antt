@@ -1,5 +1,5 @@
 -- Demand 3, "A call is refused for gaps exactly when no earlier rule refuses it and over 64 runs would stand".
-use Prim.Native.Nat.{ℕ, zero, suc, _+_, _≤_, _<_}
+use Prim.Native.Nat.{ℕ, zero, suc, _+_, _≤_}
 use mathlib.Core.Path.{_≡_, refl, sym, ap, subst, _∙_}
 use mathlib.Core.Bool.{Bool, true, false, cond, _&&_}
 use mathlib.Core.List.{List, _∷_}
@@ -43,7 +43,7 @@ use Rattle.history.specs.Past.{Event, came, isNumbered, numberOf, wroteO
 use Rattle.history.specs.SegmentLaws.{takes-new, after-standing, fits-standing}
 use Rattle.history.specs.Turn.{BoxFits}
 use Rattle.history.specs.TurnLaws.{taken-here, message-turns}
-use Rattle.history.specs.Exactly.{cameNext, OverAt, OverInBatch}
+use Rattle.history.specs.Exactly.{cameNext, TooMany, OverAt, OverInBatch}
 use Rattle.history.specs.Histories.{Reached}
 use Rattle.history.specs.HoldsLaws.{reached-holds, box-before}
 
@@ -91,7 +91,7 @@ module _ (list starts : List ℕ) (letter s : ℕ) (listed : segmentOf list lett
   abbrev standing : List Event → ℕ
   standing past = runsStanding letter start past
 
-  too-many : {n : ℕ} → most < n → n ≤ most → ⊥
+  too-many : {n : ℕ} → TooMany n → n ≤ most → ⊥
   too-many h l = omega arith
 
   box-standing : (past : List Event) (box : Box) → BoxFits list starts letter s past box → standing past ≤ most
@@ -109,7 +109,7 @@ module _ (list starts : List ℕ) (letter s : ℕ) (listed : segmentOf list lett
     later = came letter m ∷ past
 
     -- a number that is refused
-    numbered-over : isNumbered (m .what) ≡ true → takes g (numberOf m) ≡ true → full g (numberOf m) ≡ true → most < standing later
+    numbered-over : isNumbered (m .what) ≡ true → takes g (numberOf m) ≡ true → full g (numberOf m) ≡ true → TooMany (standing later)
     numbered-over numbered t over =
         let earlier : List Message = takenOf letter start past in
         let new : comesNew start earlier (wroteOffIn letter past) m ≡ true = rw numbered (sym (takes-new start earlier (wroteOffIn letter past) g (f .gaps-fit) (numberOf m)) ∙ t) in
@@ -117,13 +117,13 @@ module _ (list starts : List ℕ) (letter s : ℕ) (listed : segmentOf list lett
         let count : standing later ≡ length (runsAfter g (numberOf m)) =
         ap (λ (taken : List Message). standingBy start taken (wroteOffIn letter past)) now ∙ sym (after-standing start earlier (wroteOffIn letter past) g (f .gaps-fit) m)
         in
-        subst (λ (n : ℕ). most < n) (sym count) (ltb-true most (length (runsAfter g (numberOf m))) over)
+        subst TooMany (sym count) (ltb-true most (length (runsAfter g (numberOf m))) over)
 
     -- what becomes of message k: it is bad, or it acts and at most 64 runs stand, or over 64 would
     pub data Comes : Type 0 where
       bad : (fault : Fault) → messageActs list letter box k bytes ≡ refused (ofFault fault k) → (GoodMessage list letter bytes → ⊥) → Comes
       goes : (box′ : Box) → messageActs list letter box k bytes ≡ acted box′ → GoodMessage list letter bytes → BoxFits list starts letter s later box′ → Comes
-      over : messageActs list letter box k bytes ≡ refused (GapsOver k) → GoodMessage list letter bytes → most < standing later → Comes
+      over : messageActs list letter box k bytes ≡ refused (GapsOver k) → GoodMessage list letter bytes → TooMany (standing later) → Comes
 
     numbered-comes : (w : What) → m .what ≡ w → isNumbered w ≡ true → verdictOf w ≡ Good → (changed : List ℕ → List ℕ)
         → messageActs list letter box k bytes ≡ numberActs box k (numberOf m) changed → Comes
@@ -177,7 +177,7 @@ module _ (list starts : List ℕ) (letter s : ℕ) (listed : segmentOf list lett
           let next = messages-next list letter more k box bytes box′ acts in (
             (λ e. (good, inr (few, rest box′ fit .0 (sym next ∙ e)))),
             (λ w.
-                ⊎-elim (λ (o : (i ≡ k) × (most < standing (cameNext list letter bytes past))). absurd (too-many (o .1) few))
+                ⊎-elim (λ (o : (i ≡ k) × TooMany (standing (cameNext list letter bytes past))). absurd (too-many (o .1) few))
                 (λ (o : (standing (cameNext list letter bytes past) ≤ most) × OverAt more list letter start (cameNext list letter bytes past) (suc k) (drop (lengthOf bytes) bytes) i).
                 next ∙ rest box′ fit .1 (o .1))
                 (w .1)),
@@ -186,7 +186,7 @@ module _ (list starts : List ℕ) (letter s : ℕ) (listed : segmentOf list lett
           let stops = messages-refused list letter more k box bytes (GapsOver k) acts in (
             (λ e. (good, inl (sym (same-place (same-refusal (sym stops ∙ e))), many))),
             (λ w.
-                ⊎-elim (λ (o : (i ≡ k) × (most < standing (cameNext list letter bytes past))). stops ∙ ap (λ (n : ℕ). refused (GapsOver n)) (sym (o .0)))
+                ⊎-elim (λ (o : (i ≡ k) × TooMany (standing (cameNext list letter bytes past))). stops ∙ ap (λ (n : ℕ). refused (GapsOver n)) (sym (o .0)))
                 (λ (o : (standing (cameNext list letter bytes past) ≤ most) × OverAt more list letter start (cameNext list letter bytes past) (suc k) (drop (lengthOf bytes) bytes) i).
                 absurd (too-many many (o .0)))
                 (w .1)),

@@ -5,15 +5,15 @@ use mathlib.Core.List.{List, [], _∷_}
 use borrow.Author.Tests.{leb-true}
 use native.Mathlib.Omega.{arith}
 use lib.ListN.{length}
+use Rattle.laws.specs.Rules.{firstBroken}
+use Rattle.laws.specs.RulesLaws.{last-held}
 use Rattle.sequence.specs.Gaps.{Gaps, wanted}
 use Rattle.quotebox.specs.declared.answers.Listed.{Listed}
 use Rattle.quotebox.specs.Answers.{listedNumbers}
-use Rattle.quotebox.specs.Refusals.{firstBroken}
 use Rattle.quotebox.specs.State.{segmentRules}
 use Rattle.quotebox.specs.Calls.{gapsOfLetter, listRules, listValues}
 use Rattle.quotebox.specs.CallPromises.{ListedRuns}
-use Rattle.quotebox.specs.CallAnswersLaws.{accepted-by}
-use Rattle.quotebox.specs.FirstBrokenLaws.{last-held}
+use Rattle.quotebox.specs.AnswersLaws.{accepted-by}
 
 -- the runs lie in the cells that were lent
 pub listed-fits : {list rows records cells cells′ : List ℕ} {letter highest runs : ℕ} {answer : Listed}

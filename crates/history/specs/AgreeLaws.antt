@@ -7,6 +7,8 @@ use mathlib.Core.Option.{Option, none, some}
 use mathlib.Core.Logic.{_↔_}
 use lib.Dec.{leb}
 use lib.ListN.{length}
+use Rattle.laws.specs.Rules.{firstBroken}
+use Rattle.laws.specs.RulesLaws.{front-holds, none-hold, front-broken}
 use Rattle.laws.specs.Choice.{clash}
 use Rattle.contracts.specs.File.{letterAt}
 use Rattle.contracts.specs.Lookup.{segmentOf, placeIn}
@@ -24,13 +26,12 @@ use Rattle.quotebox.specs.declared.answers.Listed.{Listed}
 use Rattle.quotebox.specs.declared.answers.Reading.{Reading}
 use Rattle.quotebox.specs.declared.answers.Recorded.{Recorded}
 use Rattle.quotebox.specs.Batch.{rowIn}
-use Rattle.quotebox.specs.CallAnswersLaws.{listed-told}
+use Rattle.quotebox.specs.AnswersLaws.{listed-told}
 use Rattle.quotebox.specs.CallPromises.{ListedRuns, ReadRecord}
 use Rattle.quotebox.specs.CallPromisesLaws.{one-reading}
 use Rattle.quotebox.specs.CallsLaws.{record-refused}
 use Rattle.quotebox.specs.Calls.{answered, leftBy, gapsOfLetter, listRules, listValues, runsPut}
-use Rattle.quotebox.specs.FirstBrokenLaws.{none-broken, one-broken}
-use Rattle.quotebox.specs.Refusals.{Rule, firstBroken}
+use Rattle.quotebox.specs.Refusals.{Rule}
 use Rattle.quotebox.specs.Record.{recordRules, blank}
 use Rattle.quotebox.specs.RecordLaws.{segment-broken, key-broken}
 use Rattle.quotebox.specs.Start.{startOf}
@@ -145,8 +146,8 @@ module _ {list starts rows records starts′ rows′ records′ : List ℕ} {pas
   front-same front front′ rules e = go (firstBroken front) refl
     where
       go : (o : Option Refusal) → firstBroken front ≡ o → firstBroken (front ++ rules) ≡ firstBroken (front′ ++ rules)
-      go none f = none-broken front rules f ∙ sym (none-broken front′ rules (sym e ∙ f))
-      go (some refusal) f = one-broken front rules refusal f ∙ sym (one-broken front′ rules refusal (sym e ∙ f))
+      go none f = nfront-broken front rules f ∙ sym (nfront-broken front′ rules (sym e ∙ f))
+      go (some refusal) f = front-broken front rules refusal f ∙ sym (front-broken front′ rules refusal (sym e ∙ f))
 
   listing-same : (letter cells : ℕ) → firstBroken (listRules list rows records letter cells) ≡ firstBroken (listRules list rows′ records′ letter cells)
   unfolding listRules

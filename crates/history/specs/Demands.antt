@@ -21,7 +21,7 @@ use Rattle.quotebox.specs.declared.answers.Reading.{Reading}
 use Rattle.quotebox.specs.Promises.{JudgedBatch, TookBatch}
 use Rattle.quotebox.specs.CallPromises.{StartedBox, ListedRuns, WroteOffRun, ReadRecord}
 use Rattle.quotebox.specs.Start.{startOf}
-use Rattle.quotebox.specs.State.{GoodState}
+use Rattle.quotebox.specs.GoodState.{GoodState}
 use Rattle.history.specs.Past.{Event, wroteOffIn, takenOf, isNew, highestIn, missingIn, runsStanding}
 use Rattle.history.specs.Exactly.{NamesMissing, ReadsNewest, CountsCame, OverInBatch}
 

@@ -9,6 +9,8 @@ use native.Mathlib.Omega.{arith}
 use borrow.Author.Tests.{ltb-true}
 use lib.Dec.{leb, ltb, eqb}
 use lib.ListN.{length, drop}
+use Rattle.laws.specs.Rules.{firstBroken, Hold}
+use Rattle.laws.specs.RulesLaws.{none-hold}
 use Rattle.laws.specs.Choice.{clash, either}
 use Rattle.contracts.specs.Lookup.{segmentOf}
 use Rattle.sequence.specs.Gaps.{Gaps, most, takes, full, runsAfter}
@@ -31,13 +33,11 @@ use Rattle.quotebox.specs.ActsLaws.{acts-as}
 use Rattle.quotebox.specs.Batch.{Box, Acted, acted, refused, stored, contractAt, recordOf, numberActs, messageActs, messagesAct, batchActs, batchRules, batchLetter, boxOf, flagOf, sizeOf, countOf, dataOf}
 use Rattle.quotebox.specs.BatchLaws.{front-refuses, messages-decide}
 use Rattle.quotebox.specs.GoodLaws.{front-exact}
-use Rattle.quotebox.specs.Rules.{Hold}
-use Rattle.quotebox.specs.RulesLaws.{none-hold}
 use Rattle.quotebox.specs.ScratchLaws.{never-good}
 use Rattle.quotebox.specs.StateLaws.{state-exact}
 use Rattle.quotebox.specs.Memory.{recordAt, stateRules}
 use Rattle.quotebox.specs.MessagesLaws.{not-both, messages-next, messages-refused}
-use Rattle.quotebox.specs.Refusals.{firstBroken, ofFault}
+use Rattle.quotebox.specs.Refusals.{ofFault}
 use Rattle.quotebox.specs.Start.{startOf}
 use Rattle.history.specs.Past.{Event, came, isNumbered, numberOf, wroteOffIn, takenOf, comesNew, standingBy, runsStanding}
 use Rattle.history.specs.SegmentLaws.{takes-new, after-standing, fits-standing}

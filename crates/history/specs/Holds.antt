@@ -8,7 +8,7 @@ use Rattle.contracts.specs.Sound.{Sound}
 use Rattle.sequence.specs.Row.{gapsOf}
 use Rattle.quotebox.specs.Memory.{rowOf}
 use Rattle.quotebox.specs.Start.{startOf}
-use Rattle.quotebox.specs.State.{GoodState}
+use Rattle.quotebox.specs.GoodState.{GoodState}
 use Rattle.history.specs.Past.{Event, takenOf, wroteOffIn}
 use Rattle.history.specs.Segment.{Fits}
 use Rattle.history.specs.Kept.{RecordsFit}

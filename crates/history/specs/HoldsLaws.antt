@@ -9,6 +9,8 @@ use native.Mathlib.Omega.{arith}
 use borrow.Author.Tests.{eq-eqb, ne-eqb, ltb-true}
 use lib.Dec.{ltb}
 use lib.ListN.{length}
+use Rattle.laws.specs.Rules.{firstBroken}
+use Rattle.laws.specs.RulesLaws.{last-held}
 use Rattle.laws.specs.Order.{same}
 use Rattle.contracts.specs.File.{letterAt, contractsBefore}
 use Rattle.contracts.specs.Lookup.{segmentOf}
@@ -28,16 +30,14 @@ use Rattle.quotebox.specs.declared.answers.WrittenOff.{WrittenOff}
 use Rattle.quotebox.specs.declared.answers.WrittenOff.the-variants as answer
 use Rattle.quotebox.specs.Batch.{Box, acted, batchActs, batchLetter, boxOf, countOf, dataOf, rowIn, withRowIn, rowsAfter, recordsAfter}
 use Rattle.quotebox.specs.BatchLaws.{accepted-box, good-front, messages-accepted}
-use Rattle.quotebox.specs.CallAnswersLaws.{accepted-by}
+use Rattle.quotebox.specs.AnswersLaws.{accepted-by}
 use Rattle.quotebox.specs.CallPromises.{StartedBox, WroteOffRun}
 use Rattle.quotebox.specs.CallPromisesLaws.{start-refusal, off-refusal, start-good, gaps-started, start-leaves, no-records, answers-lowest, gaps-written-off, others-kept, off-leaves}
 use Rattle.quotebox.specs.CallsLaws.{gaps-are}
 use Rattle.quotebox.specs.Calls.{gapsOfLetter, writeOffRules, runValues, lowestRun}
-use Rattle.quotebox.specs.FirstBrokenLaws.{last-held}
 use Rattle.quotebox.specs.Good.{GoodState as GoodBatchState}
 use Rattle.quotebox.specs.Memory.{rowCells, rowOf, withRow}
 use Rattle.quotebox.specs.Promises.{TookBatch}
-use Rattle.quotebox.specs.Refusals.{firstBroken}
 use Rattle.quotebox.specs.RowsLaws.{row-put, row-kept}
 use Rattle.quotebox.specs.ScratchLaws.{none-accepted}
 use Rattle.quotebox.specs.Start.{startOf}
@@ -127,7 +127,7 @@ module _ {list starts rows records : List ℕ} {past : List Event} (h : Holds li
       batch-holds {rows′} {records′} er ec state =
           record {
             list-sound = h .list-sound;
-            state = record { header = state .header; rows-lent = state .rows-enough; records-lent = state .records-enough; rows-sound = state .rows-sound };
+            state = record { header = state .header; rows-lent = state .rows-lent; records-lent = state .records-lent; rows-sound = state .rows-sound };
             gaps-fit = gaps;
             records-fit = rw ec (batch-turned .fits .records-fit);
           }

@@ -10,6 +10,8 @@ use native.Mathlib.Omega.{arith}
 use borrow.Author.Tests.{le-leb, lt-leb}
 use lib.Dec.{leb}
 use lib.ListN.{length}
+use Rattle.laws.specs.Rules.{firstBroken}
+use Rattle.laws.specs.RulesLaws.{last-holds, last-broken}
 use Rattle.laws.specs.Order.{three, climbs}
 use Rattle.contracts.specs.Lookup.{segmentOf}
 use Rattle.sequence.specs.Runs.{Run, run, names, missing}
@@ -23,10 +25,8 @@ use Rattle.quotebox.specs.CallPromises.{ListedRuns}
 use Rattle.quotebox.specs.CallPromisesLaws.{answers-runs, runs-in-cells}
 use Rattle.quotebox.specs.CallsLaws.{gaps-are}
 use Rattle.quotebox.specs.Calls.{answered, gapsOfLetter, listRules, listValues}
-use Rattle.quotebox.specs.CallAnswersLaws.{listed-told}
+use Rattle.quotebox.specs.AnswersLaws.{listed-told}
 use Rattle.quotebox.specs.Answers.{listedNumbers}
-use Rattle.quotebox.specs.FirstBrokenLaws.{last-holds, last-broken}
-use Rattle.quotebox.specs.Refusals.{firstBroken}
 use Rattle.quotebox.specs.Start.{startOf}
 use Rattle.quotebox.specs.State.{segmentRules}
 use Rattle.quotebox.specs.StateLaws.{state-exact, segment-holds}

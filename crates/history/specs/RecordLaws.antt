@@ -32,7 +32,7 @@ use Rattle.quotebox.specs.declared.answers.Reading.{Reading}
 use Rattle.quotebox.specs.declared.answers.Recorded.{Recorded}
 use Rattle.quotebox.specs.Answers.{readingNumbers}
 use Rattle.quotebox.specs.Batch.{recordOf}
-use Rattle.quotebox.specs.CallAnswersLaws.{recorded-told}
+use Rattle.quotebox.specs.AnswersLaws.{recorded-told}
 use Rattle.quotebox.specs.CallPromises.{ReadRecord}
 use Rattle.quotebox.specs.Calls.{answered}
 use Rattle.quotebox.specs.Memory.{recordAt}

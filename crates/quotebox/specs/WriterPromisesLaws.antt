@@ -9,6 +9,8 @@ use borrow.Author.Tests.{leb-true, le-leb}
 use lib.Dec.{leb}
 use lib.ListN.{length, take, drop}
 use lib.Seq.{take-at, drop-at}
+use Rattle.laws.specs.Rules.{firstBroken}
+use Rattle.laws.specs.RulesLaws.{none-hold, hold-append}
 use Rattle.layout.specs.declared.quote.Quote.{Quote}
 use Rattle.layout.specs.declared.read.Verdict.the-variants as verdict
 use Rattle.layout.specs.declared.rows.Level.{Level}
@@ -19,10 +21,9 @@ use Rattle.quotebox.specs.declared.answers.Written.{Written}
 use Rattle.quotebox.specs.declared.refusal.Refusal.{Refusal}
 use Rattle.quotebox.specs.declared.refusal.Refusal.the-variants.{Code as CodeOver, Numbering, Memory}
 use Rattle.quotebox.specs.declared.writing.Code.{Code}
-use Rattle.quotebox.specs.CallAnswersLaws.{written-told, refused-by, accepted-by}
+use Rattle.quotebox.specs.AnswersLaws.{written-told, refused-by, accepted-by}
 use Rattle.quotebox.specs.Calls.{leftBy}
-use Rattle.quotebox.specs.FirstBrokenLaws.{rule-held, both-held}
-use Rattle.quotebox.specs.Refusals.{Rule, firstBroken}
+use Rattle.quotebox.specs.Refusals.{Rule}
 use Rattle.quotebox.specs.Writer.{inTable, codeRules, dataWritten, rowsRules, roomRules, lengthWritten, writeRules, messageBytes, messagePut}
 use Rattle.quotebox.specs.WriterLaws.{rows-pass, long-data, message-long}
 use Rattle.quotebox.specs.WriterPromises.{WroteMessage}

@@ -19,3 +19,4 @@ pub mod AgreeLaws
 pub mod Demands
 pub mod DemandsLaws
 pub mod Cases
+pub mod Example

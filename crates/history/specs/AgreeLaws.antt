@@ -36,7 +36,7 @@ use Rattle.quotebox.specs.Record.{recordRules, blank}
 use Rattle.quotebox.specs.RecordLaws.{segment-broken, key-broken}
 use Rattle.quotebox.specs.Start.{startOf}
 use Rattle.quotebox.specs.State.{segmentRules}
-use Rattle.quotebox.specs.StateLaws.{state-exact, letter-broken}
+use Rattle.quotebox.specs.StateLaws.{good-unrefused, letter-broken}
 use Rattle.history.specs.Past.{Event, wroteOffIn, held, takenOf, highestOf, numberOf}
 use Rattle.history.specs.Segment.{Fits}
 use Rattle.history.specs.Histories.{Reached}
@@ -129,8 +129,8 @@ module _ {list starts rows records starts′ rows′ records′ : List ℕ} {pas
     where
       go : (o : Option ℕ) → segmentOf list letter ≡ o → firstBroken (segmentRules list rows records letter) ≡ firstBroken (segmentRules list rows′ records′ letter)
       go none e =
-          letter-broken list rows records letter (state-exact list rows records .1 (reached-holds r .state)) e
-          ∙ sym (letter-broken list rows′ records′ letter (state-exact list rows′ records′ .1 (reached-holds r′ .state)) e)
+          letter-broken list rows records letter (good-unrefused list rows records (reached-holds r .state)) e
+          ∙ sym (letter-broken list rows′ records′ letter (good-unrefused list rows′ records′ (reached-holds r′ .state)) e)
       go (some i) e = segment-good r letter i e ∙ sym (segment-good r′ letter i e)
 
   gaps-agree : (letter : ℕ) → gapsOfLetter list rows letter ≡ gapsOfLetter list rows′ letter
@@ -146,7 +146,7 @@ module _ {list starts rows records starts′ rows′ records′ : List ℕ} {pas
   front-same front front′ rules e = go (firstBroken front) refl
     where
       go : (o : Option Refusal) → firstBroken front ≡ o → firstBroken (front ++ rules) ≡ firstBroken (front′ ++ rules)
-      go none f = nfront-broken front rules f ∙ sym (nfront-broken front′ rules (sym e ∙ f))
+      go none f = front-holds front rules (none-hold front f) ∙ sym (front-holds front′ rules (none-hold front′ (sym e ∙ f)))
       go (some refusal) f = front-broken front rules refusal f ∙ sym (front-broken front′ rules refusal (sym e ∙ f))
 
   listing-same : (letter cells : ℕ) → firstBroken (listRules list rows records letter cells) ≡ firstBroken (listRules list rows′ records′ letter cells)
@@ -191,5 +191,5 @@ module _ {list starts rows records starts′ rows′ records′ : List ℕ} {pas
         go : (o : Option ℕ) → segmentOf list letter ≡ o → a ≡ b
         go none e =
             refused-same (Code 0)
-            (segment-broken list rows records letter key (Code 0) (letter-broken list rows records letter (state-exact list rows records .1 (reached-holds r .state)) e))
+            (segment-broken list rows records letter key (Code 0) (letter-broken list rows records letter (good-unrefused list rows records (reached-holds r .state)) e))
         go (some i) e = there i e (placeIn list i key) refl

@@ -46,7 +46,7 @@ pub record Case : Type 0 where
   pub says : List ℕ
 
 -- the numbers below a bound that pass a test, ascending
-abbrev those : (ℕ → Bool) → ℕ → List ℕ
+abbrev pub those : (ℕ → Bool) → ℕ → List ℕ
 those test zero = []
 those test (suc n) = those test n ++ cond (test n) (n ∷ []) []
 

@@ -229,7 +229,7 @@ module _ {list starts rows records : List ℕ} {past : List Event} (r : Reached 
   letter = batchLetter batch
 
   state : Hold (stateRules list rows records)
-  state = none-hold (stateRules list rows records) (state-exact list rows records .1 (reached-holds r .state))
+  state = state-exact list rows records .1 (reached-holds r .state)
 
   pub acts-over : batchActs list rows records batch ≡ refused (GapsOver i) ↔ OverInBatch list starts past batch i
   acts-over = (is-over, over-is)

@@ -3,6 +3,7 @@ pub mod Cases
 pub mod Demands
 pub mod DemandsLaws
 pub mod Exactly
+pub mod Example
 pub mod FullLaws
 pub mod Histories
 pub mod Holds

@@ -29,7 +29,7 @@ use Rattle.quotebox.specs.AnswersLaws.{listed-told}
 use Rattle.quotebox.specs.Answers.{listedNumbers}
 use Rattle.quotebox.specs.Start.{startOf}
 use Rattle.quotebox.specs.State.{segmentRules}
-use Rattle.quotebox.specs.StateLaws.{state-exact, segment-holds}
+use Rattle.quotebox.specs.StateLaws.{good-unrefused, segment-holds}
 use Rattle.quotebox.specs.declared.refusal.Refusal.{Refusal}
 use Rattle.quotebox.specs.declared.refusal.Refusal.the-variants.{Memory}
 use Rattle.history.specs.Past.{Event, wroteOffIn, takenOf, highestIn, runsStanding}
@@ -71,7 +71,7 @@ module _ {list starts rows records : List ℕ} {past : List Event} (r : Reached 
   start = startOf starts i
 
   pub segment-good : firstBroken (segmentRules list rows records letter) ≡ none
-  segment-good = segment-holds list rows records letter (state-exact list rows records .1 (reached-holds r .state)) i s
+  segment-good = segment-holds list rows records letter (good-unrefused list rows records (reached-holds r .state)) i s
 
   pub fits-here : Fits start (takenOf letter start past) (wroteOffIn letter past) (gapsOfLetter list rows letter)
   fits-here = rw (gaps-are list rows records letter segment-good i s) (reached-holds r .gaps-fit letter i s)

@@ -10,7 +10,7 @@ use borrow.Author.Tests.{le-leb, leb-true}
 use lib.Dec.{leb}
 use lib.ListN.{length}
 use Rattle.laws.specs.Rules.{firstBroken, Hold}
-use Rattle.laws.specs.RulesLaws.{none-hold, front-broken, last-holds, last-broken, last-held}
+use Rattle.laws.specs.RulesLaws.{none-hold, hold-none, front-broken, last-holds, last-broken, last-held}
 use Rattle.contracts.specs.BelowLaws.{each-passes, all-pass}
 use Rattle.contracts.specs.File.{segmentsOf}
 use Rattle.contracts.specs.HeaderLaws.{header-exact}
@@ -82,6 +82,9 @@ module _ (list rows records : List ℕ) where
 
   is-good : firstBroken (stateRules list rows records) ≡ none → GoodState list rows records
   is-good e = state-exact .0 (none-hold (stateRules list rows records) e)
+
+  pub good-unrefused : GoodState list rows records → firstBroken (stateRules list rows records) ≡ none
+  good-unrefused good = hold-none (stateRules list rows records) (state-exact .1 good)
 
   -- ---- the segment that is asked for
 

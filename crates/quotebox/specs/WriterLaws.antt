@@ -206,7 +206,7 @@ module _ (code : Code) (level : Level) (number : ℕ) (key : List ℕ) (quote : 
     pub rows-refused : (r : Refusal) → firstBroken (rowsRules (rows .verdict)) ≡ some r → WroteMessage code level number key quote out (Written.Refused r) out
     unfolding writeRules
     rows-refused r e =
-        refuses r (nfront-broken (codeRules code number) (rowsRules (rows .verdict) ++ behind) coded ∙ front-broken (rowsRules (rows .verdict)) behind r e)
+        refuses r (front-holds (codeRules code number) (rowsRules (rows .verdict) ++ behind) (none-hold (codeRules code number) coded) ∙ front-broken (rowsRules (rows .verdict)) behind r e)
 
     module _ (good : firstBroken (rowsRules (rows .verdict)) ≡ none) where
       pub long-rows : length (rows .bytes) ≡ dataLength (rowsWritten (kindOf (code .1)) level)
@@ -226,7 +226,7 @@ module _ (code : Code) (level : Level) (number : ℕ) (key : List ℕ) (quote : 
       pub sent : {answer : Written} {out′ : List ℕ} → PutsMessage code number (rows .bytes) out answer out′ → WroteMessage code level number key quote out answer out′
       unfolding writeRules lengthWritten
       sent p =
-          let decides = nfront-broken (codeRules code number) (rowsRules (rows .verdict) ++ behind) coded ∙ nfront-broken (rowsRules (rows .verdict)) behind good in
+          let decides = front-holds (codeRules code number) (rowsRules (rows .verdict) ++ behind) (none-hold (codeRules code number) coded) ∙ front-holds (rowsRules (rows .verdict)) behind (none-hold (rowsRules (rows .verdict)) good) in
           let same : length (rows .bytes) + bareLength ≡ lengthWritten code level = ap (λ (n : ℕ). n + bareLength) long-rows in
           let put : List ℕ = messagePut code number (rows .bytes) out in
           record {

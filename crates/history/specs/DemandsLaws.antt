@@ -92,8 +92,6 @@ pub accepted-leave : (list rows records : List ℕ) → AcceptedLeave list rows 
 accepted-leave list rows records =
     record {
       start-leaves = λ starts rows′ records′ p. start-leaves p;
-      take-leaves = λ batch taken old heartbeats rows′ records′ p.
-          let good = state-good list rows records batch taken old heartbeats rows′ records′ p in
-          record { header = good .header; rows-lent = good .rows-lent; records-lent = good .records-lent; rows-sound = good .rows-sound };
+      take-leaves = state-good list rows records;
       write-off-leaves = λ letter first last rows′ p. let l = off-listed first last p in off-leaves first last p (l .0) (l .1);
     }

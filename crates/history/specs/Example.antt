@@ -6,6 +6,7 @@ use mathlib.Core.List.{List, [], _∷_}
 use mathlib.Core.Option.{none, some}
 use native.Mathlib.Omega.{arith}
 use lib.ListN.{length, replicate}
+use Rattle.laws.specs.Rules.{firstBroken}
 use Rattle.contracts.specs.Cases.{oneT}
 use Rattle.contracts.specs.File.{segmentsOf, letterAt, zeroAt, countAt, offsetAt, keyFrom, contractsBefore}
 use Rattle.contracts.specs.Lookup.{segmentOf}
@@ -21,7 +22,6 @@ use Rattle.quotebox.specs.Batch.{flagOf, sizeOf, countOf, messageActs, messages
 use Rattle.quotebox.specs.declared.answers.Listed.{Listed}
 use Rattle.quotebox.specs.CallPromises.{ListedRuns}
 use Rattle.quotebox.specs.CallsLaws.{start-done}
-use Rattle.quotebox.specs.Refusals.{firstBroken}
 use Rattle.quotebox.specs.Start.{eachStarts, startRules, rowsStarted, recordsCleared}
 use Rattle.history.specs.Past.{Event, afterTake, highestIn, missingIn, runsStanding}
 use Rattle.history.specs.Histories.{Reached, begun, take}

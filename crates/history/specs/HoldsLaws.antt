@@ -35,7 +35,7 @@ use Rattle.quotebox.specs.CallPromises.{StartedBox, WroteOffRun}
 use Rattle.quotebox.specs.CallPromisesLaws.{start-refusal, off-refusal, start-good, gaps-started, start-leaves, no-records, answers-lowest, gaps-written-off, others-kept, off-leaves}
 use Rattle.quotebox.specs.CallsLaws.{gaps-are}
 use Rattle.quotebox.specs.Calls.{gapsOfLetter, writeOffRules, runValues, lowestRun}
-use Rattle.quotebox.specs.Good.{GoodState as GoodBatchState}
+use Rattle.quotebox.specs.GoodState.{GoodState}
 use Rattle.quotebox.specs.Memory.{rowCells, rowOf, withRow}
 use Rattle.quotebox.specs.Promises.{TookBatch}
 use Rattle.quotebox.specs.RowsLaws.{row-put, row-kept}
@@ -123,11 +123,11 @@ module _ {list starts rows records : List ℕ} {past : List Event} (h : Holds li
           (messages-accepted list rows records batch box acts)
 
       pub batch-holds : {rows′ records′ : List ℕ} → rows′ ≡ rowsAfter list letter rows (acted box) → records′ ≡ recordsAfter records (acted box)
-          → GoodBatchState list rows′ records′ → Holds list starts rows′ records′ (allCame letter ms past)
+          → GoodState list rows′ records′ → Holds list starts rows′ records′ (allCame letter ms past)
       batch-holds {rows′} {records′} er ec state =
           record {
             list-sound = h .list-sound;
-            state = record { header = state .header; rows-lent = state .rows-lent; records-lent = state .records-lent; rows-sound = state .rows-sound };
+            state = state;
             gaps-fit = gaps;
             records-fit = rw ec (batch-turned .fits .records-fit);
           }

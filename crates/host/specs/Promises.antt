@@ -49,6 +49,7 @@ pub record HostRead (list rows records : List ℕ) (letter : ℕ) (key : List �
   pub tells : Tells (recordNumbers (reading .answer)) returned answer′
   pub shows : values′ ≡ valuesAfter (reading .answer) level (reading .quote) values
 
+-- a code is lent as its two bytes
 abbrev pub codeOf : List ℕ → Code
 codeOf bytes = record { 0 = getD bytes 0 0; 1 = getD bytes 1 0 }
 

@@ -3,3 +3,9 @@ pub mod ReadBackLaws
 pub mod ReadBackStepsLaws
 pub mod WrittenFieldsLaws
 pub mod WrittenGoodLaws
+pub mod WrittenRefusals
+pub mod WrittenRefusalsLaws
+pub mod WrittenRowsLaws
+pub mod WrittenShortest
+pub mod WrittenShortestLaws
+pub mod WrittenUpdateLaws

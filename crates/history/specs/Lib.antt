@@ -1,6 +1,7 @@
 pub mod ReadBack
 pub mod ReadBackLaws
 pub mod ReadBackStepsLaws
+pub mod WrittenCases
 pub mod WrittenFieldsLaws
 pub mod WrittenGoodLaws
 pub mod WrittenRefusals

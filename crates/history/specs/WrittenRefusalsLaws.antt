@@ -6,7 +6,7 @@ use mathlib.Core.Logic.{_⊎_, _↔_, Iff·trans}
 use mathlib.Core.List.{List, [], _∷_, _++_}
 use mathlib.Core.Option.{Option, none, some}
 use native.Mathlib.Omega.{arith}
-use borrow.Author.Tests.{le-leb, lt-leb, leb-true, leb-false}
+use borrow.Author.Tests.{eq-eqb, le-leb, lt-leb, leb-true, leb-false}
 use lib.Dec.{leb, eqb}
 use lib.ListN.{length}
 use Rattle.laws.specs.Choice.{clash}
@@ -22,7 +22,7 @@ use Rattle.layout.specs.Rows.{rowsOf, messageLength}
 use Rattle.layout.specs.Write.{writeRows}
 use Rattle.message.specs.declared.codes.Kind.{Kind}
 use Rattle.message.specs.declared.codes.Kind.the-variants.{Heartbeat, Update, PassedOver}
-use Rattle.message.specs.Codes.{kindOf}
+use Rattle.message.specs.Codes.{kindOf, bareLength}
 use Rattle.message.specs.Head.{takesNumber}
 use Rattle.quotebox.specs.declared.answers.Written.{Written}
 use Rattle.quotebox.specs.declared.refusal.Refusal.{Refusal}
@@ -203,6 +203,33 @@ module _ (code : Code) (level : Level) (number : ℕ) (key : List ℕ) (quote : 
         Iff·trans (answers-refusal (Numbering 0))
         (rw rules-are (front-number (lengthWritten code level) (length out) (verdictOf code level key quote) (inTable code) (takesNumber (kindOf (code .1)) number)))
 
+    -- where code and number may be written, the rows and the room are left
+    rules-left : (kind : Kind) → inTable code ≡ true → kindOf (code .1) ≡ kind → takesNumber kind number ≡ true
+        → broken ≡ behind (messageLength (rowsWritten kind level)) (length out) (writeRows 0 (rowsWritten kind level) key (cellsOf level quote) .verdict)
+    unfolding writeRules dataWritten lengthWritten
+    rules-left kind tabled is numbered =
+        none-broken (codeRules code number) (rowsRules (verdictOf code level key quote) ++ roomRules (lengthWritten code level) (length out)) (code-holds code number tabled (rw is numbered))
+        ∙ ap (λ (kind : Kind). firstBroken (rowsRules (dataWritten kind level key quote .verdict) ++ roomRules (messageLength (rowsWritten kind level)) (length out))) is
+
+    -- a heartbeat: its level and quote aren't looked at
+    module _ (tabled : inTable code ≡ true) (heartbeat : kindOf (code .1) ≡ Heartbeat) (numbered : number ≡ 0) where
+      heartbeat-left : broken ≡ behind bareLength (length out) verdict.Good
+      heartbeat-left = rules-left Heartbeat tabled heartbeat (eq-eqb number 0 numbered)
+
+      heartbeat-length : lengthWritten code level ≡ bareLength
+      unfolding lengthWritten
+      heartbeat-length = ap (λ (kind : Kind). messageLength (rowsWritten kind level)) heartbeat
+
+      pub accepts-heartbeat : answer ≡ Written.Message bareLength ↔ bareLength ≤ length out
+      accepts-heartbeat =
+          let exact = behind-none bareLength (length out) verdict.Good in
+          Iff·trans (rw heartbeat-length at answers-length) (rw heartbeat-left ((λ e. exact .0 e .1), (λ h. exact .1 (refl, h))))
+
+      pub refuses-heartbeat : answer ≡ Written.Refused (Memory bareLength) ↔ length out < bareLength
+      refuses-heartbeat =
+          let exact = behind-memory bareLength (length out) verdict.Good in
+          Iff·trans (answers-refusal (Memory bareLength)) (rw heartbeat-left ((λ e. exact .0 e .1), (λ h. exact .1 (refl, h))))
+
     -- an update whose code and number may be written
     module _ (tabled : inTable code ≡ true) (update : kindOf (code .1) ≡ Update) (numbered : 1 ≤ number) (key-long : length key ≡ 39) where
       abbrev wanted : ℕ
@@ -212,11 +239,7 @@ module _ (code : Code) (level : Level) (number : ℕ) (key : List ℕ) (quote : 
       own = writeRows 0 (rowsOf level) key (cellsOf level quote) .verdict
 
       decided : broken ≡ behind wanted (length out) own
-      unfolding writeRules dataWritten lengthWritten
-      decided =
-          let numbering : takesNumber (kindOf (code .1)) number ≡ true = rw update (le-leb 1 number numbered) in
-          none-broken (codeRules code number) (rowsRules (dataWritten (kindOf (code .1)) level key quote .verdict) ++ roomRules (lengthWritten code level) (length out)) (code-holds code number tabled numbering)
-          ∙ ap (λ (kind : Kind). firstBroken (rowsRules (dataWritten kind level key quote .verdict) ++ roomRules (messageLength (rowsWritten kind level)) (length out))) update
+      decided = rules-left Update tabled update (le-leb 1 number numbered)
 
       length-is : lengthWritten code level ≡ wanted
       unfolding lengthWritten

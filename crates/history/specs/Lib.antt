@@ -23,5 +23,12 @@ pub mod StoresLaws
 pub mod TakenLaws
 pub mod Turn
 pub mod TurnLaws
+pub mod WrittenCases
 pub mod WrittenFieldsLaws
 pub mod WrittenGoodLaws
+pub mod WrittenRefusals
+pub mod WrittenRefusalsLaws
+pub mod WrittenRowsLaws
+pub mod WrittenShortest
+pub mod WrittenShortestLaws
+pub mod WrittenUpdateLaws

@@ -6,7 +6,7 @@ use mathlib.Core.Logic.{⊎-elim}
 use mathlib.Core.List.{List, [], _∷_}
 use mathlib.Core.Option.{Option, none, some}
 use native.Mathlib.Omega.{arith}
-use borrow.Author.Tests.{leb-true, ne-eqb}
+use borrow.Author.Tests.{ne-eqb}
 use lib.Dec.{eqb}
 use lib.ListN.{length, take, drop, length-drop}
 use Rattle.laws.specs.Rules.{firstBroken}
@@ -27,7 +27,6 @@ use Rattle.layout.specs.Rows.{rowsOf}
 use Rattle.layout.specs.Write.{Laid, writeRows}
 use Rattle.sequence.specs.Gaps.{Gaps, takes, full, after}
 use Rattle.sequence.specs.Row.{gapsOf, laid}
-use Rattle.message.specs.declared.codes.Kind.{Kind}
 use Rattle.message.specs.declared.codes.Kind.the-variants.{Update}
 use Rattle.message.specs.Codes.{kindOf}
 use Rattle.message.specs.Fields.{letterOf, lengthOf}
@@ -56,13 +55,12 @@ use Rattle.quotebox.specs.Record.{recordRules, recordOfKey, placeAt, recordNumb
 use Rattle.quotebox.specs.RecordLaws.{key-holds, record-found, record-lent}
 use Rattle.quotebox.specs.State.{segmentRules}
 use Rattle.quotebox.specs.TookLaws.{state-good}
-use Rattle.quotebox.specs.Writer.{dataWritten, rowsWritten, messageBytes}
 use Rattle.quotebox.specs.WriterPromises.{WroteMessage}
-use Rattle.quotebox.specs.WriterPromisesLaws.{written-good, message-in-front}
 use Rattle.history.specs.ReadBack.{batchOf}
 use Rattle.history.specs.ReadBackStepsLaws.{count-one, data-is, batch-front, number-stored, cells-stored}
 use Rattle.history.specs.WrittenFieldsLaws.{letter-written}
 use Rattle.history.specs.WrittenGoodLaws.{written, all-of-it, written-short, message-is}
+use Rattle.history.specs.WrittenUpdateLaws.{rows-good, number-some, message-there}
 
 -- in a sound list a key that is listed is found
 pub listed-place : (list : List ℕ) → Sound list → (letter segment place : ℕ) (key : List ℕ) → segment < segmentsOf list → letterAt list segment ≡ letter
@@ -101,21 +99,14 @@ module _ (code : Code) (level : Level) (number : ℕ) (key : List ℕ) (quote : 
     abbrev rows-laid : Laid
     rows-laid = writeRows 0 (rowsOf level) key (cellsOf level quote)
 
-    data-laid : dataWritten (kindOf (code .1)) level key quote ≡ rows-laid
-    unfolding dataWritten
-    data-laid = ap (λ (kind : Kind). writeRows 0 (rowsWritten kind level) key (cellsOf level quote)) update
-
     good : rows-laid .verdict ≡ verdict.Good
-    good = ap (λ (l : Laid). l .verdict) (sym data-laid) ∙ written-good code level number key quote out n wrote .rows-good
+    good = rows-good code level number key quote out out′ n update wrote
 
     numbered : 1 ≤ number
-    numbered = leb-true 1 number (rw update at (written-good code level number key quote out n wrote .numbered))
+    numbered = number-some code level number key quote out out′ n update wrote
 
     abbrev message : List ℕ
     message = written code level number key quote update few numbered key-long good
-
-    message-there : take n out′ ≡ message
-    message-there = message-in-front code level number key quote out n wrote ∙ ap (λ (l : Laid). messageBytes code number (l .bytes)) data-laid
 
     all : length message ≡ lengthOf message
     all = all-of-it code level number key quote update few numbered key-long good
@@ -168,7 +159,7 @@ module _ (code : Code) (level : Level) (number : ℕ) (key : List ℕ) (quote : 
             let b : List ℕ = batchOf message in
             let short : length message ≤ 32767 = omega (arith, written-short code level number key quote update few numbered key-long good) in
             let none-left : length (drop (lengthOf message) message) ≡ 0 = omega (arith, length-drop (lengthOf message) message, all) in
-            ap (λ (m : List ℕ). batchActs list rows records (batchOf m)) message-there
+            ap (λ (m : List ℕ). batchActs list rows records (batchOf m)) (message-there code level number key quote out out′ n update wrote)
             ∙ messages-decide list rows records b (state-exact list rows records .1 state) (front-exact b .1 (batch-front message short))
             ∙ ap (λ (k : ℕ). messagesAct k list (batchLetter b) 0 (boxOf list (batchLetter b) rows records) (dataOf b)) (count-one message short)
             ∙ ap (λ (m : List ℕ). messagesAct 1 list (letterOf m) 0 (boxOf list (letterOf m) rows records) m) (data-is message short)

@@ -9,6 +9,7 @@ use native.Mathlib.Omega.{arith}
 use borrow.Author.Tests.{ne-eqb}
 use lib.Dec.{eqb}
 use lib.ListN.{length, take, drop, length-drop}
+use Rattle.laws.specs.Rules.{firstBroken}
 use Rattle.laws.specs.Choice.{either}
 use Rattle.contracts.specs.File.{segmentsOf, letterAt, countAt, keyOf}
 use Rattle.contracts.specs.Lookup.{segmentOf, placeIn}
@@ -41,20 +42,18 @@ use Rattle.quotebox.specs.declared.writing.Code.{Code}
 use Rattle.quotebox.specs.Answers.{judgedNumbers}
 use Rattle.quotebox.specs.Batch.{Box, acted, messageActs, messagesAct, batchActs, actedNumbers, numberActs, stored, contractAt, recordOf, boxOf, batchLetter, dataOf, recordsAfter}
 use Rattle.quotebox.specs.BatchLaws.{messages-decide}
-use Rattle.quotebox.specs.CallAnswersLaws.{recorded-told}
+use Rattle.quotebox.specs.AnswersLaws.{recorded-told, judged-told}
 use Rattle.quotebox.specs.CallPromises.{ReadRecord}
 use Rattle.quotebox.specs.Calls.{answered, gapsOfLetter}
-use Rattle.quotebox.specs.Good.{GoodState}
-use Rattle.quotebox.specs.GoodLaws.{state-exact, front-exact}
+use Rattle.quotebox.specs.GoodState.{GoodState}
+use Rattle.quotebox.specs.GoodLaws.{front-exact}
+use Rattle.quotebox.specs.StateLaws.{state-exact, good-unrefused, segment-holds}
 use Rattle.quotebox.specs.Memory.{recordAt}
 use Rattle.quotebox.specs.MessagesLaws.{messages-next, messages-end}
 use Rattle.quotebox.specs.Promises.{JudgedBatch, TookBatch}
 use Rattle.quotebox.specs.Record.{recordRules, recordOfKey, placeAt, recordNumber, recordValues, recordRows, quoteAt, quoteBeside, cellsAt, blank}
 use Rattle.quotebox.specs.RecordLaws.{key-holds, record-found, record-lent}
-use Rattle.quotebox.specs.Refusals.{firstBroken}
-use Rattle.quotebox.specs.RefusalsLaws.{judged-told}
-use Rattle.quotebox.specs.State.{segmentRules, GoodState as Handed}
-use Rattle.quotebox.specs.StateLaws.{segment-holds, state-exact as handed-exact}
+use Rattle.quotebox.specs.State.{segmentRules}
 use Rattle.quotebox.specs.TookLaws.{state-good}
 use Rattle.quotebox.specs.WriterPromises.{WroteMessage}
 use Rattle.history.specs.ReadBack.{batchOf}
@@ -62,10 +61,6 @@ use Rattle.history.specs.ReadBackStepsLaws.{count-one, data-is, batch-fr
 use Rattle.history.specs.WrittenFieldsLaws.{letter-written}
 use Rattle.history.specs.WrittenGoodLaws.{written, all-of-it, written-short, message-is}
 use Rattle.history.specs.WrittenUpdateLaws.{rows-good, number-some, message-there}
-
--- the two records of a good state say the same
-handed : {list rows records : List ℕ} → GoodState list rows records → Handed list rows records
-handed g = record { header = g .header; rows-lent = g .rows-enough; records-lent = g .records-enough; rows-sound = g .rows-sound }
 
 -- in a sound list a key that is listed is found
 pub listed-place : (list : List ℕ) → Sound list → (letter segment place : ℕ) (key : List ℕ) → segment < segmentsOf list → letterAt list segment ≡ letter
@@ -80,7 +75,7 @@ module _ (list rows records : List ℕ) (state : GoodState list rows records) (l
   found = key-found list letter key place listed
 
   asked : firstBroken (segmentRules list rows records letter) ≡ none
-  asked = segment-holds list rows records letter (handed-exact list rows records .1 (handed state)) (found .0) (found .1)
+  asked = segment-holds list rows records letter (good-unrefused list rows records state) (found .0) (found .1)
 
   record-allowed : firstBroken (recordRules list rows records letter key) ≡ none
   record-allowed = key-holds list rows records letter key asked (found .0) (found .1) place (found .2)

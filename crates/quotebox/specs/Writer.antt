@@ -5,6 +5,7 @@ use mathlib.Core.Bool.{Bool, true, false, _&&_}
 use mathlib.Core.List.{List, [], _∷_, _++_}
 use lib.Dec.{leb}
 use lib.ListN.{length, drop}
+use Rattle.laws.specs.Rules.{firstBroken}
 use Rattle.wire.specs.Number.{bytesOf}
 use Rattle.wire.specs.Checksum.{checksumOf}
 use Rattle.contracts.specs.Sound.{isLetter}
@@ -27,7 +28,7 @@ use Rattle.quotebox.specs.declared.state.Checked.{Checked}
 use Rattle.quotebox.specs.declared.writing.Code.{Code}
 use Rattle.quotebox.specs.Answers.{writtenNumbers}
 use Rattle.quotebox.specs.Calls.{answered, leftBy}
-use Rattle.quotebox.specs.Refusals.{Rule, firstBroken}
+use Rattle.quotebox.specs.Refusals.{Rule}
 use Rattle.quotebox.specs.State.{checkedRefusal}
 
 -- ---- the checks

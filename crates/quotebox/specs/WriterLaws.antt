@@ -9,6 +9,8 @@ use borrow.Author.Tests.{le-leb, lt-leb}
 use borrow.Rule.Slice.PartMut.{midOf, putMid, post-is, mid-len}
 use lib.ListN.{length, getD, set, take, drop, length-append, length-drop}
 use lib.Seq.{sets, sets-eq, take-nil, take-all, take-at, drop-append-add, drop-drop}
+use Rattle.laws.specs.Rules.{firstBroken}
+use Rattle.laws.specs.RulesLaws.{front-holds, none-hold, front-broken}
 use Rattle.layout.specs.declared.quote.Quote.{Quote}
 use Rattle.layout.specs.declared.read.Verdict.{Verdict}
 use Rattle.layout.specs.declared.read.Verdict.the-variants as verdict
@@ -30,8 +32,7 @@ use Rattle.quotebox.specs.declared.state.Checked.{Checked}
 use Rattle.quotebox.specs.declared.state.Checked.the-variants as checked
 use Rattle.quotebox.specs.declared.writing.Code.{Code}
 use Rattle.quotebox.specs.Calls.{answered, leftBy}
-use Rattle.quotebox.specs.FirstBrokenLaws.{none-broken, one-broken}
-use Rattle.quotebox.specs.Refusals.{Rule, firstBroken}
+use Rattle.quotebox.specs.Refusals.{Rule}
 use Rattle.quotebox.specs.State.{checkedRefusal}
 use Rattle.quotebox.specs.Writer.{inTable, codeRules, rowsWritten, dataWritten, rowsRules, roomRules, lengthWritten, writeRules, headBytes, sumWritten, endByte, beforeTrailer, messageBytes, messagePut, LaysRows, PutsMessage}
 use Rattle.quotebox.specs.WriterPromises.{WroteMessage}
@@ -199,13 +200,13 @@ module _ (code : Code) (level : Level) (number : ℕ) (key : List ℕ) (quote : 
 
   pub code-refused : (r : Refusal) → firstBroken (codeRules code number) ≡ some r → WroteMessage code level number key quote out (Written.Refused r) out
   unfolding writeRules
-  code-refused r e = refuses r (one-broken (codeRules code number) (rowsRules (rows .verdict) ++ behind) r e)
+  code-refused r e = refuses r (front-broken (codeRules code number) (rowsRules (rows .verdict) ++ behind) r e)
 
   module _ (coded : firstBroken (codeRules code number) ≡ none) where
     pub rows-refused : (r : Refusal) → firstBroken (rowsRules (rows .verdict)) ≡ some r → WroteMessage code level number key quote out (Written.Refused r) out
     unfolding writeRules
     rows-refused r e =
-        refuses r (none-broken (codeRules code number) (rowsRules (rows .verdict) ++ behind) coded ∙ one-broken (rowsRules (rows .verdict)) behind r e)
+        refuses r (front-holds (codeRules code number) (rowsRules (rows .verdict) ++ behind) (none-hold (codeRules code number) coded) ∙ front-broken (rowsRules (rows .verdict)) behind r e)
 
     module _ (good : firstBroken (rowsRules (rows .verdict)) ≡ none) where
       pub long-rows : length (rows .bytes) ≡ dataLength (rowsWritten (kindOf (code .1)) level)
@@ -225,7 +226,7 @@ module _ (code : Code) (level : Level) (number : ℕ) (key : List ℕ) (quote : 
       pub sent : {answer : Written} {out′ : List ℕ} → PutsMessage code number (rows .bytes) out answer out′ → WroteMessage code level number key quote out answer out′
       unfolding writeRules lengthWritten
       sent p =
-          let decides = none-broken (codeRules code number) (rowsRules (rows .verdict) ++ behind) coded ∙ none-broken (rowsRules (rows .verdict)) behind good in
+          let decides = front-holds (codeRules code number) (rowsRules (rows .verdict) ++ behind) (none-hold (codeRules code number) coded) ∙ front-holds (rowsRules (rows .verdict)) behind (none-hold (rowsRules (rows .verdict)) good) in
           let same : length (rows .bytes) + bareLength ≡ lengthWritten code level = ap (λ (n : ℕ). n + bareLength) long-rows in
           let put : List ℕ = messagePut code number (rows .bytes) out in
           record {

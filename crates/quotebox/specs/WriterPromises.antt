@@ -3,6 +3,7 @@ use Prim.Native.Nat.{ℕ}
 use mathlib.Core.Path.{_≡_}
 use mathlib.Core.List.{List, [], _∷_}
 use lib.ListN.{length}
+use Rattle.laws.specs.Rules.{firstBroken}
 use Rattle.layout.specs.declared.quote.Quote.{Quote}
 use Rattle.layout.specs.declared.rows.Level.{Level}
 use Rattle.message.specs.Codes.{kindOf}
@@ -10,7 +11,6 @@ use Rattle.quotebox.specs.declared.answers.Written.{Written}
 use Rattle.quotebox.specs.declared.writing.Code.{Code}
 use Rattle.quotebox.specs.Answers.{writtenNumbers}
 use Rattle.quotebox.specs.Calls.{answered, leftBy}
-use Rattle.quotebox.specs.Refusals.{firstBroken}
 use Rattle.quotebox.specs.Writer.{dataWritten, lengthWritten, writeRules, messagePut}
 
 pub record WroteMessage (code : Code) (level : Level) (number : ℕ) (key : List ℕ) (quote : Quote) (out : List ℕ) (answer : Written) (out′ : List ℕ) : Type 0 where

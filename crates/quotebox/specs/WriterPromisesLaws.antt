@@ -9,6 +9,8 @@ use borrow.Author.Tests.{leb-true, le-leb}
 use lib.Dec.{leb}
 use lib.ListN.{length, take, drop}
 use lib.Seq.{take-at, drop-at}
+use Rattle.laws.specs.Rules.{firstBroken}
+use Rattle.laws.specs.RulesLaws.{none-hold, hold-none, hold-append}
 use Rattle.layout.specs.declared.quote.Quote.{Quote}
 use Rattle.layout.specs.declared.read.Verdict.the-variants as verdict
 use Rattle.layout.specs.declared.rows.Level.{Level}
@@ -19,10 +21,9 @@ use Rattle.quotebox.specs.declared.answers.Written.{Written}
 use Rattle.quotebox.specs.declared.refusal.Refusal.{Refusal}
 use Rattle.quotebox.specs.declared.refusal.Refusal.the-variants.{Code as CodeOver, Numbering, Memory}
 use Rattle.quotebox.specs.declared.writing.Code.{Code}
-use Rattle.quotebox.specs.CallAnswersLaws.{written-told, refused-by, accepted-by}
+use Rattle.quotebox.specs.AnswersLaws.{written-told, refused-by, accepted-by}
 use Rattle.quotebox.specs.Calls.{leftBy}
-use Rattle.quotebox.specs.FirstBrokenLaws.{rule-held, both-held}
-use Rattle.quotebox.specs.Refusals.{Rule, firstBroken}
+use Rattle.quotebox.specs.Refusals.{Rule}
 use Rattle.quotebox.specs.Writer.{inTable, codeRules, dataWritten, rowsRules, roomRules, lengthWritten, writeRules, messageBytes, messagePut}
 use Rattle.quotebox.specs.WriterLaws.{rows-pass, long-data, message-long}
 use Rattle.quotebox.specs.WriterPromises.{WroteMessage}
@@ -50,19 +51,15 @@ write-exact code level number key quote room = (to, from)
     last : List Rule
     last = roomRules (lengthWritten code level) room
 
-    numberRule : Rule
-    numberRule = record { holds = takesNumber (kindOf (code .1)) number; refusal = Numbering 0 }
-
     to : firstBroken (codeRules code number ++ rowsRules (rows .verdict) ++ last) ≡ none → GoodWrite code level number key quote room
     to e =
-        let front = both-held (codeRules code number ++ rowsRules (rows .verdict)) last e in
-        let two = both-held (codeRules code number) (rowsRules (rows .verdict)) (front .0) in
-        let first = rule-held (record { holds = inTable code; refusal = CodeOver 0 }) (numberRule ∷ []) (two .0) in
+        let front = hold-append (codeRules code number ++ rowsRules (rows .verdict)) last .0 (none-hold (codeRules code number ++ rowsRules (rows .verdict) ++ last) e) in
+        let two = hold-append (codeRules code number) (rowsRules (rows .verdict)) .0 (front .0) in
         record {
-          tabled = first .0;
-          numbered = rule-held numberRule [] (first .1) .0;
-          rows-good = rows-pass (rows .verdict) (two .1);
-          has-room = leb-true (lengthWritten code level) room (rule-held (record { holds = leb (lengthWritten code level) room; refusal = Memory (lengthWritten code level) }) [] (front .1) .0);
+          tabled = two .0 .0;
+          numbered = two .0 .1 .0;
+          rows-good = rows-pass (rows .verdict) (hold-none (rowsRules (rows .verdict)) (two .1));
+          has-room = leb-true (lengthWritten code level) room (front .1 .0);
         }
 
     from : GoodWrite code level number key quote room → firstBroken (codeRules code number ++ rowsRules (rows .verdict) ++ last) ≡ none

@@ -7,7 +7,6 @@ mod gaps;
 mod record;
 mod refusal;
 mod rows;
-mod scratch;
 mod starting;
 mod state;
 mod writing;

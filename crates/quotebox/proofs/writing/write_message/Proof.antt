@@ -3,9 +3,9 @@ use native.Mathlib.Omega.{arith}
 use mathlib.Core.Path.{_≡_, ap, sym, _∙_}
 use mathlib.Core.Option.{none}
 use lib.ListN.{length, take, replicate, length-take}
+use Rattle.laws.specs.Rules.{firstBroken}
 use Rattle.layout.specs.Rows.{dataLength}
 use Rattle.message.specs.Codes.{kindOf}
-use Rattle.quotebox.specs.Refusals.{firstBroken}
 use Rattle.quotebox.specs.State.{checkedRefusal}
 use Rattle.quotebox.specs.Writer.{codeRules, rowsRules, rowsWritten, dataWritten, LaysRows}
 use Rattle.quotebox.specs.WriterLaws.{code-refused, rows-refused, sent, data-small, long-rows, laid-rows}

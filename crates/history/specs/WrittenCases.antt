@@ -3,6 +3,7 @@ use Prim.Native.Nat.{ℕ}
 use mathlib.Core.Path.{_≡_, refl}
 use mathlib.Core.List.{List, [], _∷_, map}
 use lib.ListN.{replicate, set}
+use Rattle.laws.specs.Rules.{firstBroken}
 use Rattle.amount.specs.Write.{size, sizeIn, textOf}
 use Rattle.layout.specs.declared.quote.Quote.{Quote}
 use Rattle.layout.specs.declared.rows.Level.{Level}
@@ -13,7 +14,6 @@ use Rattle.layout.specs.Rows.{rowsOf}
 use Rattle.layout.specs.Write.{rowText}
 use Rattle.quotebox.specs.declared.writing.Code.{Code}
 use Rattle.quotebox.specs.Calls.{answered}
-use Rattle.quotebox.specs.Refusals.{firstBroken}
 use Rattle.quotebox.specs.Writer.{dataWritten, lengthWritten, writeRules, messageBytes}
 
 -- a key of 39 letters, and a quote of market type N and status S whose numbers are all none but the last traded price

@@ -9,6 +9,8 @@ use native.Mathlib.Omega.{arith}
 use borrow.Author.Tests.{eq-eqb, le-leb, lt-leb, leb-true, leb-false}
 use lib.Dec.{leb, eqb}
 use lib.ListN.{length}
+use Rattle.laws.specs.Rules.{firstBroken}
+use Rattle.laws.specs.RulesLaws.{front-holds, none-hold}
 use Rattle.laws.specs.Choice.{clash}
 use Rattle.laws.specs.Tests.{eqb-is, and-is, or-is}
 use Rattle.layout.specs.declared.quote.Quote.{Quote}
@@ -29,10 +31,8 @@ use Rattle.quotebox.specs.declared.refusal.Refusal.{Refusal}
 use Rattle.quotebox.specs.declared.refusal.Refusal.the-variants.{Code as CodeOver, Numbering, Field, Range, Memory}
 use Rattle.quotebox.specs.declared.writing.Code.{Code}
 use Rattle.quotebox.specs.Answers.{writtenNumbers}
-use Rattle.quotebox.specs.CallAnswersLaws.{written-told, refused-by, accepted-by}
+use Rattle.quotebox.specs.AnswersLaws.{written-told, refused-by, accepted-by}
 use Rattle.quotebox.specs.Calls.{answered}
-use Rattle.quotebox.specs.FirstBrokenLaws.{none-broken}
-use Rattle.quotebox.specs.Refusals.{firstBroken}
 use Rattle.quotebox.specs.Writer.{ofTable, inTable, codeRules, rowsWritten, dataWritten, rowsRules, roomRules, lengthWritten, writeRules}
 use Rattle.quotebox.specs.WriterLaws.{code-holds}
 use Rattle.quotebox.specs.WriterPromises.{WroteMessage}
@@ -208,7 +208,7 @@ module _ (code : Code) (level : Level) (number : ℕ) (key : List ℕ) (quote : 
         → broken ≡ behind (messageLength (rowsWritten kind level)) (length out) (writeRows 0 (rowsWritten kind level) key (cellsOf level quote) .verdict)
     unfolding writeRules dataWritten lengthWritten
     rules-left kind tabled is numbered =
-        none-broken (codeRules code number) (rowsRules (verdictOf code level key quote) ++ roomRules (lengthWritten code level) (length out)) (code-holds code number tabled (rw is numbered))
+        front-holds (codeRules code number) (rowsRules (verdictOf code level key quote) ++ roomRules (lengthWritten code level) (length out)) (none-hold (codeRules code number) (code-holds code number tabled (rw is numbered)))
         ∙ ap (λ (kind : Kind). firstBroken (rowsRules (dataWritten kind level key quote .verdict) ++ roomRules (messageLength (rowsWritten kind level)) (length out))) is
 
     -- a heartbeat: its level and quote aren't looked at

@@ -61,6 +61,17 @@ impl Linked {
         line("record", told, |_| if record { format!("ok{}", values[..used].iter().map(text).collect::<String>()) } else { "none".into() })
     }
 
+    // The writer looks neither at the first value nor at those past its level's.
+    fn write(&mut self, level: usize, code: [u8; 2], number: u32, key: &feed::Key, values: &[u64], lent: usize) -> String {
+        let mut all: Values = [UNTOUCHED; 33];
+        all[1..=values.len()].copy_from_slice(values);
+        let mut out = vec![UNTOUCHED as u8; lent + 1];
+        let told = library::write(level, code, number, key, &all, &mut out[..lent]);
+        let written = if told.0 == 0 { told.1[0] as usize } else { 0 };
+        self.mind(out[written..].iter().all(|&b| b == UNTOUCHED as u8), "bytes past the message");
+        line("write", told, |_| format!("ok {written} {}", asks::hex(&out[..written])))
+    }
+
     fn call(&mut self, ask: &Ask) -> Option<String> {
         let Bench { list, rows, records, lent_rows, lent_records } = &mut self.bench;
         let (rows, records) = (&mut rows[..*lent_rows], &mut records[..*lent_records]);
@@ -72,7 +83,8 @@ impl Linked {
             Ask::Off { letter } => line("off", library::write_off(list, rows, records, *letter), |answer| format!("ok {} {}", answer[0], answer[1])),
             Ask::Gaps { letter, cells } => self.list_gaps(*letter, *cells as usize),
             Ask::Record { letter, level, key } => self.read(*letter, *level, key),
-            Ask::Write { .. } | Ask::Lend { .. } | Ask::List(_) | Ask::Poke { .. } => return None,
+            Ask::Write { code, level, number, key, room, values } => self.write(*level, *code, *number, key, values, *room as usize),
+            Ask::Lend { .. } | Ask::List(_) | Ask::Poke { .. } => return None,
         })
     }
 

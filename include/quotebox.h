@@ -80,7 +80,7 @@ enum {
 uint32_t quotebox_start(const uint8_t *list, size_t list_length, const uint32_t *starts, size_t starts_length, uint32_t *rows,
                         size_t rows_length, uint64_t *records, size_t records_length, uint64_t answer[4]);
 
-/* Every call below first refuses QUOTEBOX_LIST, QUOTEBOX_MEMORY (for rows, then for records) and QUOTEBOX_STATE, in this order; what
+/* Every call below but the writers first refuses QUOTEBOX_LIST, QUOTEBOX_MEMORY (for rows, then for records) and QUOTEBOX_STATE, in this order; what
  * it says under "Refused" comes after these. */
 
 /* Judges an unpacked batch and changes nothing: returns and answers what quotebox_take would.
@@ -163,6 +163,20 @@ uint32_t quotebox_read_level1(const uint8_t *list, size_t list_length, const uin
 uint32_t quotebox_read_level2(const uint8_t *list, size_t list_length, const uint32_t *rows, size_t rows_length,
                               const uint64_t *records, size_t records_length, uint8_t letter, const uint8_t key[QUOTEBOX_KEY],
                               uint64_t values[QUOTEBOX_VALUES], uint64_t answer[4]);
+
+/* Writes a message for a test bench, an update of level 1 or 2 or a heartbeat, into out, from its first byte on.
+ * code: "DN" or "TN" for an update, "DH" or "TH" for a heartbeat.
+ * number: the sequence number, 1 or more; of a heartbeat 0.
+ * key, values: as quotebox_read_level1 and 2 have them; values[QUOTEBOX_NUMBER] is not looked at, and of a heartbeat nothing is.
+ * out: written where it is accepted, one byte for each of the message's; 505 are always enough.
+ * Accepted: the message's length.
+ * Refused: QUOTEBOX_CODE, QUOTEBOX_NUMBERING, QUOTEBOX_FIELD and QUOTEBOX_RANGE by row, QUOTEBOX_MEMORY (the bytes of out), in this order.
+ * Rows count from 0 with the key's five first, so values[i] is row i + 4. */
+uint32_t quotebox_write_level1(const uint8_t code[2], uint32_t number, const uint8_t key[QUOTEBOX_KEY],
+                               const uint64_t values[QUOTEBOX_VALUES], uint8_t *out, size_t out_length, uint64_t answer[4]);
+
+uint32_t quotebox_write_level2(const uint8_t code[2], uint32_t number, const uint8_t key[QUOTEBOX_KEY],
+                               const uint64_t values[QUOTEBOX_VALUES], uint8_t *out, size_t out_length, uint64_t answer[4]);
 
 #ifdef __cplusplus
 }

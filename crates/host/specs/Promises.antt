@@ -2,17 +2,21 @@
 use Prim.Native.Nat.{ℕ}
 use mathlib.Core.Path.{_≡_}
 use mathlib.Core.List.{List}
+use lib.ListN.{getD}
 use Rattle.layout.specs.declared.rows.Level.{Level}
 use Rattle.quotebox.specs.declared.answers.Started.{Started}
 use Rattle.quotebox.specs.declared.answers.Judged.{Judged}
 use Rattle.quotebox.specs.declared.answers.Listed.{Listed}
 use Rattle.quotebox.specs.declared.answers.WrittenOff.{WrittenOff}
 use Rattle.quotebox.specs.declared.answers.Reading.{Reading}
-use Rattle.quotebox.specs.Answers.{startedNumbers, judgedNumbers, listedNumbers, writtenOffNumbers}
+use Rattle.quotebox.specs.declared.answers.Written.{Written}
+use Rattle.quotebox.specs.declared.writing.Code.{Code}
+use Rattle.quotebox.specs.Answers.{startedNumbers, judgedNumbers, listedNumbers, writtenOffNumbers, writtenNumbers}
 use Rattle.quotebox.specs.Promises.{JudgedBatch, TookBatch}
 use Rattle.quotebox.specs.CallPromises.{StartedBox, ListedRuns, WroteOffRun, ReadRecord}
+use Rattle.quotebox.specs.WriterPromises.{WroteMessage}
 use Rattle.host.specs.Told.{Tells, recordNumbers}
-use Rattle.host.specs.Values.{valuesAfter}
+use Rattle.host.specs.Values.{valuesAfter, quoteIn}
 
 pub record HostStarted (list starts rows records : List ℕ) (returned : ℕ) (rows′ records′ answer′ : List ℕ) : Type 0 where
   pub started : Started
@@ -44,3 +48,11 @@ pub record HostRead (list rows records : List ℕ) (letter : ℕ) (key : List �
   pub promised : ReadRecord list rows records letter key level reading
   pub tells : Tells (recordNumbers (reading .answer)) returned answer′
   pub shows : values′ ≡ valuesAfter (reading .answer) level (reading .quote) values
+
+abbrev pub codeOf : List ℕ → Code
+codeOf bytes = record { 0 = getD bytes 0 0; 1 = getD bytes 1 0 }
+
+pub record HostWrote (code : List ℕ) (level : Level) (number : ℕ) (key values out : List ℕ) (returned : ℕ) (out′ answer′ : List ℕ) : Type 0 where
+  pub written : Written
+  pub promised : WroteMessage (codeOf code) level number key (quoteIn level values) out written out′
+  pub tells : Tells (writtenNumbers written) returned answer′

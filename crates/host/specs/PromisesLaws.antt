@@ -4,13 +4,14 @@ use mathlib.Core.Path.{_≡_, sym, ap, _∙_}
 use mathlib.Core.List.{List}
 use Rattle.layout.specs.declared.rows.Level.{Level}
 use Rattle.quotebox.specs.declared.answers.Reading.{Reading}
-use Rattle.quotebox.specs.Answers.{startedNumbers, judgedNumbers, listedNumbers, writtenOffNumbers}
+use Rattle.quotebox.specs.Answers.{startedNumbers, judgedNumbers, listedNumbers, writtenOffNumbers, writtenNumbers}
 use Rattle.quotebox.specs.CallPromisesLaws.{one-started, one-listed, one-written-off, one-reading}
 use Rattle.quotebox.specs.TookLaws.{one-judged, one-took}
+use Rattle.quotebox.specs.WriterPromisesLaws.{one-written}
 use Rattle.host.specs.Told.{recordNumbers}
 use Rattle.host.specs.ToldLaws.{told-once}
-use Rattle.host.specs.Values.{valuesAfter}
-use Rattle.host.specs.Promises.{HostStarted, HostJudged, HostTook, HostListed, HostWroteOff, HostRead}
+use Rattle.host.specs.Values.{valuesAfter, quoteIn}
+use Rattle.host.specs.Promises.{HostStarted, HostJudged, HostTook, HostListed, HostWroteOff, HostRead, codeOf, HostWrote}
 
 pub start-once : {list starts rows records rows′ rows″ records′ records″ answer′ answer″ : List ℕ} {r s : ℕ}
     → HostStarted list starts rows records r rows′ records′ answer′ → HostStarted list starts rows records s rows″ records″ answer″
@@ -53,3 +54,10 @@ read-once {values = values} {level = level} p q =
       told-once (λ (r : Reading). recordNumbers (r .answer)) one (p .tells) (q .tells),
       p .shows ∙ ap (λ (r : Reading). valuesAfter (r .answer) level (r .quote) values) one ∙ sym (q .shows),
     )
+
+pub write-once : {code key values out out′ out″ answer′ answer″ : List ℕ} {level : Level} {number r s : ℕ}
+    → HostWrote code level number key values out r out′ answer′ → HostWrote code level number key values out s out″ answer″
+    → ((r ≡ s) × (answer′ ≡ answer″)) × (out′ ≡ out″)
+write-once {code} {key} {values} {out} {level = level} {number = number} p q =
+    let one = one-written (codeOf code) level number key (quoteIn level values) out (p .written) (q .written) (p .promised) (q .promised) in
+    (told-once writtenNumbers (one .0) (p .tells) (q .tells), one .1)

@@ -1,9 +1,10 @@
 // A function for each public call. None has a `requires`: they stand any contents.
 ghost use Rattle.layout.specs.declared.rows.Level.the-variants.{One, Two};
-ghost use Rattle.host.specs.Promises.{HostStarted, HostJudged, HostTook, HostListed, HostWroteOff, HostRead};
+ghost use Rattle.host.specs.Promises.{HostStarted, HostJudged, HostTook, HostListed, HostWroteOff, HostRead, HostWrote};
 use crate::told;
 use crate::values;
 use layout::Level;
+use quotebox::Code;
 
 #[no_mangle]
 pub extern "C" fn quotebox_start(
@@ -123,4 +124,48 @@ pub extern "C" fn quotebox_read_level2(
     ensures { λ r. ⌜ HostRead (now (list .entry)) (now (rows .entry)) (now (records .entry)) letter (now (key .entry)) Two (now (values .entry)) r (now (values .exit)) (now (answer .exit)) ⌝ }
 {
     read(list, rows, records, letter, key, Level::Two, values, answer)
+}
+
+fn write(
+    code: &[u8; 2],
+    level: Level,
+    number: u32,
+    key: &[u8; 39],
+    values: &[u64; 33],
+    out: &mut [u8],
+    answer: &mut [u64; 4],
+) -> u32
+    ensures { λ r. ⌜ HostWrote (now (code .entry)) level number (now (key .entry)) (now (values .entry)) (now (out .entry)) r (now (out .exit)) (now (answer .exit)) ⌝ }
+{
+    let quote = values::quote_in(level, values);
+    let written = quotebox::write_message(Code(code[0], code[1]), level, number, key, quote, out);
+    told::tell(told::of_written(written), answer)
+}
+
+#[no_mangle]
+pub extern "C" fn quotebox_write_level1(
+    code: &[u8; 2],
+    number: u32,
+    key: &[u8; 39],
+    values: &[u64; 33],
+    out: &mut [u8],
+    answer: &mut [u64; 4],
+) -> u32
+    ensures { λ r. ⌜ HostWrote (now (code .entry)) One number (now (key .entry)) (now (values .entry)) (now (out .entry)) r (now (out .exit)) (now (answer .exit)) ⌝ }
+{
+    write(code, Level::One, number, key, values, out, answer)
+}
+
+#[no_mangle]
+pub extern "C" fn quotebox_write_level2(
+    code: &[u8; 2],
+    number: u32,
+    key: &[u8; 39],
+    values: &[u64; 33],
+    out: &mut [u8],
+    answer: &mut [u64; 4],
+) -> u32
+    ensures { λ r. ⌜ HostWrote (now (code .entry)) Two number (now (key .entry)) (now (values .entry)) (now (out .entry)) r (now (out .exit)) (now (answer .exit)) ⌝ }
+{
+    write(code, Level::Two, number, key, values, out, answer)
 }

@@ -9,4 +9,6 @@ pub use calls::quotebox_read_level1;
 pub use calls::quotebox_read_level2;
 pub use calls::quotebox_start;
 pub use calls::quotebox_take;
+pub use calls::quotebox_write_level1;
+pub use calls::quotebox_write_level2;
 pub use calls::quotebox_write_off;

@@ -3,12 +3,13 @@ ghost use mathlib.Core.Path.{_≡_};
 ghost use mathlib.Core.List.{_∷_, []};
 ghost use Rattle.host.specs.Told.{toldOf, recordNumbers};
 ghost use Rattle.quotebox.specs.Refusals.{refusalNumbers};
-ghost use Rattle.quotebox.specs.Answers.{startedNumbers, judgedNumbers, listedNumbers, writtenOffNumbers};
+ghost use Rattle.quotebox.specs.Answers.{startedNumbers, judgedNumbers, listedNumbers, writtenOffNumbers, writtenNumbers};
 use quotebox::Judged;
 use quotebox::Listed;
 use quotebox::Recorded;
 use quotebox::Refusal;
 use quotebox::Started;
+use quotebox::Written;
 use quotebox::WrittenOff;
 
 pub struct Told {
@@ -94,6 +95,15 @@ pub(crate) fn of_recorded(recorded: Recorded) -> Told
         Recorded::Record(_) => of_numbers(0, 1, 0, 0),
         Recorded::NoRecord => of_numbers(0, 0, 0, 0),
         Recorded::Refused(refusal) => of_refusal(refusal),
+    }
+}
+
+pub(crate) fn of_written(written: Written) -> Told
+    ensures { λ r. ⌜ r ≡ toldOf (writtenNumbers written) ⌝ }
+{
+    match written {
+        Written::Message(length) => of_numbers(0, length, 0, 0),
+        Written::Refused(refusal) => of_refusal(refusal),
     }
 }
 

@@ -20,7 +20,7 @@ use std::process::{Command, Stdio};
 
 const EURO: Key = *b"FUTCUREURINR    27MAR2026            XX";
 const DOLLAR: Key = *b"FUTCURUSDINR    27MAR2026            XX";
-const DOLLAR_CALL: Key = *b"OPTCURUSDINR    27MAR2026    84.2500CE ";
+const DOLLAR_CALL: Key = *b"OPTCURUSDINR    27MAR2026     84.2500CE";
 const CRUDE: Key = *b"FUTCOMCRUDEOIL  19MAR2026            XX";
 const GOLD: Key = *b"FUTCOMGOLD      05APR2026            XX";
 

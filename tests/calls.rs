@@ -1,41 +1,41 @@
 // Every public call of the compiled box, asked through the program `calls` and held against the reference line by line.
 //   calls PROGRAM... [--seed N] [--times N] [--keep FOLDER]
-// N times the usual number of sessions; --keep leaves the last session's `contracts` and `input` in FOLDER.
+// N times the usual number of histories; --keep leaves the last history's `contracts` and `input` in FOLDER.
 mod asks;
 mod feed;
+mod history;
 mod program;
 mod random;
 mod reference;
-mod session;
 
 use asks::{Ask, Bench, LARGEST_LIST};
 use feed::Book;
+use history::{History, Seen};
 use program::{Contracts, Held, Options};
 use random::Random;
 use reference::{GAP_ROW, KEY, NONE, PRICE, RECORD};
-use session::{Seen, Session};
 
-const SESSIONS: u64 = 80;
+const HISTORIES: u64 = 80;
 
-fn sessions(options: &Options, held: &mut Held) {
+fn histories(options: &Options, held: &mut Held) {
     let mut seen = Seen::new();
     let (mut calls, mut batches) = (0, 0);
-    for number in 0..SESSIONS * options.times {
-        let s = Session::held(options.seed, number, &mut seen);
-        calls += s.lines.len();
-        batches += s.batches();
-        let expected: Vec<String> = s.lines.iter().map(|(_, line)| line.clone()).chain(["end".into()]).collect();
-        let contracts = s.contracts.as_deref().map_or(Contracts::Missing, Contracts::File);
-        let said = options.run(contracts, &s.input);
-        held.lines(&expected, &said, |line| format!("calls: seed {} session {number} {}", options.seed, s.origin(line)));
+    for number in 0..HISTORIES * options.times {
+        let h = History::held(options.seed, number, &mut seen);
+        calls += h.lines.len();
+        batches += h.batches();
+        let expected: Vec<String> = h.lines.iter().map(|(_, line)| line.clone()).chain(["end".into()]).collect();
+        let contracts = h.contracts.as_deref().map_or(Contracts::Missing, Contracts::File);
+        let said = options.run(contracts, &h.input);
+        held.lines(&expected, &said, |line| format!("calls: seed {} history {number} {}", options.seed, h.origin(line)));
         if number == 0 {
             held.notices(&expected, &said);
         }
     }
-    for what in session::wanted() {
+    for what in history::wanted() {
         held.hold(seen.contains_key(&what), || format!("calls: seed {}: not met: {what}", options.seed));
     }
-    println!("calls: {} sessions, {batches} batches, {calls} calls", SESSIONS * options.times);
+    println!("calls: {} histories, {batches} batches, {calls} calls", HISTORIES * options.times);
 }
 
 // ---- document 01's cases, with the lines written out
@@ -212,7 +212,7 @@ fn main() {
     let mut held = Held { passed: 0, failed: 0 };
     paper(&options, &mut held);
     files(&options, &mut held);
-    sessions(&options, &mut held);
+    histories(&options, &mut held);
     writes(&options, &mut held);
     held.end();
 }

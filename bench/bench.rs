@@ -30,9 +30,11 @@ enum Box {
 
 const BOXES: [Box; 3] = [Box::Ours, Box::Independent(reference::sum_by_bytes), Box::Independent(reference::sum_by_sixteens)];
 
+// What is lent. The records begin at another place in each round, so that no box is judged by where its memory happens to lie.
 struct Memory {
     rows: Vec<u32>,
     records: Vec<u64>,
+    shift: usize,
 }
 
 fn told(result: Result<reference::Counts, reference::Refusal>) -> Answered {
@@ -44,16 +46,18 @@ fn told(result: Result<reference::Counts, reference::Refusal>) -> Answered {
 
 impl Box {
     fn judge(self, list: &[u8], memory: &mut Memory, batch: &[u8]) -> Answered {
+        let (rows, records) = (&memory.rows, &memory.records[memory.shift..]);
         match self {
-            Box::Ours => library::judge(list, &memory.rows, &memory.records, batch),
-            Box::Independent(sum) => told(reference::judge(sum, list, &memory.rows, &memory.records, batch)),
+            Box::Ours => library::judge(list, rows, records, batch),
+            Box::Independent(sum) => told(reference::judge(sum, list, rows, records, batch)),
         }
     }
 
     fn take(self, list: &[u8], memory: &mut Memory, batch: &[u8]) -> Answered {
+        let (rows, records) = (&mut memory.rows, &mut memory.records[memory.shift..]);
         match self {
-            Box::Ours => library::take(list, &mut memory.rows, &mut memory.records, batch),
-            Box::Independent(sum) => told(reference::take(sum, list, &mut memory.rows, &mut memory.records, batch)),
+            Box::Ours => library::take(list, rows, records, batch),
+            Box::Independent(sum) => told(reference::take(sum, list, rows, records, batch)),
         }
     }
 }
@@ -127,15 +131,15 @@ fn feeds(r: &mut Random, contracts: usize) -> Vec<(&'static str, Feed)> {
     all.into_iter().map(|(name, batches)| (name, Feed { list: list.clone(), messages: counted(&batches), batches })).collect()
 }
 
-fn started(feed: &Feed, contracts: usize) -> Memory {
-    let mut memory = Memory { rows: vec![0; GAP_ROW], records: vec![0; RECORD * contracts] };
-    reference::start(&feed.list, &[1], &mut memory.rows, &mut memory.records).expect("the list is sound");
+fn started(feed: &Feed, contracts: usize, round: usize) -> Memory {
+    let shift = 37 * round % 512;
+    let mut memory = Memory { rows: vec![0; GAP_ROW], records: vec![0; shift + RECORD * contracts], shift };
+    reference::start(&feed.list, &[1], &mut memory.rows, &mut memory.records[shift..]).expect("the list is sound");
     memory
 }
 
 // One round: all batches in turn. Nanoseconds a message, and what was answered.
-fn round(feed: &Feed, contracts: usize, call: impl Fn(&[u8], &mut Memory, &[u8]) -> Answered) -> (f64, Vec<Answered>, Memory) {
-    let mut memory = started(feed, contracts);
+fn timed(feed: &Feed, mut memory: Memory, call: impl Fn(&[u8], &mut Memory, &[u8]) -> Answered) -> (f64, Vec<Answered>, Memory) {
     let mut answers = Vec::with_capacity(feed.batches.len());
     let begun = Instant::now();
     for batch in &feed.batches {
@@ -147,10 +151,10 @@ fn round(feed: &Feed, contracts: usize, call: impl Fn(&[u8], &mut Memory, &[u8])
 // The best of the rounds for each box, taken in turn so that all meet the same machine.
 fn best(feed: &Feed, contracts: usize, rounds: usize, call: impl Fn(Box, &[u8], &mut Memory, &[u8]) -> Answered) -> [f64; 3] {
     let mut best = [f64::INFINITY; 3];
-    for _ in 0..rounds {
+    for round in 0..rounds {
         let mut right = None;
         for (k, of) in BOXES.into_iter().enumerate() {
-            let (time, answers, memory) = round(feed, contracts, |list, memory, batch| call(of, list, memory, batch));
+            let (time, answers, memory) = timed(feed, started(feed, contracts, round), |list, memory, batch| call(of, list, memory, batch));
             best[k] = best[k].min(time);
             assert!(answers.iter().all(|answer| answer.0 == 0), "a batch is refused");
             let live = feed::live_cells(&memory.rows);

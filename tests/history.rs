@@ -1,4 +1,4 @@
-// Sessions of calls that look random, each with the lines that the reference answers: lists and memory as they should be and
+// Histories of calls that look random, each with the lines that the reference answers: lists and memory as they should be and
 // otherwise, rows handed back unsound, batches and quotes of every kind.
 #![allow(dead_code)] // each test uses a part
 
@@ -28,7 +28,7 @@ const UNSOUND: [&str; 10] = [
     "a run past highest",
 ];
 
-pub struct Session {
+pub struct History {
     r: Random,
     book: Book,
     bench: Bench,
@@ -45,8 +45,8 @@ fn refusal_of(line: &str) -> Option<(u8, usize)> {
     Some((words.next()?.parse().ok()?, words.next()?.parse().ok()?))
 }
 
-impl Session {
-    fn new(seed: u64, number: u64) -> Session {
+impl History {
+    fn new(seed: u64, number: u64) -> History {
         let mut r = Random::new(seed.wrapping_mul(1_000_003).wrapping_add(number));
         let most = r.pick(&[1, 4, 12, 64]);
         let book = feed::a_book(&mut r, most);
@@ -57,24 +57,24 @@ impl Session {
         };
         let bench = Bench::new(contracts.as_deref());
         let pace = r.pick(&[Pace::Smooth, Pace::Mixed, Pace::Mixed, Pace::Holes, Pace::Far]);
-        Session { r, book, bench, pace, contracts, asked: vec![], lines: vec![], input: vec![], ending: "nothing" }
+        History { r, book, bench, pace, contracts, asked: vec![], lines: vec![], input: vec![], ending: "nothing" }
     }
 
-    // One whole session. Its file is sometimes missing or damaged, and then replaced after a few calls.
-    pub fn held(seed: u64, number: u64, seen: &mut Seen) -> Session {
-        let mut s = Session::new(seed, number);
-        if s.bench.list != s.book.bytes() {
-            s.few_calls(seen);
-            let list = s.book.bytes();
-            s.ask(Ask::List(list), seen);
+    // One whole history. Its file is sometimes missing or damaged, and then replaced after a few calls.
+    pub fn held(seed: u64, number: u64, seen: &mut Seen) -> History {
+        let mut h = History::new(seed, number);
+        if h.bench.list != h.book.bytes() {
+            h.few_calls(seen);
+            let list = h.book.bytes();
+            h.ask(Ask::List(list), seen);
         }
-        s.few_calls(seen);
-        s.begin(seen);
+        h.few_calls(seen);
+        h.begin(seen);
         for _ in 0..STEPS {
-            s.step(seen);
+            h.step(seen);
         }
-        s.finish();
-        s
+        h.finish();
+        h
     }
 
     pub fn batches(&self) -> usize {
@@ -167,9 +167,9 @@ impl Session {
             return;
         }
         let mut messages = vec![];
-        let update = |s: &mut Session, number| {
-            let key = s.book.a_key(&mut s.r, letter);
-            feed::an_update(&mut s.r, letter, 1, number, &key)
+        let update = |h: &mut History, number| {
+            let key = h.book.a_key(&mut h.r, letter);
+            feed::an_update(&mut h.r, letter, 1, number, &key)
         };
         while (row[2] as usize) < MOST_RUNS && messages.len() < 120 {
             let number = row[1] + 2;
@@ -182,9 +182,8 @@ impl Session {
         let next = row[1] + 1;
         let run = reference::runs(&row).into_iter().find(|run| run.1 - run.0 > 1);
         let splits = run.map(|run| run.0 + 1).filter(|_| self.r.one_in(2));
-        let too_many = splits.unwrap_or(next + 1 + place as u32);
         let mut numbers = vec![next, next + 1, next];
-        numbers.insert(match place { 0 => 0, 1 => 2, _ => 3 }, if splits.is_some() { too_many } else { next + 3 });
+        numbers.insert([0, 2, 3][place], splits.unwrap_or(next + 3));
         let messages: Vec<Vec<u8>> = numbers.into_iter().map(|n| update(self, n)).collect();
         self.ask(Ask::Judge(feed::batch(&messages)), seen);
         self.ask(Ask::Take(feed::batch(&messages)), seen);

@@ -30,11 +30,9 @@ enum Box {
 
 const BOXES: [Box; 3] = [Box::Ours, Box::Independent(reference::sum_by_bytes), Box::Independent(reference::sum_by_sixteens)];
 
-// What is lent. The records begin at another place in each round, so that no box is judged by where its memory happens to lie.
 struct Memory {
     rows: Vec<u32>,
     records: Vec<u64>,
-    shift: usize,
 }
 
 fn told(result: Result<reference::Counts, reference::Refusal>) -> Answered {
@@ -46,7 +44,7 @@ fn told(result: Result<reference::Counts, reference::Refusal>) -> Answered {
 
 impl Box {
     fn judge(self, list: &[u8], memory: &mut Memory, batch: &[u8]) -> Answered {
-        let (rows, records) = (&memory.rows, &memory.records[memory.shift..]);
+        let (rows, records) = (&memory.rows, &memory.records);
         match self {
             Box::Ours => library::judge(list, rows, records, batch),
             Box::Independent(sum) => told(reference::judge(sum, list, rows, records, batch)),
@@ -54,7 +52,7 @@ impl Box {
     }
 
     fn take(self, list: &[u8], memory: &mut Memory, batch: &[u8]) -> Answered {
-        let (rows, records) = (&mut memory.rows, &mut memory.records[memory.shift..]);
+        let (rows, records) = (&mut memory.rows, &mut memory.records);
         match self {
             Box::Ours => library::take(list, rows, records, batch),
             Box::Independent(sum) => told(reference::take(sum, list, rows, records, batch)),
@@ -131,38 +129,46 @@ fn feeds(r: &mut Random, contracts: usize) -> Vec<(&'static str, Feed)> {
     all.into_iter().map(|(name, batches)| (name, Feed { list: list.clone(), messages: counted(&batches), batches })).collect()
 }
 
-fn started(feed: &Feed, contracts: usize, round: usize) -> Memory {
-    let shift = 37 * round % 512;
-    let mut memory = Memory { rows: vec![0; GAP_ROW], records: vec![0; shift + RECORD * contracts], shift };
-    reference::start(&feed.list, &[1], &mut memory.rows, &mut memory.records[shift..]).expect("the list is sound");
+fn started(feed: &Feed, contracts: usize) -> Memory {
+    let mut memory = Memory { rows: vec![0; GAP_ROW], records: vec![0; RECORD * contracts] };
+    reference::start(&feed.list, &[1], &mut memory.rows, &mut memory.records).expect("the list is sound");
     memory
 }
 
-// One round: all batches in turn. Nanoseconds a message, and what was answered.
-fn timed(feed: &Feed, mut memory: Memory, call: impl Fn(&[u8], &mut Memory, &[u8]) -> Answered) -> (f64, Vec<Answered>, Memory) {
+// Batches timed in one piece. On a busy machine a process is put aside every few milliseconds: a piece must be much shorter, or
+// the slower box meets that in every round and the faster one in few.
+const PIECE: usize = 4;
+
+// One round: all batches in turn, the nanoseconds of each piece and what was answered.
+fn timed(feed: &Feed, memory: &mut Memory, call: impl Fn(&[u8], &mut Memory, &[u8]) -> Answered) -> (Vec<f64>, Vec<Answered>) {
     let mut answers = Vec::with_capacity(feed.batches.len());
-    let begun = Instant::now();
-    for batch in &feed.batches {
-        answers.push(call(black_box(&feed.list), &mut memory, black_box(batch)));
+    let mut times = vec![];
+    for piece in feed.batches.chunks(PIECE) {
+        let begun = Instant::now();
+        for batch in piece {
+            answers.push(call(black_box(&feed.list), memory, black_box(batch)));
+        }
+        times.push(begun.elapsed().as_nanos() as f64);
     }
-    (begun.elapsed().as_nanos() as f64 / feed.messages as f64, answers, memory)
+    (times, answers)
 }
 
-// The best of the rounds for each box, taken in turn so that all meet the same machine.
+// Nanoseconds a message for each box: the best of the rounds for each piece, the boxes in turn so that all meet the same machine.
 fn best(feed: &Feed, contracts: usize, rounds: usize, call: impl Fn(Box, &[u8], &mut Memory, &[u8]) -> Answered) -> [f64; 3] {
-    let mut best = [f64::INFINITY; 3];
-    for round in 0..rounds {
+    let pieces = feed.batches.len().div_ceil(PIECE);
+    let mut best = [vec![f64::INFINITY; pieces], vec![f64::INFINITY; pieces], vec![f64::INFINITY; pieces]];
+    for _ in 0..rounds {
         let mut right = None;
-        for (k, of) in BOXES.into_iter().enumerate() {
-            let (time, answers, memory) = timed(feed, started(feed, contracts, round), |list, memory, batch| call(of, list, memory, batch));
-            best[k] = best[k].min(time);
+        for (of, best) in BOXES.into_iter().zip(&mut best) {
+            let mut memory = started(feed, contracts);
+            let (times, answers) = timed(feed, &mut memory, |list, memory, batch| call(of, list, memory, batch));
+            best.iter_mut().zip(times).for_each(|(best, time)| *best = best.min(time));
             assert!(answers.iter().all(|answer| answer.0 == 0), "a batch is refused");
-            let live = feed::live_cells(&memory.rows);
-            let got = (answers, memory.rows[..live].to_vec());
+            let got = (answers, memory.rows[..feed::live_cells(&memory.rows)].to_vec());
             assert!(*right.get_or_insert(got.clone()) == got, "the boxes answer differently");
         }
     }
-    best
+    best.map(|pieces| pieces.iter().sum::<f64>() / feed.messages as f64)
 }
 
 fn checksum_alone(length: usize, rounds: usize) -> f64 {
@@ -179,7 +185,7 @@ fn checksum_alone(length: usize, rounds: usize) -> f64 {
 
 fn main() {
     let rounds = std::env::args().nth(1).and_then(|n| n.parse().ok()).unwrap_or(60);
-    println!("ns a message, best of {rounds} rounds of {BATCHES} batches of {MESSAGES}; the ratio is ours to the independent one's,");
+    println!("ns a message, best of {rounds} rounds for each {PIECE} of {BATCHES} batches of {MESSAGES}; the ratio is ours to the independent one's,");
     println!("whose checksum takes one byte or sixteen a step");
     println!("{:<24} {:>9} {:>6} {:>8} {:>8} {:>8} {:>7} {:>7}", "messages", "contracts", "", "ours", "by 1", "by 16", "ratio 1", "16");
     let mut worst: (f64, f64) = (0.0, 0.0);

@@ -49,7 +49,7 @@ use Rattle.history.specs.Segment.{Fits}
 use Rattle.history.specs.SegmentLaws.{fits-begun, fits-off}
 use Rattle.history.specs.Turn.{BoxFits, Turned}
 use Rattle.history.specs.TurnLaws.{one-segment, messages-turn}
-use Rattle.history.specs.Histories.{Reached, begun as begins, refusedStart, judge, take, listGaps, writeOff, readRecord}
+use Rattle.history.specs.Histories.{Reached, begun as begins, refusedStart, judge, take, listGaps, writeOff, readRecord, writeMessage}
 use Rattle.history.specs.Holds.{Holds}
 
 -- ---- a start
@@ -228,3 +228,4 @@ reached-holds (take r batch answer p) = take-holds (reached-holds r) batch answe
 reached-holds (listGaps r letter cells answer cells′ p) = reached-holds r
 reached-holds (writeOff r letter answer p) = off-holds (reached-holds r) letter answer p
 reached-holds (readRecord r letter key level reading p) = reached-holds r
+reached-holds (writeMessage r code level number key quote out answer out′ p) = reached-holds r

@@ -37,7 +37,7 @@ lentRecords = replicate 48 0
 
 -- one message of T that is passed over, with a number
 abbrev batch : ℕ → List ℕ
-batch n = 1 ∷ 0 ∷ 11 ∷ 0 ∷ 1 ∷ 84 ∷ 69 ∷ 0 ∷ 11 ∷ 0 ∷ 0 ∷ 0 ∷ n ∷ 0 ∷ 0 ∷ 13 ∷ []
+batch n = 0x01 ∷ 0x00 ∷ 0x0B ∷ 0x00 ∷ 0x01 ∷ 0x54 ∷ 0x45 ∷ 0x00 ∷ 0x0B ∷ 0x00 ∷ 0x00 ∷ 0x00 ∷ n ∷ 0x00 ∷ 0x00 ∷ 0x0D ∷ []
 
 abbrev calls : List Call
 calls = take (batch 1) ∷ take (batch 4) ∷ []

@@ -1,6 +1,6 @@
 -- 01 "Cases": P1 to P14 as one statement. Each is evaluated by the definitions that the promises cite, and P11 to P13 also by
 -- what the past of their calls says.
-use Prim.Native.Nat.{ℕ, zero, suc, _+_, _*_}
+use Prim.Native.Nat.{ℕ, zero, suc, _+_}
 use Prim.Native.String.{String}
 use mathlib.Core.Path.{_≡_, refl}
 use mathlib.Core.Bool.{Bool, cond}
@@ -10,7 +10,6 @@ use lib.ListN.{length, replicate}
 use Rattle.laws.specs.Rules.{firstBroken}
 use Rattle.laws.specs.Texts.{codes}
 use Rattle.wire.specs.Checksum.{bitStep, byteStep, sumOf, checksumOf}
-use Rattle.wire.specs.Number.{bytesOf}
 use Rattle.amount.specs.Answers.{numberNumbers}
 use Rattle.amount.specs.Kinds.{price, readAs}
 use Rattle.amount.specs.Read.{step, walk, readText}
@@ -37,6 +36,7 @@ use Rattle.history.specs.Past.{Event, isTaken, highestIn, missingIn, run
 use Rattle.history.specs.Exactly.{cameNext}
 use Rattle.history.specs.Calls.{Call, Left, take, writeOff, listGaps, startLeaves, allLeave, answers}
 use Rattle.history.specs.CallsLaws.{ReachedBy, start-reached, calls-reached}
+use Rattle.history.specs.ReadBack.{plainBatch}
 use Rattle.history.specs.WrittenCases as writer
 
 -- ---- the box that is asked: D and T listed, each started at 1
@@ -83,7 +83,7 @@ messages (n ∷ ns) = 84 ∷ 69 ∷ 0 ∷ 11 ∷ 0 ∷ 0 ∷ 0 ∷ n ∷ 0 ∷ 0
 
 -- a batch of them
 abbrev numbers : List ℕ → Call
-numbers ns = take (1 ∷ bytesOf 2 (11 * length ns) ++ bytesOf 2 (length ns) ++ messages ns)
+numbers ns = take (plainBatch (length ns) (messages ns))
 
 -- so many numbers, each two above the one before
 abbrev twoApart : ℕ → ℕ → List ℕ

@@ -229,17 +229,23 @@ module _ (list starts : List ℕ) (letter i : ℕ) (listed : segmentOf list lett
   abbrev g : Gaps
   g = gapsOf (box .row)
 
+  -- where a message is not taken the box stays, its counts apart
+  stays : (m : Message) → comesNew begin earlier (wroteOffIn letter past) m ≡ false → (taken old heartbeats : ℕ)
+      → BoxFits list starts letter i (came letter m ∷ past) (record { row = box .row; records = box .records; taken = taken; old = old; heartbeats = heartbeats })
+  stays m none-new taken old heartbeats =
+      record {
+        row-sound = f .row-sound;
+        gaps-fit = rw (taken-here letter begin m past, none-new) (f .gaps-fit);
+        records-fit = records-kept list starts (box .records) letter i listed past m (f .records-fit) none-new;
+        records-long = f .records-long;
+      }
+
   -- a heartbeat
   beat-turns : (m : Message) → m .what ≡ what.Heartbeat → Turned list starts letter i past box (m ∷ []) (beatBox box)
   beat-turns m e =
       let none-new : comesNew begin earlier (wroteOffIn letter past) m ≡ false = simp e in
       record {
-        fits = record {
-          row-sound = f .row-sound;
-          gaps-fit = rw (taken-here letter begin m past, none-new) (f .gaps-fit);
-          records-fit = records-kept list starts (box .records) letter i listed past m (f .records-fit) none-new;
-          records-long = f .records-long;
-        };
+        fits = stays m none-new _ _ _;
         taken-are = simp e (omega arith);
         old-are = simp e (omega arith);
         heartbeats-are = simp e (omega arith);
@@ -275,12 +281,7 @@ module _ (list starts : List ℕ) (letter i : ℕ) (listed : segmentOf list lett
     old-turns t =
         let not-new : comesNew begin earlier (wroteOffIn letter past) m ≡ false = sym new-is ∙ t in
         record {
-          fits = record {
-            row-sound = f .row-sound;
-            gaps-fit = rw (taken-here letter begin m past, not-new) (f .gaps-fit);
-            records-fit = records-kept list starts (box .records) letter i listed past m (f .records-fit) not-new;
-            records-long = f .records-long;
-          };
+          fits = stays m not-new _ _ _;
           taken-are = rw not-new (omega arith);
           old-are = rw (not-new, numbered) (omega arith);
           heartbeats-are = rw (no-beat (m .what) numbered) (omega arith);

@@ -44,16 +44,18 @@ fn told(result: Result<reference::Counts, reference::Refusal>) -> Answered {
 
 impl Box {
     fn judge(self, list: &[u8], memory: &mut Memory, batch: &[u8]) -> Answered {
+        let (rows, records) = (&memory.rows, &memory.records);
         match self {
-            Box::Ours => library::judge(list, &memory.rows, &memory.records, batch),
-            Box::Independent(sum) => told(reference::judge(sum, list, &memory.rows, &memory.records, batch)),
+            Box::Ours => library::judge(list, rows, records, batch),
+            Box::Independent(sum) => told(reference::judge(sum, list, rows, records, batch)),
         }
     }
 
     fn take(self, list: &[u8], memory: &mut Memory, batch: &[u8]) -> Answered {
+        let (rows, records) = (&mut memory.rows, &mut memory.records);
         match self {
-            Box::Ours => library::take(list, &mut memory.rows, &mut memory.records, batch),
-            Box::Independent(sum) => told(reference::take(sum, list, &mut memory.rows, &mut memory.records, batch)),
+            Box::Ours => library::take(list, rows, records, batch),
+            Box::Independent(sum) => told(reference::take(sum, list, rows, records, batch)),
         }
     }
 }
@@ -133,32 +135,40 @@ fn started(feed: &Feed, contracts: usize) -> Memory {
     memory
 }
 
-// One round: all batches in turn. Nanoseconds a message, and what was answered.
-fn round(feed: &Feed, contracts: usize, call: impl Fn(&[u8], &mut Memory, &[u8]) -> Answered) -> (f64, Vec<Answered>, Memory) {
-    let mut memory = started(feed, contracts);
+// Batches timed in one piece. On a busy machine a process is put aside every few milliseconds: a piece must be much shorter, or
+// the slower box meets that in every round and the faster one in few.
+const PIECE: usize = 4;
+
+// One round: all batches in turn, the nanoseconds of each piece and what was answered.
+fn timed(feed: &Feed, memory: &mut Memory, call: impl Fn(&[u8], &mut Memory, &[u8]) -> Answered) -> (Vec<f64>, Vec<Answered>) {
     let mut answers = Vec::with_capacity(feed.batches.len());
-    let begun = Instant::now();
-    for batch in &feed.batches {
-        answers.push(call(black_box(&feed.list), &mut memory, black_box(batch)));
+    let mut times = vec![];
+    for piece in feed.batches.chunks(PIECE) {
+        let begun = Instant::now();
+        for batch in piece {
+            answers.push(call(black_box(&feed.list), memory, black_box(batch)));
+        }
+        times.push(begun.elapsed().as_nanos() as f64);
     }
-    (begun.elapsed().as_nanos() as f64 / feed.messages as f64, answers, memory)
+    (times, answers)
 }
 
-// The best of the rounds for each box, taken in turn so that all meet the same machine.
+// Nanoseconds a message for each box: the best of the rounds for each piece, the boxes in turn so that all meet the same machine.
 fn best(feed: &Feed, contracts: usize, rounds: usize, call: impl Fn(Box, &[u8], &mut Memory, &[u8]) -> Answered) -> [f64; 3] {
-    let mut best = [f64::INFINITY; 3];
+    let pieces = feed.batches.len().div_ceil(PIECE);
+    let mut best = [vec![f64::INFINITY; pieces], vec![f64::INFINITY; pieces], vec![f64::INFINITY; pieces]];
     for _ in 0..rounds {
         let mut right = None;
-        for (k, of) in BOXES.into_iter().enumerate() {
-            let (time, answers, memory) = round(feed, contracts, |list, memory, batch| call(of, list, memory, batch));
-            best[k] = best[k].min(time);
+        for (of, best) in BOXES.into_iter().zip(&mut best) {
+            let mut memory = started(feed, contracts);
+            let (times, answers) = timed(feed, &mut memory, |list, memory, batch| call(of, list, memory, batch));
+            best.iter_mut().zip(times).for_each(|(best, time)| *best = best.min(time));
             assert!(answers.iter().all(|answer| answer.0 == 0), "a batch is refused");
-            let live = feed::live_cells(&memory.rows);
-            let got = (answers, memory.rows[..live].to_vec());
+            let got = (answers, memory.rows[..feed::live_cells(&memory.rows)].to_vec());
             assert!(*right.get_or_insert(got.clone()) == got, "the boxes answer differently");
         }
     }
-    best
+    best.map(|pieces| pieces.iter().sum::<f64>() / feed.messages as f64)
 }
 
 fn checksum_alone(length: usize, rounds: usize) -> f64 {
@@ -175,7 +185,7 @@ fn checksum_alone(length: usize, rounds: usize) -> f64 {
 
 fn main() {
     let rounds = std::env::args().nth(1).and_then(|n| n.parse().ok()).unwrap_or(60);
-    println!("ns a message, best of {rounds} rounds of {BATCHES} batches of {MESSAGES}; the ratio is ours to the independent one's,");
+    println!("ns a message, best of {rounds} rounds for each {PIECE} of {BATCHES} batches of {MESSAGES}; the ratio is ours to the independent one's,");
     println!("whose checksum takes one byte or sixteen a step");
     println!("{:<24} {:>9} {:>6} {:>8} {:>8} {:>8} {:>7} {:>7}", "messages", "contracts", "", "ours", "by 1", "by 16", "ratio 1", "16");
     let mut worst: (f64, f64) = (0.0, 0.0);

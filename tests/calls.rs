@@ -1,41 +1,41 @@
 // Every public call of the compiled box, asked through the program `calls` and held against the reference line by line.
 //   calls PROGRAM... [--seed N] [--times N] [--keep FOLDER]
-// N times the usual number of sessions; --keep leaves the last session's `contracts` and `input` in FOLDER.
+// N times the usual number of histories; --keep leaves the last history's `contracts` and `input` in FOLDER.
 mod asks;
 mod feed;
+mod history;
 mod program;
 mod random;
 mod reference;
-mod session;
 
 use asks::{Ask, Bench, LARGEST_LIST};
 use feed::Book;
+use history::{History, Seen};
 use program::{Contracts, Held, Options};
 use random::Random;
 use reference::{GAP_ROW, KEY, NONE, PRICE, RECORD};
-use session::{Seen, Session};
 
-const SESSIONS: u64 = 80;
+const HISTORIES: u64 = 80;
 
-fn sessions(options: &Options, held: &mut Held) {
+fn histories(options: &Options, held: &mut Held) {
     let mut seen = Seen::new();
     let (mut calls, mut batches) = (0, 0);
-    for number in 0..SESSIONS * options.times {
-        let s = Session::held(options.seed, number, &mut seen);
-        calls += s.lines.len();
-        batches += s.batches();
-        let expected: Vec<String> = s.lines.iter().map(|(_, line)| line.clone()).chain(["end".into()]).collect();
-        let contracts = s.contracts.as_deref().map_or(Contracts::Missing, Contracts::File);
-        let said = options.run(contracts, &s.input);
-        held.lines(&expected, &said, |line| format!("calls: seed {} session {number} {}", options.seed, s.origin(line)));
+    for number in 0..HISTORIES * options.times {
+        let h = History::held(options.seed, number, &mut seen);
+        calls += h.lines.len();
+        batches += h.batches();
+        let expected: Vec<String> = h.lines.iter().map(|(_, line)| line.clone()).chain(["end".into()]).collect();
+        let contracts = h.contracts.as_deref().map_or(Contracts::Missing, Contracts::File);
+        let said = options.run(contracts, &h.input);
+        held.lines(&expected, &said, |line| format!("calls: seed {} history {number} {}", options.seed, h.origin(line)));
         if number == 0 {
             held.notices(&expected, &said);
         }
     }
-    for what in session::wanted() {
+    for what in history::wanted() {
         held.hold(seen.contains_key(&what), || format!("calls: seed {}: not met: {what}", options.seed));
     }
-    println!("calls: {} sessions, {batches} batches, {calls} calls", SESSIONS * options.times);
+    println!("calls: {} histories, {batches} batches, {calls} calls", HISTORIES * options.times);
 }
 
 // ---- document 01's cases, with the lines written out
@@ -56,19 +56,19 @@ fn numbered(letter: u8, numbers: impl IntoIterator<Item = u32>) -> Ask {
     Ask::Take(feed::batch(&messages))
 }
 
-fn cases() -> Vec<(&'static str, Vec<Ask>, Vec<String>)> {
+type Case = (&'static str, Vec<Ask>, Vec<String>);
+
+fn lines(all: &[&str]) -> Vec<String> {
+    all.iter().map(|line| line.to_string()).collect()
+}
+
+// P5 to P10.
+fn batch_cases() -> Vec<Case> {
     let start = || Ask::Start(vec![1]);
-    let gaps = || Ask::Gaps { letter: b'D', cells: 128 };
     let exchanged = [&HEARTBEAT[..1], &[0, 1, 0, 11], &HEARTBEAT[5..]].concat();
     let record = || Ask::Record { letter: b'D', level: 1, key: CASE_KEY };
-    let evens = |from: u32| (from..=128).step_by(2).map(|n| format!(" {n}-{n}")).collect::<String>();
     let read = |buy: &str| format!("record ok 1 78 {buy} - - - - - 32 - - - - - -");
-    let mut values = vec![NONE; 14];
-    (values[0], values[7]) = (78, 32);
-    let mut most = values.clone();
-    most[1] = PRICE.largest;
-    let written = |values: Vec<u64>| Ask::Write { code: *b"DN", level: 1, number: 1, key: CASE_KEY, room: 249, values };
-    let lines = |all: &[&str]| all.iter().map(|l| l.to_string()).collect::<Vec<String>>();
+    let (too_large, malformed) = ("take refused 12 0 6 0", "take refused 11 0 6 0");
     vec![
         ("P5, P6", vec![start(), Ask::Take(HEARTBEAT.to_vec()), Ask::Take(exchanged)], lines(&["start ok", "take ok 0 0 1", "take refused 1 0 0 0"])),
         ("P7", vec![start(), price_case("100.25"), record()], lines(&["start ok", "take ok 1 0 0", &read("1002500000")])),
@@ -76,27 +76,39 @@ fn cases() -> Vec<(&'static str, Vec<Ask>, Vec<String>)> {
         (
             "P9, P10",
             vec![start(), price_case("100000000000"), price_case("1.00000000"), price_case("100."), price_case("-1"), record()],
-            lines(&["start ok", "take refused 12 0 6 0", "take refused 12 0 6 0", "take refused 11 0 6 0", "take refused 11 0 6 0", "record none"]),
+            lines(&["start ok", too_large, too_large, malformed, malformed, "record none"]),
         ),
+    ]
+}
+
+// P11 to P14.
+fn gap_cases() -> Vec<Case> {
+    let start = || Ask::Start(vec![1]);
+    let gaps = || Ask::Gaps { letter: b'D', cells: 128 };
+    let take = |numbers: &[u32]| numbered(b'D', numbers.iter().copied());
+    let odd = |to: u32| (1..=to).step_by(2).map(|n| format!(" {n}-{n}")).collect::<String>();
+    let mut values = vec![NONE; 14];
+    (values[0], values[1], values[7]) = (b'N' as u64, PRICE.largest, b' ' as u64);
+    vec![
         (
             "P11, P12",
-            vec![start(), numbered(b'D', [1, 2, 5, 9, 4]), gaps(), numbered(b'D', [7]), gaps(), Ask::Off { letter: b'D' }, numbered(b'D', [3]), gaps()],
+            vec![start(), take(&[1, 2, 5, 9, 4]), gaps(), take(&[7]), gaps(), Ask::Off { letter: b'D' }, take(&[3]), gaps()],
             lines(&["start ok", "take ok 5 0 0", "gaps ok 9 2 3-3 6-8", "take ok 1 0 0", "gaps ok 9 3 3-3 6-6 8-8", "off ok 3 3", "take ok 0 1 0", "gaps ok 9 2 6-6 8-8"]),
         ),
         (
             "P13",
-            vec![start(), numbered(b'D', (2..=128).step_by(2)), gaps(), numbered(b'D', [130]), numbered(b'D', [129]), numbered(b'D', [127]), gaps()],
-            vec![
-                "start ok".into(),
-                "take ok 64 0 0".into(),
-                format!("gaps ok 128 64{}", evens(1)),
-                "take refused 14 0 0 0".into(),
-                "take ok 1 0 0".into(),
-                "take ok 1 0 0".into(),
-                format!("gaps ok 129 63{}", evens(1).trim_end_matches(" 127-127")),
-            ],
+            vec![start(), numbered(b'D', (2..=128).step_by(2)), gaps(), take(&[130]), take(&[129]), take(&[127]), gaps()],
+            lines(&[
+                "start ok",
+                "take ok 64 0 0",
+                &format!("gaps ok 128 64{}", odd(127)),
+                "take refused 14 0 0 0",
+                "take ok 1 0 0",
+                "take ok 1 0 0",
+                &format!("gaps ok 129 63{}", odd(125)),
+            ]),
         ),
-        ("P14", vec![written(most)], lines(&["write refused 12 0 6 0"])),
+        ("P14", vec![Ask::Write { code: *b"DN", level: 1, number: 1, key: CASE_KEY, room: 249, values }], lines(&["write refused 12 0 6 0"])),
     ]
 }
 
@@ -123,7 +135,7 @@ fn reference_cases(held: &mut Held) {
 fn paper(options: &Options, held: &mut Held) {
     reference_cases(held);
     let list = Book { segments: vec![(b'D', vec![CASE_KEY])] }.bytes();
-    for (name, asked, lines) in cases() {
+    for (name, asked, lines) in batch_cases().into_iter().chain(gap_cases()) {
         let mut bench = Bench::new(Some(&list));
         let by_reference: Vec<String> = asked.iter().filter_map(|ask| bench.answer(ask)).collect();
         held.hold(by_reference == lines, || format!("reference: {name}: {by_reference:?}"));
@@ -200,7 +212,7 @@ fn main() {
     let mut held = Held { passed: 0, failed: 0 };
     paper(&options, &mut held);
     files(&options, &mut held);
-    sessions(&options, &mut held);
+    histories(&options, &mut held);
     writes(&options, &mut held);
     held.end();
 }

@@ -131,9 +131,9 @@ fn digits(r: &mut Random, number: u64) -> String {
 
 // A text that denotes an amount in range, not always the shortest one.
 pub fn a_text(r: &mut Random, kind: Kind, width: usize) -> Vec<u8> {
-    let edges: &[&str] = match (kind == PRICE, kind == QUANTITY) {
-        (true, _) => &["99999999999.99999", "0", "0.0000001", "0000000.0000001", "99999999999", "123456789.1234567", "00000099999999999"],
-        (_, true) => &["999999999999", "0", "000000000001", "1"],
+    let edges: &[&str] = match kind {
+        PRICE => &["99999999999.99999", "0", "0.0000001", "0000000.0000001", "99999999999", "123456789.1234567", "00000099999999999"],
+        QUANTITY => &["999999999999", "0", "000000000001", "1"],
         _ => &["9999999999999999.99", "0", "0.01", "0000009999999999999999.99", "0.00", "9999999999999999", "0000000000000000000000.10"],
     };
     let mut text = match r.below(12) {
@@ -158,15 +158,29 @@ pub fn a_text(r: &mut Random, kind: Kind, width: usize) -> Vec<u8> {
     format!("{text:>width$}").into_bytes()
 }
 
+// No number of any kind.
+const SHAPES: [&str; 19] =
+    ["100.", ".5", "-1", "+1", "1 2", "1. 5", "1 .5", "1..5", "1.5.5", "1,5", ".", "1e5", "x", "\u{0}", "5\u{0}", "\u{b}1", "1\u{9}", "/", ":"];
+
+// Too large or too fine for the kind, and some of these malformed besides.
+const PRICES: [&str; 10] = [
+    "100000000000", "1.00000000", "0.00000000", "99999999999999999", "100000000000.0", "00000000.00000000", "100000000000.0x", "1.00000000x",
+    "1.00000000 1", "1.00000000.",
+];
+const QUANTITIES: [&str; 4] = ["1.0", "1.", "0.5", "12345678901."];
+const TURNOVERS: [&str; 9] = [
+    "10000000000000000", "1.000", "0.001", "9999999999999999999999999", "10000000000000000.00", "18446744073709551616", "184467440737095516.16",
+    "1.000x", "1.000 1",
+];
+
 // A text that is no number of its kind, or none in its range.
 pub fn a_wrong_text(r: &mut Random, kind: Kind, width: usize) -> Vec<u8> {
-    let texts: &[&str] = match (kind == PRICE, kind == QUANTITY) {
-        (true, _) => &["100000000000", "1.00000000", "0.00000000", "99999999999999999", "100000000000.0", "00000000.00000000", "100000000000.0x", "1.00000000x", "1.00000000 1", "1.00000000."],
-        (_, true) => &["1.0", "1.", "0.5", "12345678901."],
-        _ => &["10000000000000000", "1.000", "0.001", "9999999999999999999999999", "10000000000000000.00", "18446744073709551616", "184467440737095516.16", "1.000x", "1.000 1"],
+    let of_kind: &[&str] = match kind {
+        PRICE => &PRICES,
+        QUANTITY => &QUANTITIES,
+        _ => &TURNOVERS,
     };
-    let shapes = ["100.", ".5", "-1", "+1", "1 2", "1. 5", "1 .5", "1..5", "1.5.5", "1,5", ".", "1e5", "x", "\u{0}", "5\u{0}", "\u{b}1", "1\u{9}", "/", ":"];
-    let text = if r.one_in(2) { r.pick(texts) } else { r.pick(&shapes) };
+    let text = if r.one_in(2) { r.pick(of_kind) } else { r.pick(&SHAPES) };
     let mut text = format!("{text:>width$}").into_bytes();
     let spaces = text.iter().take_while(|&&b| b == b' ').count();
     if r.one_in(3) {
@@ -342,9 +356,7 @@ pub fn damage(r: &mut Random, rule: u8, book: &Book, letter: u8, number: u32, me
         }
         11 | 12 => {
             let level = as_update(r, book, letter, number, message);
-            for _ in 0..1 + r.below(3) {
-                damage_row(r, level, message);
-            }
+            (0..1 + r.below(3)).for_each(|_| damage_row(r, level, message));
             reseal(r, message);
         }
         _ => {

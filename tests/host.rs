@@ -1,18 +1,18 @@
-// The library that hosts link, called directly: the answers of `calls`' sessions, and besides them every lent cell.
+// The library that hosts link, called directly: the answers of `calls`' histories, and besides them every lent cell.
 //   host [--seed N] [--times N]
 mod asks;
 mod feed;
+mod history;
 mod library;
 mod program;
 mod random;
 mod reference;
-mod session;
 
 use asks::{Ask, Bench};
+use history::{History, Seen};
 use library::{Answer, Values};
 use program::{Held, Options};
 use reference::{GAP_ROW, LEVEL1_CELLS, NONE, RECORD};
-use session::{Seen, Session};
 
 const UNTOUCHED: u64 = 0x5AFE_5AFE_5AFE_5AFE;
 
@@ -61,6 +61,17 @@ impl Linked {
         line("record", told, |_| if record { format!("ok{}", values[..used].iter().map(text).collect::<String>()) } else { "none".into() })
     }
 
+    // The writer looks neither at the first value nor at those past its level's.
+    fn write(&mut self, level: usize, code: [u8; 2], number: u32, key: &feed::Key, values: &[u64], lent: usize) -> String {
+        let mut all: Values = [UNTOUCHED; 33];
+        all[1..=values.len()].copy_from_slice(values);
+        let mut out = vec![UNTOUCHED as u8; lent + 1];
+        let told = library::write(level, code, number, key, &all, &mut out[..lent]);
+        let written = if told.0 == 0 { told.1[0] as usize } else { 0 };
+        self.mind(out[written..].iter().all(|&b| b == UNTOUCHED as u8), "bytes past the message");
+        line("write", told, |_| format!("ok {written} {}", asks::hex(&out[..written])))
+    }
+
     fn call(&mut self, ask: &Ask) -> Option<String> {
         let Bench { list, rows, records, lent_rows, lent_records } = &mut self.bench;
         let (rows, records) = (&mut rows[..*lent_rows], &mut records[..*lent_records]);
@@ -72,7 +83,8 @@ impl Linked {
             Ask::Off { letter } => line("off", library::write_off(list, rows, records, *letter), |answer| format!("ok {} {}", answer[0], answer[1])),
             Ask::Gaps { letter, cells } => self.list_gaps(*letter, *cells as usize),
             Ask::Record { letter, level, key } => self.read(*letter, *level, key),
-            Ask::Write { .. } | Ask::Lend { .. } | Ask::List(_) | Ask::Poke { .. } => return None,
+            Ask::Write { code, level, number, key, room, values } => self.write(*level, *code, *number, key, values, *room as usize),
+            Ask::Lend { .. } | Ask::List(_) | Ask::Poke { .. } => return None,
         })
     }
 
@@ -105,18 +117,18 @@ impl Linked {
     }
 }
 
-const SESSIONS: u64 = 40;
+const HISTORIES: u64 = 40;
 
 fn main() {
     let options = Options::read();
     let mut held = Held { passed: 0, failed: 0 };
     let mut seen = Seen::new();
     let mut calls = 0;
-    for number in 0..SESSIONS * options.times {
-        let s = Session::held(options.seed.wrapping_add(1_000), number, &mut seen);
-        let mut by_reference = Bench::new(s.contracts.as_deref());
+    for number in 0..HISTORIES * options.times {
+        let h = History::held(options.seed.wrapping_add(1_000), number, &mut seen);
+        let mut by_reference = Bench::new(h.contracts.as_deref());
         let mut linked = Linked { bench: by_reference.clone(), trespass: vec![] };
-        for (command, ask) in s.asked.iter().enumerate() {
+        for (command, ask) in h.asked.iter().enumerate() {
             let before = by_reference.clone();
             let right = by_reference.answer(ask);
             let got = linked.answer(ask, &before, &by_reference);
@@ -124,12 +136,12 @@ fn main() {
             if got.is_some() || !trespass.is_empty() {
                 calls += 1;
                 held.hold(got == right && trespass.is_empty(), || {
-                    let at = format!("host: seed {} session {number} command {command} {:02x?}", options.seed, ask.bytes());
+                    let at = format!("host: seed {} history {number} command {command} {:02x?}", options.seed, ask.bytes());
                     format!("{at}: expected\n  {right:?}\ngot\n  {got:?} {trespass:?}")
                 });
             }
         }
     }
-    println!("host: {} sessions, {calls} calls", SESSIONS * options.times);
+    println!("host: {} histories, {calls} calls", HISTORIES * options.times);
     held.end();
 }

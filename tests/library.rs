@@ -21,6 +21,10 @@ extern "C" {
         records: *const u64, records_length: usize, letter: u8, key: *const [u8; 39], values: *mut Values, answer: *mut Answer) -> u32;
     fn quotebox_read_level2(list: *const u8, list_length: usize, rows: *const u32, rows_length: usize,
         records: *const u64, records_length: usize, letter: u8, key: *const [u8; 39], values: *mut Values, answer: *mut Answer) -> u32;
+    fn quotebox_write_level1(code: *const [u8; 2], number: u32, key: *const [u8; 39], values: *const Values,
+        out: *mut u8, out_length: usize, answer: *mut Answer) -> u32;
+    fn quotebox_write_level2(code: *const [u8; 2], number: u32, key: *const [u8; 39], values: *const Values,
+        out: *mut u8, out_length: usize, answer: *mut Answer) -> u32;
 }
 
 fn told(call: impl FnOnce(*mut Answer) -> u32) -> (u32, Answer) {
@@ -62,4 +66,9 @@ pub fn write_off(list: &[u8], rows: &mut [u32], records: &[u64], letter: u8) -> 
 pub fn read(level: usize, list: &[u8], rows: &[u32], records: &[u64], letter: u8, key: &[u8; 39], values: &mut Values) -> (u32, Answer) {
     let read = if level == 1 { quotebox_read_level1 } else { quotebox_read_level2 };
     told(|answer| unsafe { read(list.as_ptr(), list.len(), rows.as_ptr(), rows.len(), records.as_ptr(), records.len(), letter, key, values, answer) })
+}
+
+pub fn write(level: usize, code: [u8; 2], number: u32, key: &[u8; 39], values: &Values, out: &mut [u8]) -> (u32, Answer) {
+    let write = if level == 1 { quotebox_write_level1 } else { quotebox_write_level2 };
+    told(|answer| unsafe { write(&code, number, key, values, out.as_mut_ptr(), out.len(), answer) })
 }

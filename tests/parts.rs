@@ -1,18 +1,16 @@
 // The parts of the box as compiled, held against an implementation written from the papers: checksums, numbers in text, the
 // contract list, gap rows, the rows of an update.
-//   parts PROGRAM... [--seed N] [--times N]
+//   parts PROGRAM... [--seed N] [--times N] [--keep FOLDER]
 // PROGRAM is run once; it answers a line for each thing that it is asked (crate `parts`).
 mod feed;
+mod program;
 mod random;
 mod reference;
 
+use program::{Contracts, Held, Options};
 use random::Random;
 use reference::{layout, Kind, KEY, MARKET_TYPE_ROW, MOST_CELLS, NONE, PRICE, QUANTITY, TURNOVER};
 use std::collections::BTreeSet;
-use std::env;
-use std::fs::File;
-use std::io::Write;
-use std::process::{Command, Stdio};
 
 #[derive(Clone, Copy)]
 struct Named {
@@ -212,6 +210,18 @@ impl Gaps {
     }
 }
 
+// Mostly what comes next, sometimes after a hole, an old number or a missing one.
+fn a_number(r: &mut Random, gaps: &Gaps, wide: u64) -> u64 {
+    let near = gaps.highest + 1 + r.below(wide);
+    let n = match r.below(8) {
+        0..=4 => near,
+        5 => gaps.highest.saturating_sub(r.below(60)),
+        6 => gaps.missing.iter().nth(r.below(gaps.missing.len() as u64 + 1) as usize).copied().unwrap_or(near),
+        _ => gaps.highest + 1,
+    };
+    n.clamp(1, 4_294_967_295)
+}
+
 fn sequences(asked: &mut Asked, r: &mut Random, count: usize) {
     for i in 0..count {
         let start = match i % 4 {
@@ -224,25 +234,15 @@ fn sequences(asked: &mut Asked, r: &mut Random, count: usize) {
         asked.ask(b'S', &(start as u32).to_be_bytes(), "started".into(), "starts");
         let wide = r.pick(&[2, 3, 5, 20]);
         for _ in 0..60 + r.below(200) {
-            let near = gaps.highest + 1 + r.below(wide);
-            let back = gaps.highest.saturating_sub(r.below(60));
-            let n = match r.below(8) {
-                0..=4 => near,
-                5 => back,
-                6 => gaps.missing.iter().nth(r.below(gaps.missing.len() as u64 + 1) as usize).copied().unwrap_or(near),
-                _ => gaps.highest + 1,
-            };
-            let n = n.clamp(1, 4_294_967_295);
+            let n = a_number(r, &gaps, wide);
             let line = gaps.take(n).to_string();
             asked.ask(b'N', &(n as u32).to_be_bytes(), line, "numbers in turn");
             if r.one_in(25) {
                 let line = match gaps.runs().first().copied() {
                     None => "no gap".into(),
-                    Some((a, b)) => {
-                        for k in a..=b {
-                            gaps.missing.remove(&k);
-                        }
-                        format!("off {a} {b}")
+                    Some((first, last)) => {
+                        gaps.missing.retain(|k| *k > last);
+                        format!("off {first} {last}")
                     }
                 };
                 asked.ask(b'O', &[], line, "write-offs");
@@ -333,43 +333,12 @@ fn all_asked(seed: u64, times: usize) -> Asked {
 }
 
 fn main() {
-    let mut program = vec![];
-    let mut seed = 1;
-    let mut times = 1;
-    let mut args = env::args().skip(1);
-    while let Some(a) = args.next() {
-        match a.as_str() {
-            "--seed" => seed = args.next().unwrap().parse().unwrap(),
-            "--times" => times = args.next().unwrap().parse().unwrap(),
-            _ => program.push(a),
-        }
-    }
-    let asked = all_asked(seed, times);
-    let path = env::temp_dir().join(format!("parts-{}", std::process::id()));
-    File::create(&path).unwrap().write_all(&asked.asks).unwrap();
-    let ran = Command::new(&program[0])
-        .args(&program[1..])
-        .stdin(Stdio::from(File::open(&path).unwrap()))
-        .output()
-        .expect("the program runs");
-    std::fs::remove_file(&path).unwrap();
-    let said = String::from_utf8_lossy(&ran.stdout).into_owned();
-    let said: Vec<&str> = said.lines().collect();
-    let (mut passed, mut failed) = (0, 0);
-    for (i, line) in asked.lines.iter().enumerate() {
-        if said.get(i) == Some(&line.as_str()) {
-            passed += 1;
-        } else {
-            failed += 1;
-            if failed <= 5 {
-                println!("parts: {} {i}: expected '{line}', the program says {:?}", asked.checks[i], said.get(i));
-            }
-        }
-    }
-    if said.last() != Some(&"end") || said.len() != asked.lines.len() + 1 {
-        println!("parts: the program ended otherwise: {} lines", said.len());
-        failed += 1;
-    }
-    println!("{passed} passed, {failed} failed");
-    std::process::exit((failed > 0) as i32);
+    let options = Options::read();
+    let mut held = Held { passed: 0, failed: 0 };
+    let mut asked = all_asked(options.seed, options.times as usize);
+    let said = options.run(Contracts::Missing, &asked.asks);
+    asked.lines.push("end".into());
+    asked.checks.push("end");
+    held.lines(&asked.lines, &said, |line| format!("parts: seed {} {} {line}", options.seed, asked.checks.get(line).unwrap_or(&"past the end")));
+    held.end();
 }

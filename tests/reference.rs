@@ -97,7 +97,7 @@ pub fn sum_by_sixteens(text: &[u8]) -> [u8; 2] {
 
 // ---- numbers in text
 
-#[derive(Clone, Copy, PartialEq)]
+#[derive(Clone, Copy, PartialEq, Eq)]
 pub struct Kind {
     pub places: usize,
     pub largest: u64,

@@ -4,6 +4,7 @@ ghost use lib.ListN.{length};
 use crate::keep::least;
 use crate::lines;
 use crate::record;
+use crate::write;
 use console::put;
 use console::put_with;
 use quotebox::Judged;
@@ -11,10 +12,12 @@ use quotebox::Listed;
 use quotebox::Started;
 use quotebox::WrittenOff;
 
-// Room for as many start numbers as a command can have, and for the runs of a segment, two cells each.
+// Room for as many start numbers as a command can have, for the runs of a segment, two cells each, and for a message.
 const MOST_STARTS: usize = 255;
 
 const RUN_CELLS: usize = 128;
+
+const WRITE_ROOM: usize = 1024;
 
 fn read_starts(bytes: &[u8], starts: &mut [u32])
     requires { ⌜ length (now starts) ≤ 255 ⌝ }
@@ -171,6 +174,7 @@ pub fn answer(
         b'G' => gaps(bytes, list, rows, records, &mut [0; RUN_CELLS], page, used),
         b'O' => off(bytes, list, rows, records, page, used),
         b'R' => record::record(bytes, list, rows, records, page, used),
+        b'W' => write::write(bytes, &mut [0; WRITE_ROOM], page, used),
         _ => used,
     }
 }

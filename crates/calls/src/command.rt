@@ -10,7 +10,7 @@ const MOST_BATCH: usize = 40000;
 // The bytes of a command's byte and a length behind it, and of a command to write up to its rows.
 const LENGTH_FRONT: usize = 5;
 
-const WRITE_FRONT: usize = 49;
+pub const WRITE_FRONT: usize = 49;
 
 // Where the next command stands, and its bytes: 0 where the reading ends.
 pub struct Command {

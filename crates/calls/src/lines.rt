@@ -107,3 +107,37 @@ pub fn put_record(page: &mut [u8], used: usize, number: u64, cells: &[u64], rows
     let used = put_rows(page, used, cells, rows);
     put(page, used, b"\n")
 }
+
+// Two digits, the high one first.
+fn put_hex(page: &mut [u8], used: usize, byte: u8) -> usize
+    requires { ⌜ used ≤ length (now page) ⌝ }
+    ensures { λ r. ⌜ r ≤ length (now (page .entry)) ⌝ }
+{
+    let mut digits = [0u8; 16];
+    let count = io::hex(byte as u64, 2, &mut digits);
+    put(page, used, &digits[..count])
+}
+
+fn put_bytes(page: &mut [u8], used: usize, bytes: &[u8]) -> usize
+    requires { ⌜ used ≤ length (now page) ⌝ }
+    ensures { λ r. ⌜ r ≤ length (now (page .entry)) ⌝ }
+{
+    let mut more = used;
+    let mut i = 0;
+    while i < bytes.len() {
+        more = put_hex(page, more, bytes[i]);
+        i += 1;
+    }
+    more
+}
+
+// `write ok`, the length and the message.
+pub fn put_written(page: &mut [u8], used: usize, message: &[u8]) -> usize
+    requires { ⌜ used ≤ length (now page) ⌝ }
+    ensures { λ r. ⌜ r ≤ length (now (page .entry)) ⌝ }
+{
+    let used = put_with(page, used, b"write ok ", message.len() as u64);
+    let used = put(page, used, b" ");
+    let used = put_bytes(page, used, message);
+    put(page, used, b"\n")
+}

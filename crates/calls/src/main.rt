@@ -4,6 +4,7 @@ mod command;
 mod keep;
 mod lines;
 mod record;
+mod write;
 
 ghost use Prim.Native.Nat.{_≤_};
 ghost use lib.ListN.{length};

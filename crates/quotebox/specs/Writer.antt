@@ -70,9 +70,11 @@ rowsRules (verdict.Range row) = record { holds = false; refusal = Range 0 row } 
 abbrev pub roomRules : ℕ → ℕ → List Rule
 roomRules wanted room = record { holds = leb wanted room; refusal = Memory wanted } ∷ []
 
+-- 01 "The message": the length of a message, which the writer answers
 unfoldable pub lengthWritten : Code → Level → ℕ
 lengthWritten code level = messageLength (rowsWritten (kindOf (code .1)) level)
 
+-- "Writer: code not in the table (6), 10, then 11 and 12 by row, then 15"
 unfoldable pub writeRules : Code → Level → ℕ → List ℕ → Quote → ℕ → List Rule
 writeRules code level number key quote room =
     codeRules code number ++ rowsRules (dataWritten (kindOf (code .1)) level key quote .verdict) ++ roomRules (lengthWritten code level) room

@@ -10,6 +10,7 @@ use lib.ListN.{length}
 use Rattle.contracts.specs.File.{letterAt, keyOf}
 use Rattle.contracts.specs.Lookup.{segmentOf}
 use Rattle.contracts.specs.Records as contracts
+use Rattle.layout.specs.declared.quote.Quote.{Quote}
 use Rattle.layout.specs.declared.rows.Level.{Level}
 use Rattle.quotebox.specs.declared.refusal.Refusal.{Refusal}
 use Rattle.quotebox.specs.declared.refusal.Refusal.the-variants.{Gaps, Memory}
@@ -18,8 +19,11 @@ use Rattle.quotebox.specs.declared.answers.Judged.{Judged}
 use Rattle.quotebox.specs.declared.answers.Listed.{Listed}
 use Rattle.quotebox.specs.declared.answers.WrittenOff.{WrittenOff}
 use Rattle.quotebox.specs.declared.answers.Reading.{Reading}
+use Rattle.quotebox.specs.declared.answers.Written.{Written}
+use Rattle.quotebox.specs.declared.writing.Code.{Code}
 use Rattle.quotebox.specs.Promises.{JudgedBatch, TookBatch}
 use Rattle.quotebox.specs.CallPromises.{StartedBox, ListedRuns, WroteOffRun, ReadRecord}
+use Rattle.quotebox.specs.WriterPromises.{WroteMessage}
 use Rattle.quotebox.specs.Start.{startOf}
 use Rattle.quotebox.specs.GoodState.{GoodState}
 use Rattle.history.specs.Past.{Event, wroteOffIn, takenOf, isNew, highestIn, missingIn, runsStanding}
@@ -71,6 +75,8 @@ pub record RefusalsKeep (list rows records : List ℕ) : Type 0 where
       → ListedRuns list rows records letter cells (Listed.Refused refusal) cells′ → cells′ ≡ cells
   pub write-off-keeps : (letter : ℕ) (refusal : Refusal) (rows′ : List ℕ)
       → WroteOffRun list rows records letter (WrittenOff.Refused refusal) rows′ → rows′ ≡ rows
+  pub write-keeps : (code : Code) (level : Level) (number : ℕ) (key : List ℕ) (quote : Quote) (out : List ℕ) (refusal : Refusal) (out′ : List ℕ)
+      → WroteMessage code level number key quote out (Written.Refused refusal) out′ → out′ ≡ out
 
 -- an accepted call leaves gap rows and records that pass 16, 15 and 18, whatever was handed to it
 pub record AcceptedLeave (list rows records : List ℕ) : Type 0 where

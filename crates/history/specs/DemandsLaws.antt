@@ -18,6 +18,7 @@ use Rattle.quotebox.specs.OrderLaws.{refused-exact}
 use Rattle.quotebox.specs.Promises.{JudgedBatch, TookBatch}
 use Rattle.quotebox.specs.Start.{startOf}
 use Rattle.quotebox.specs.TookLaws.{judged-refused, refused-keeps, state-good}
+use Rattle.quotebox.specs.WriterPromisesLaws.{write-refusal}
 use Rattle.history.specs.Past.{Event, wroteOffIn, takenOf}
 use Rattle.history.specs.SegmentLaws.{takes-new}
 use Rattle.history.specs.Histories.{Reached}
@@ -85,6 +86,7 @@ refusals-keep list rows records =
       take-keeps = refused-keeps list rows records;
       list-keeps = λ letter cells refusal cells′ p. list-refusal refusal p .1;
       write-off-keeps = λ letter refusal rows′ p. off-refusal refusal p .1;
+      write-keeps = λ code level number key quote out refusal out′ p. write-refusal code level number key quote out refusal p .1;
     }
 
 -- an accepted call leaves a state that passes

@@ -1,7 +1,7 @@
 -- Every call keeps what holds, and so it holds after every history.
 use Prim.Native.Nat.{ℕ, _+_, _*_, _≤_, _<_}
 use mathlib.Core.Path.{_≡_, refl, sym, ap, fun-ext, _∙_}
-use mathlib.Core.Bool.{true, _||_, true≢false}
+use mathlib.Core.Bool.{true, _||_}
 use mathlib.Core.List.{List, [], _∷_}
 use mathlib.Core.Option.{Option, none, some}
 use mathlib.Core.Logic.{⊎-elim}
@@ -21,7 +21,6 @@ use Rattle.sequence.specs.Gaps.{lowest, writtenOff, writeOffAnswer}
 use Rattle.sequence.specs.Row.{gapsOf}
 use Rattle.sequence.specs.RowLaws.{sound-row-exactly}
 use Rattle.message.specs.declared.body.Message.{Message}
-use Rattle.message.specs.Head.{isSome}
 use Rattle.quotebox.specs.declared.refusal.Refusal.the-variants.{NoGap}
 use Rattle.quotebox.specs.declared.answers.Started.{Started}
 use Rattle.quotebox.specs.declared.answers.Judged.{Judged}
@@ -38,6 +37,7 @@ use Rattle.quotebox.specs.Calls.{gapsOfLetter, writeOffRules, runValues, lowest
 use Rattle.quotebox.specs.GoodState.{GoodState}
 use Rattle.quotebox.specs.Memory.{rowCells, rowOf, withRow}
 use Rattle.quotebox.specs.Promises.{TookBatch}
+use Rattle.quotebox.specs.RecordLaws.{is-some}
 use Rattle.quotebox.specs.RowsLaws.{row-put, row-kept}
 use Rattle.quotebox.specs.ScratchLaws.{none-accepted}
 use Rattle.quotebox.specs.Start.{startOf}
@@ -49,7 +49,7 @@ use Rattle.history.specs.Segment.{Fits}
 use Rattle.history.specs.SegmentLaws.{fits-begun, fits-off}
 use Rattle.history.specs.Turn.{BoxFits, Turned}
 use Rattle.history.specs.TurnLaws.{one-segment, messages-turn}
-use Rattle.history.specs.Histories.{Reached, begun as begins, refusedStart, judge, take, listGaps, writeOff, readRecord}
+use Rattle.history.specs.Histories.{Reached, begun as begins, refusedStart, judge, take, listGaps, writeOff, readRecord, writeMessage}
 use Rattle.history.specs.Holds.{Holds}
 
 -- ---- a start
@@ -75,10 +75,6 @@ taken-others letter l start n (m ∷ ms) past = taken-others letter l start n ms
 off-same : (letter l : ℕ) (ms : List Message) (past : List Event) → wroteOffIn letter (allCame l ms past) ≡ wroteOffIn letter past
 off-same letter l [] past = refl
 off-same letter l (m ∷ ms) past = off-same letter l ms (came l m ∷ past)
-
-is-some : (o : Option ℕ) → isSome o ≡ true → (i : ℕ) × (o ≡ some i)
-is-some none e = absurd (true≢false (sym e))
-is-some (some i) e = (i, refl)
 
 -- two letters have two segments
 segments-differ : (list : List ℕ) (letter l i j : ℕ) → segmentOf list letter ≡ some i → segmentOf list l ≡ some j → (l ≡ letter → ⊥) → j ≡ i → ⊥
@@ -228,3 +224,4 @@ reached-holds (take r batch answer p) = take-holds (reached-holds r) batch answe
 reached-holds (listGaps r letter cells answer cells′ p) = reached-holds r
 reached-holds (writeOff r letter answer p) = off-holds (reached-holds r) letter answer p
 reached-holds (readRecord r letter key level reading p) = reached-holds r
+reached-holds (writeMessage r code level number key quote out answer out′ p) = reached-holds r

@@ -1,5 +1,6 @@
 pub mod AgreeLaws
-pub mod Cases
+pub mod Calls
+pub mod CallsLaws
 pub mod Demands
 pub mod DemandsLaws
 pub mod Exactly
@@ -12,6 +13,7 @@ pub mod Kept
 pub mod KeptLaws
 pub mod ListingLaws
 pub mod NewestLaws
+pub mod PaperCases
 pub mod Past
 pub mod ReadBack
 pub mod ReadBackLaws

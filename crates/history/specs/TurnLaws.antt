@@ -11,7 +11,7 @@ use lib.Dec.{ltb, eqb}
 use lib.ListN.{length, getD, drop}
 use lib.Seq.{sets, length-sets}
 use Rattle.laws.specs.Choice.{either}
-use Rattle.laws.specs.Order.{order, same}
+use Rattle.laws.specs.Order.{same}
 use Rattle.laws.specs.Tests.{and-false}
 use Rattle.contracts.specs.File.{letterAt, countAt, contractsBefore}
 use Rattle.contracts.specs.Lookup.{segmentOf}
@@ -37,8 +37,9 @@ use Rattle.message.specs.MessageLaws.{key-in}
 use Rattle.message.specs.Numbers.{verdictOf, numberIn}
 use Rattle.quotebox.specs.ActsLaws.{acts-as}
 use Rattle.quotebox.specs.Batch.{Box, Acted, acted, refused, stored, contractIn, contractAt, recordOf, numberActs, messageActs, messagesAct}
+use Rattle.quotebox.specs.LeftLaws.{last-box}
 use Rattle.quotebox.specs.Memory.{recordAt, recordsWanted}
-use Rattle.quotebox.specs.MessagesLaws.{not-both, messages-next, messages-refused, messages-end, messages-over}
+use Rattle.quotebox.specs.MessagesLaws.{not-both, messages-next, messages-refused}
 use Rattle.quotebox.specs.Record.{recordRows}
 use Rattle.quotebox.specs.RecordLaws.{record-inside}
 use Rattle.quotebox.specs.Start.{startOf}
@@ -228,17 +229,23 @@ module _ (list starts : List ℕ) (letter i : ℕ) (listed : segmentOf list lett
   abbrev g : Gaps
   g = gapsOf (box .row)
 
+  -- where a message is not taken the box stays, its counts apart
+  stays : (m : Message) → comesNew begin earlier (wroteOffIn letter past) m ≡ false → (taken old heartbeats : ℕ)
+      → BoxFits list starts letter i (came letter m ∷ past) (record { row = box .row; records = box .records; taken = taken; old = old; heartbeats = heartbeats })
+  stays m none-new taken old heartbeats =
+      record {
+        row-sound = f .row-sound;
+        gaps-fit = rw (taken-here letter begin m past, none-new) (f .gaps-fit);
+        records-fit = records-kept list starts (box .records) letter i listed past m (f .records-fit) none-new;
+        records-long = f .records-long;
+      }
+
   -- a heartbeat
   beat-turns : (m : Message) → m .what ≡ what.Heartbeat → Turned list starts letter i past box (m ∷ []) (beatBox box)
   beat-turns m e =
       let none-new : comesNew begin earlier (wroteOffIn letter past) m ≡ false = simp e in
       record {
-        fits = record {
-          row-sound = f .row-sound;
-          gaps-fit = rw (taken-here letter begin m past, none-new) (f .gaps-fit);
-          records-fit = records-kept list starts (box .records) letter i listed past m (f .records-fit) none-new;
-          records-long = f .records-long;
-        };
+        fits = stays m none-new _ _ _;
         taken-are = simp e (omega arith);
         old-are = simp e (omega arith);
         heartbeats-are = simp e (omega arith);
@@ -274,12 +281,7 @@ module _ (list starts : List ℕ) (letter i : ℕ) (listed : segmentOf list lett
     old-turns t =
         let not-new : comesNew begin earlier (wroteOffIn letter past) m ≡ false = sym new-is ∙ t in
         record {
-          fits = record {
-            row-sound = f .row-sound;
-            gaps-fit = rw (taken-here letter begin m past, not-new) (f .gaps-fit);
-            records-fit = records-kept list starts (box .records) letter i listed past m (f .records-fit) not-new;
-            records-long = f .records-long;
-          };
+          fits = stays m not-new _ _ _;
           taken-are = rw not-new (omega arith);
           old-are = rw (not-new, numbered) (omega arith);
           heartbeats-are = rw (no-beat (m .what) numbered) (omega arith);
@@ -333,12 +335,6 @@ module _ (list starts : List ℕ) (letter i : ℕ) (listed : segmentOf list lett
         go (what.Update number level place) e = update-turns number level place e
 
 -- ---- messages in turn
-
-last-box : (list : List ℕ) (letter k : ℕ) (box : Box) (bytes : List ℕ) (final : Box) → messagesAct 0 list letter k box bytes ≡ acted final → box ≡ final
-last-box list letter k box bytes final e =
-    ⊎-elim (λ (h : length bytes ≤ 0). sym (same-box (sym (messages-end list letter k box bytes (omega arith)) ∙ e)))
-    (λ (h : 0 < length bytes). absurd (not-both (sym (messages-over list letter k box bytes h) ∙ e)))
-    (order (length bytes) 0)
 
 module _ (list starts : List ℕ) (letter i : ℕ) (listed : segmentOf list letter ≡ some i) where
   none-turned : (past : List Event) (box : Box) → BoxFits list starts letter i past box → Turned list starts letter i past box [] box

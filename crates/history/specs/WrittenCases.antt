@@ -17,13 +17,13 @@ use Rattle.quotebox.specs.Calls.{answered}
 use Rattle.quotebox.specs.Writer.{dataWritten, lengthWritten, writeRules, messageBytes}
 
 -- a key of 39 letters, and a quote of market type N and status S whose numbers are all none but the last traded price
-abbrev key : List ℕ
+abbrev pub key : List ℕ
 key = replicate 39 65
 
 abbrev quoteAt : ℕ → Quote
 quoteAt last = quoteOf Two (set (set (set (replicate 37 none) 5 78) 28 83) 26 last)
 
-record Asked : Type 0 where
+pub record Asked : Type 0 where
   code : Code
   level : Level
   number : ℕ
@@ -31,11 +31,11 @@ record Asked : Type 0 where
   quote : Quote
   room : ℕ
 
-abbrev asked : ℕ → ℕ → Level → ℕ → List ℕ → ℕ → ℕ → Asked
+abbrev pub asked : ℕ → ℕ → Level → ℕ → List ℕ → ℕ → ℕ → Asked
 asked first second level number key last room =
     record { code = record { 0 = first; 1 = second }; level = level; number = number; key = key; quote = quoteAt last; room = room }
 
-abbrev answerTo : Asked → List ℕ
+abbrev pub answerTo : Asked → List ℕ
 answerTo a = answered (firstBroken (writeRules (a .code) (a .level) (a .number) (a .key) (a .quote) (a .room))) (lengthWritten (a .code) (a .level) ∷ [])
 
 -- AN and DX, a heartbeat with a number and an update without one, a byte 31 of the key, P14, a byte too few, and accepted ones

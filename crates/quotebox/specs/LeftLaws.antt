@@ -38,7 +38,7 @@ pub record Leaves (count : ℕ) (before after : Box) : Type 0 where
   pub records-kept : length (after .records) ≡ length (before .records)
 
 module _ (list : List ℕ) (letter : ℕ) where
-  last-box : (i : ℕ) (box : Box) (bytes : List ℕ) (final : Box) → messagesAct 0 list letter i box bytes ≡ acted final → box ≡ final
+  pub last-box : (i : ℕ) (box : Box) (bytes : List ℕ) (final : Box) → messagesAct 0 list letter i box bytes ≡ acted final → box ≡ final
   last-box i box bytes final e =
       ⊎-elim (λ (h : length bytes ≤ 0). let same : acted box ≡ acted final = sym (messages-end list letter i box bytes (omega arith)) ∙ e in cc)
       (λ (h : 0 < length bytes). absurd (not-both (sym (messages-over list letter i box bytes h) ∙ e)))

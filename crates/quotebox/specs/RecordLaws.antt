@@ -63,7 +63,7 @@ cells-copied records at level h =
 
 -- ---- the rules
 
-is-some : (o : Option ℕ) → isSome o ≡ true → (i : ℕ) × (o ≡ some i)
+pub is-some : (o : Option ℕ) → isSome o ≡ true → (i : ℕ) × (o ≡ some i)
 is-some none e = absurd (true≢false (sym e))
 is-some (some i) e = (i, refl)
 

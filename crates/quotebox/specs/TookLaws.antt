@@ -24,7 +24,7 @@ abbrev pub answerOf : Acted → Judged
 answerOf (acted box) = Accepted (box .taken) (box .old) (box .heartbeats)
 answerOf (refused refusal) = Refused refusal
 
-answer-numbers : (a : Acted) → judgedNumbers (answerOf a) ≡ actedNumbers a
+pub answer-numbers : (a : Acted) → judgedNumbers (answerOf a) ≡ actedNumbers a
 answer-numbers (acted box) = refl
 answer-numbers (refused refusal) = refl
 

@@ -11,7 +11,6 @@ pub mod CallPromises
 pub mod CallPromisesLaws
 pub mod Calls
 pub mod CallsLaws
-pub mod Cases
 pub mod Good
 pub mod GoodLaws
 pub mod GoodState

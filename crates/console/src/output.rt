@@ -38,7 +38,7 @@ pub fn put(page: &mut [u8], used: usize, text: &[u8]) -> usize
     0
 }
 
-pub fn put_number(page: &mut [u8], used: usize, number: u64) -> usize
+fn put_number(page: &mut [u8], used: usize, number: u64) -> usize
     requires { ⌜ used ≤ length (now page) ⌝ }
     ensures { λ r. ⌜ r ≤ length (now (page .entry)) ⌝ }
 {

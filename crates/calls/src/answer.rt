@@ -1,6 +1,7 @@
 // The commands that make a call, and its line.
 ghost use Prim.Native.Nat.{_+_, _≤_};
 ghost use lib.ListN.{length};
+use crate::command;
 use crate::keep::least;
 use crate::lines;
 use crate::record;
@@ -12,10 +13,8 @@ use quotebox::Listed;
 use quotebox::Started;
 use quotebox::WrittenOff;
 
-// Room for as many start numbers as a command can have, for the runs of a segment, two cells each, and for a message.
+// Room for as many start numbers as a command can have, and for a message.
 const MOST_STARTS: usize = 255;
-
-const RUN_CELLS: usize = 128;
 
 const WRITE_ROOM: usize = 1024;
 
@@ -136,10 +135,10 @@ fn off(
 
 // The batch of a command, behind its length.
 fn batch_in(bytes: &[u8]) -> &[u8] {
-    if bytes.len() < 5 {
+    if bytes.len() < command::LENGTH_FRONT {
         return &bytes[..0];
     }
-    &bytes[5..]
+    &bytes[command::LENGTH_FRONT..]
 }
 
 pub fn answer(
@@ -171,7 +170,15 @@ pub fn answer(
             let judged = quotebox::take(list, rows, records, batch_in(bytes));
             put_judged(page, used, b"take", judged)
         }
-        b'G' => gaps(bytes, list, rows, records, &mut [0; RUN_CELLS], page, used),
+        b'G' => gaps(
+            bytes,
+            list,
+            rows,
+            records,
+            &mut [0; console::RUN_CELLS],
+            page,
+            used,
+        ),
         b'O' => off(bytes, list, rows, records, page, used),
         b'R' => record::record(bytes, list, rows, records, page, used),
         b'W' => write::write(bytes, &mut [0; WRITE_ROOM], page, used),

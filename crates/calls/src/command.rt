@@ -8,7 +8,7 @@ use console::Desk;
 const MOST_BATCH: usize = 40000;
 
 // The bytes of a command's byte and a length behind it, and of a command to write up to its rows.
-const LENGTH_FRONT: usize = 5;
+pub const LENGTH_FRONT: usize = 5;
 
 pub const WRITE_FRONT: usize = 49;
 

@@ -2,6 +2,7 @@
 ghost use Prim.Native.Nat.{_≤_};
 ghost use lib.ListN.{length};
 ghost use Rattle.calls.specs.Lent.{Within};
+use crate::command;
 
 // The bytes of the list, the gap-row cells and the record cells that are handed to the calls.
 pub struct Lent {
@@ -24,7 +25,7 @@ fn keep_list(bytes: &[u8], list: &mut [u8]) -> usize
     let size = least(wire::u32_at(bytes, 1) as usize, list.len());
     let mut i = 0;
     while i < size {
-        list[i] = wire::u8_at(bytes, 5 + i);
+        list[i] = wire::u8_at(bytes, command::LENGTH_FRONT + i);
         i += 1;
     }
     size

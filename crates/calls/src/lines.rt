@@ -5,8 +5,8 @@ use console::put;
 use console::put_with;
 use quotebox::Refusal;
 
-// The rows of the key, which are not printed.
-const KEY_ROWS: usize = 5;
+// The rows of the key, which are not printed, stand before the others.
+pub const KEY_ROWS: usize = 5;
 
 // `NAME refused`, the number, message, row and cells wanted.
 pub fn put_refused(page: &mut [u8], used: usize, name: &[u8], refusal: Refusal) -> usize
@@ -48,29 +48,8 @@ pub fn put_listed(page: &mut [u8], used: usize, highest: u32, runs: &[u32]) -> u
 {
     let used = put_with(page, used, b"gaps ok ", highest as u64);
     let used = put_with(page, used, b" ", (runs.len() / 2) as u64);
-    let used = put_runs(page, used, runs);
+    let used = console::put_runs(page, used, b" ", runs, b"");
     put(page, used, b"\n")
-}
-
-fn put_runs(page: &mut [u8], used: usize, runs: &[u32]) -> usize
-    requires { ⌜ used ≤ length (now page) ⌝ }
-    ensures { λ r. ⌜ r ≤ length (now (page .entry)) ⌝ }
-{
-    let mut more = used;
-    let mut i = 0;
-    while i + 1 < runs.len() {
-        more = put_run(page, more, runs[i], runs[i + 1]);
-        i += 2;
-    }
-    more
-}
-
-fn put_run(page: &mut [u8], used: usize, first: u32, last: u32) -> usize
-    requires { ⌜ used ≤ length (now page) ⌝ }
-    ensures { λ r. ⌜ r ≤ length (now (page .entry)) ⌝ }
-{
-    let used = put_with(page, used, b" ", first as u64);
-    put_with(page, used, b"-", last as u64)
 }
 
 // `-` for none.

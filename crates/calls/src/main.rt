@@ -13,11 +13,6 @@ ghost use Rattle.calls.specs.Lent.{Within};
 use console::Desk;
 use keep::Lent;
 
-// Memory for two gap rows and for 128 contracts.
-const ROW_CELLS: usize = 264;
-
-const RECORD_CELLS: usize = 6144;
-
 // What a turn leaves, and whether there may be another.
 struct Turn {
     desk: Desk,
@@ -151,8 +146,8 @@ fn bench(list: &mut [u8], size: usize, page: &mut [u8]) -> usize
     requires { ⌜ size ≤ length (now list) ⌝ }
     ensures { λ r. ⌜ r ≤ length (now (page .entry)) ⌝ }
 {
-    let mut rows = [0u32; ROW_CELLS];
-    let mut records = [0u64; RECORD_CELLS];
+    let mut rows = [0u32; console::ROW_CELLS];
+    let mut records = [0u64; console::RECORD_CELLS];
     let used = run(
         list,
         size,

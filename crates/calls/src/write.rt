@@ -10,9 +10,6 @@ use layout::Quote;
 use quotebox::Code;
 use quotebox::Written;
 
-// The rows of the key, which stands before them.
-const KEY_ROWS: usize = 5;
-
 fn number_at(bytes: &[u8], at: usize) -> u64
     requires { ⌜ at ≤ 65535 ⌝ }
 {
@@ -28,7 +25,7 @@ fn cells_in(bytes: &[u8], rows: usize) -> [u64; 37]
     let mut cells = [0u64; 37];
     let mut i = 0;
     while i < rows {
-        cells[KEY_ROWS + i] = number_at(bytes, command::WRITE_FRONT + 8 * i);
+        cells[lines::KEY_ROWS + i] = number_at(bytes, command::WRITE_FRONT + 8 * i);
         i += 1;
     }
     cells

@@ -1,7 +1,8 @@
 // Standard input in large pieces.
-ghost use Prim.Native.Nat.{_+_, _≤_};
-ghost use lib.ListN.{length};
-ghost use Rattle.console.specs.Desk.{Fits};
+ghost use mathlib.Core.Path.{_≡_};
+ghost use Prim.Native.Nat.{_-_, _≤_};
+ghost use lib.ListN.{length, take, drop};
+ghost use Rattle.console.specs.Desk.{Fits, Filled};
 use crate::output;
 use libc::STDIN_FILENO;
 
@@ -15,6 +16,7 @@ pub struct Desk {
 // What is yet to be used moves to the front.
 fn move_down(room: &mut [u8], at: usize, end: usize)
     requires { ⌜ (at ≤ end) × (end ≤ length (now room)) ⌝ }
+    ensures { λ _. ⌜ take (end - at) (now (room .exit)) ≡ take (end - at) (drop at (now (room .entry))) ⌝ }
 {
     let left = end - at;
     let mut i = 0;
@@ -28,6 +30,7 @@ fn move_down(room: &mut [u8], at: usize, end: usize)
 fn read_behind(room: &mut [u8], end: usize) -> usize
     requires { ⌜ end ≤ length (now room) ⌝ }
     ensures { λ r. ⌜ (end ≤ r) × (r ≤ length (now (room .entry))) ⌝ }
+    ensures { λ _. ⌜ take end (now (room .exit)) ≡ take end (now (room .entry)) ⌝ }
 {
     let got = libc::read(STDIN_FILENO, &mut room[end..]);
     end + io::count(got, &room[end..])
@@ -36,7 +39,8 @@ fn read_behind(room: &mut [u8], end: usize) -> usize
 // Reads until the room holds so many bytes from its front on, is full, or the input ends: a short read is not the end.
 fn read_until(room: &mut [u8], from: usize, wanted: usize) -> usize
     requires { ⌜ from ≤ length (now room) ⌝ }
-    ensures { λ r. ⌜ r ≤ length (now (room .entry)) ⌝ }
+    ensures { λ r. ⌜ (from ≤ r) × (r ≤ length (now (room .entry))) ⌝ }
+    ensures { λ _. ⌜ take from (now (room .exit)) ≡ take from (now (room .entry)) ⌝ }
 {
     let mut end = from;
     while end < wanted {
@@ -52,7 +56,7 @@ fn read_until(room: &mut [u8], from: usize, wanted: usize) -> usize
 // Has so many bytes yet to be used, or all that are left of the input. What was said is written out before more is waited for.
 pub fn fill(room: &mut [u8], page: &[u8], desk: Desk, wanted: usize) -> Desk
     requires { ⌜ Fits desk (now room) (now page) ⌝ }
-    ensures { λ r. ⌜ Fits r (now (room .exit)) (now (page .entry)) ⌝ }
+    ensures { λ r. ⌜ Filled (now (room .entry)) (now (page .entry)) desk r (now (room .exit)) ⌝ }
 {
     let at = desk.at;
     let end = desk.end;

@@ -1,6 +1,9 @@
 // Standard output in large pieces: what is said is put on a lent page, of which so many bytes are used and not yet written.
+ghost use mathlib.Core.Path.{_≡_};
 ghost use Prim.Native.Nat.{_+_, _≤_};
 ghost use lib.ListN.{length};
+ghost use lib.Seq.{sets};
+ghost use Rattle.console.specs.Desk.{Put};
 use libc::STDOUT_FILENO;
 
 // Writes out what is on the page.
@@ -12,6 +15,7 @@ pub fn flush(page: &[u8], used: usize)
 
 fn copy(text: &[u8], page: &mut [u8], to: usize)
     requires { ⌜ to + length (now text) ≤ length (now page) ⌝ }
+    ensures { λ _. ⌜ now (page .exit) ≡ sets (now (page .entry)) to (now (text .entry)) ⌝ }
 {
     let mut i = 0;
     while i < text.len() {
@@ -23,7 +27,7 @@ fn copy(text: &[u8], page: &mut [u8], to: usize)
 // Answers how much of the page is used with the text behind what it has; where the page has no room, both are written out.
 pub fn put(page: &mut [u8], used: usize, text: &[u8]) -> usize
     requires { ⌜ used ≤ length (now page) ⌝ }
-    ensures { λ r. ⌜ r ≤ length (now (page .entry)) ⌝ }
+    ensures { λ r. ⌜ Put (now (page .entry)) used (now (text .entry)) r (now (page .exit)) ⌝ }
 {
     if text.len() <= page.len() - used {
         copy(text, page, used);
@@ -34,7 +38,7 @@ pub fn put(page: &mut [u8], used: usize, text: &[u8]) -> usize
     0
 }
 
-pub fn put_number(page: &mut [u8], used: usize, number: u64) -> usize
+fn put_number(page: &mut [u8], used: usize, number: u64) -> usize
     requires { ⌜ used ≤ length (now page) ⌝ }
     ensures { λ r. ⌜ r ≤ length (now (page .entry)) ⌝ }
 {

@@ -6,12 +6,8 @@ ghost use Prim.Native.Nat.{_≤_};
 ghost use lib.ListN.{length};
 use quotebox::Started;
 
-// Memory for two gap rows and for 128 contracts: 64 keys a segment.
+// The most keys of a segment.
 const MOST_KEYS: usize = 64;
-
-const ROW_CELLS: usize = 264;
-
-const RECORD_CELLS: usize = 6144;
 
 // The refusal of what the program's memory doesn't hold.
 const MEMORY: u64 = 15;
@@ -40,8 +36,8 @@ fn run(list: &[u8], rows: &mut [u32], records: &mut [u64], page: &mut [u8]) -> u
 fn start(list: &[u8], page: &mut [u8]) -> usize
     ensures { λ r. ⌜ r ≤ length (now (page .entry)) ⌝ }
 {
-    let mut rows = [0u32; ROW_CELLS];
-    let mut records = [0u64; RECORD_CELLS];
+    let mut rows = [0u32; console::ROW_CELLS];
+    let mut records = [0u64; console::RECORD_CELLS];
     match quotebox::start(list, &[1, 1], &mut rows, &mut records) {
         Started::Refused(refusal) => report::put_refused_start(page, refusal),
         Started::Started => {

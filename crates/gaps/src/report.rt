@@ -6,9 +6,6 @@ use console::put_with;
 use quotebox::Listed;
 use quotebox::Refusal;
 
-// Two cells a run, and as many runs as a segment can have.
-const RUN_CELLS: usize = 128;
-
 // A start that is refused, by the refusal's number.
 pub fn put_refused_number(page: &mut [u8], number: u64) -> usize
     ensures { λ r. ⌜ r ≤ length (now (page .entry)) ⌝ }
@@ -55,29 +52,6 @@ fn missing(runs: &[u32]) -> u64
     sum
 }
 
-fn put_gap(page: &mut [u8], used: usize, letter: u8, first: u32, last: u32) -> usize
-    requires { ⌜ used ≤ length (now page) ⌝ }
-    ensures { λ r. ⌜ r ≤ length (now (page .entry)) ⌝ }
-{
-    let used = put(page, used, &[letter]);
-    let used = put_with(page, used, b" gap ", first as u64);
-    let used = put_with(page, used, b"-", last as u64);
-    put(page, used, b"\n")
-}
-
-fn put_gaps(page: &mut [u8], used: usize, letter: u8, runs: &[u32]) -> usize
-    requires { ⌜ used ≤ length (now page) ⌝ }
-    ensures { λ r. ⌜ r ≤ length (now (page .entry)) ⌝ }
-{
-    let mut more = used;
-    let mut i = 0;
-    while i + 1 < runs.len() {
-        more = put_gap(page, more, letter, runs[i], runs[i + 1]);
-        i += 2;
-    }
-    more
-}
-
 fn put_segment(page: &mut [u8], used: usize, letter: u8, highest: u32, runs: &[u32]) -> usize
     requires { ⌜ (used ≤ length (now page)) × (length (now runs) ≤ 128) ⌝ }
     ensures { λ r. ⌜ r ≤ length (now (page .entry)) ⌝ }
@@ -86,7 +60,8 @@ fn put_segment(page: &mut [u8], used: usize, letter: u8, highest: u32, runs: &[u
     let used = put_with(page, used, b" ", highest as u64);
     let used = put_with(page, used, b" ", missing(runs));
     let used = put(page, used, b"\n");
-    put_gaps(page, used, letter, runs)
+    let before = [letter, b' ', b'g', b'a', b'p', b' '];
+    console::put_runs(page, used, &before, runs, b"\n")
 }
 
 fn put_listed(
@@ -112,7 +87,7 @@ fn put_segments(list: &[u8], rows: &[u32], records: &[u64], page: &mut [u8], use
     ensures { λ r. ⌜ r ≤ length (now (page .entry)) ⌝ }
 {
     let segments = contracts::segments(list);
-    let mut cells = [0u32; RUN_CELLS];
+    let mut cells = [0u32; console::RUN_CELLS];
     let mut more = used;
     let mut i = 0;
     while i < segments {

@@ -3,14 +3,14 @@ use borrow.Author.Needs.{needs}
 use Prim.Native.Nat.{_≤_, _-_}
 use mathlib.Core.Path.{_≡_}
 use lib.ListN.{length}
-use Rattle.calls.proofs.lines.put_runs.Statement.{statement}
-use Rattle.calls.proofs.lines.put_runs.Tie as tie
+use Rattle.console.proofs.runs.put_runs.Statement.{statement}
+use Rattle.console.proofs.runs.put_runs.Tie as tie
 
 abbrev Inv-loop : tie.InvT-loop
-Inv-loop page₀ used runs more₀ i₀ page more i = (i ≤ length runs) × (more ≤ length page₀) × (length page ≡ length page₀)
+Inv-loop page₀ used before runs behind more₀ i₀ page more i = (i ≤ length runs) × (more ≤ length page₀) × (length page ≡ length page₀)
 
 abbrev μ-loop : tie.MeasureT-loop
-μ-loop page₀ used runs more₀ i₀ page more i = length runs - i
+μ-loop page₀ used before runs behind more₀ i₀ page more i = length runs - i
 
 loop-holds : tie.Need-loop-holds Inv-loop μ-loop
 loop-holds c = search needs

@@ -13,7 +13,7 @@ pub fn put_refused(page: &mut [u8], used: usize, name: &[u8], refusal: Refusal) 
     requires { ⌜ used ≤ length (now page) ⌝ }
     ensures { λ r. ⌜ r ≤ length (now (page .entry)) ⌝ }
 {
-    let numbers = console::refusal_numbers(refusal);
+    let numbers = quotebox::refusal_numbers(refusal);
     let used = put(page, used, name);
     let used = put_with(page, used, b" refused ", numbers[0]);
     let used = put_with(page, used, b" ", numbers[1]);

@@ -1,9 +1,8 @@
-// What the programs share: standard input and output in large pieces, the file of contracts, runs and refusals as they are said.
+// What the programs share: standard input and output in large pieces, the file of contracts and runs as they are said.
 mod file;
 mod input;
 mod memory;
 mod output;
-mod refused;
 mod runs;
 
 pub use file::FILE_ROOM;
@@ -17,5 +16,4 @@ pub use memory::RUN_CELLS;
 pub use output::flush;
 pub use output::put;
 pub use output::put_with;
-pub use refused::refusal_numbers;
 pub use runs::put_runs;

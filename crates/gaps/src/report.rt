@@ -17,7 +17,7 @@ pub fn put_refused_number(page: &mut [u8], number: u64) -> usize
 pub fn put_refused_start(page: &mut [u8], refusal: Refusal) -> usize
     ensures { λ r. ⌜ r ≤ length (now (page .entry)) ⌝ }
 {
-    let numbers = console::refusal_numbers(refusal);
+    let numbers = quotebox::refusal_numbers(refusal);
     put_refused_number(page, numbers[0])
 }
 
@@ -25,7 +25,7 @@ pub fn put_refused(page: &mut [u8], used: usize, batch: u64, refusal: Refusal) -
     requires { ⌜ used ≤ length (now page) ⌝ }
     ensures { λ r. ⌜ r ≤ length (now (page .entry)) ⌝ }
 {
-    let numbers = console::refusal_numbers(refusal);
+    let numbers = quotebox::refusal_numbers(refusal);
     let used = put_with(page, used, b"batch ", batch);
     let used = put_with(page, used, b" refused ", numbers[0]);
     let used = put_with(page, used, b" message ", numbers[1]);

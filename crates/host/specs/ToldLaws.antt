@@ -1,7 +1,9 @@
 -- Laws of what a host is told.
 use Prim.Native.Nat.{ℕ}
-use mathlib.Core.Path.{_≡_, sym, ap, _∙_}
-use mathlib.Core.List.{List}
+use mathlib.Core.Path.{_≡_, refl, sym, ap, _∙_}
+use mathlib.Core.List.{List, [], _∷_}
+use native.Mathlib.Omega.{arith}
+use lib.ListN.{length, getD}
 use Rattle.host.specs.declared.told.Told.{Told}
 use Rattle.host.specs.Told.{toldOf, Tells}
 
@@ -17,3 +19,13 @@ pub told-once : {A : Type 0} (numbers : A → List ℕ) {a b : A} {r s : ℕ} {a
 told-once numbers e t u =
     let same = ap numbers e in
     (t .number ∙ ap (λ ns. toldOf ns .number) same ∙ sym (u .number), t .values ∙ ap (λ ns. toldOf ns .answer) same ∙ sym (u .values))
+
+-- four numbers are the number returned and the first three of the answer
+pub four-told : (ns : List ℕ) → length ns ≡ 4
+    → record { number = getD ns 0 0; answer = getD ns 1 0 ∷ getD ns 2 0 ∷ getD ns 3 0 ∷ 0 ∷ [] } ≡ toldOf ns
+four-told [] e = absurd (omega arith)
+four-told (a ∷ []) e = absurd (omega arith)
+four-told (a ∷ b ∷ []) e = absurd (omega arith)
+four-told (a ∷ b ∷ c ∷ []) e = absurd (omega arith)
+four-told (a ∷ b ∷ c ∷ d ∷ []) e = refl
+four-told (a ∷ b ∷ c ∷ d ∷ x ∷ ns) e = absurd (omega arith)

@@ -29,25 +29,10 @@ fn of_numbers(number: u32, first: usize, second: usize, third: usize) -> Told
 fn of_refusal(refusal: Refusal) -> Told
     ensures { λ r. ⌜ r ≡ toldOf (refusalNumbers refusal) ⌝ }
 {
-    match refusal {
-        Refusal::Size => of_numbers(1, 0, 0, 0),
-        Refusal::Packed => of_numbers(2, 0, 0, 0),
-        Refusal::Flag => of_numbers(3, 0, 0, 0),
-        Refusal::Count => of_numbers(4, 0, 0, 0),
-        Refusal::Frame(message) => of_numbers(5, message, 0, 0),
-        Refusal::Code(message) => of_numbers(6, message, 0, 0),
-        Refusal::Trailer(message) => of_numbers(7, message, 0, 0),
-        Refusal::Length(message) => of_numbers(8, message, 0, 0),
-        Refusal::Checksum(message) => of_numbers(9, message, 0, 0),
-        Refusal::Numbering(message) => of_numbers(10, message, 0, 0),
-        Refusal::Field(message, row) => of_numbers(11, message, row, 0),
-        Refusal::Range(message, row) => of_numbers(12, message, row, 0),
-        Refusal::Contract(message) => of_numbers(13, message, 0, 0),
-        Refusal::Gaps(message) => of_numbers(14, message, 0, 0),
-        Refusal::Memory(wanted) => of_numbers(15, 0, 0, wanted),
-        Refusal::List => of_numbers(16, 0, 0, 0),
-        Refusal::NoGap => of_numbers(17, 0, 0, 0),
-        Refusal::State => of_numbers(18, 0, 0, 0),
+    let numbers = quotebox::refusal_numbers(refusal);
+    Told {
+        number: numbers[0] as u32,
+        answer: [numbers[1], numbers[2], numbers[3], 0],
     }
 }
 

@@ -1,8 +1,9 @@
 -- A refusal's numbers tell the refusal, and none is an accepted call's.
-use Prim.Native.Nat.{ℕ}
+use Prim.Native.Nat.{ℕ, _≤_}
 use mathlib.Core.Path.{_≡_, refl, sym, ap, _∙_}
 use mathlib.Core.Bool.{Bool, false, cond, true≢false}
 use mathlib.Core.List.{List, _∷_}
+use native.Mathlib.Omega.{arith}
 use lib.Dec.{eqb}
 use lib.ListN.{getD}
 use Rattle.quotebox.specs.declared.refusal.Refusal.{Refusal}
@@ -57,3 +58,24 @@ refusal-told = told refusalNumbers refusalOf (λ r. refusal-back r .0)
 -- no refusal's numbers are an accepted call's
 pub never : (r : Refusal) (values : List ℕ) → refusalNumbers r ≡ 0 ∷ values → ⊥
 never r values e = true≢false (sym (ap accepts e) ∙ refusal-back r .1)
+
+-- a refusal's number is one of the table's, 1 to 18
+pub in-table : (r : Refusal) → (1 ≤ getD (refusalNumbers r) 0 0) × (getD (refusalNumbers r) 0 0 ≤ 18)
+in-table Size = (omega arith, omega arith)
+in-table Packed = (omega arith, omega arith)
+in-table Flag = (omega arith, omega arith)
+in-table Count = (omega arith, omega arith)
+in-table (Frame message) = (omega arith, omega arith)
+in-table (Code message) = (omega arith, omega arith)
+in-table (Trailer message) = (omega arith, omega arith)
+in-table (Length message) = (omega arith, omega arith)
+in-table (Checksum message) = (omega arith, omega arith)
+in-table (Numbering message) = (omega arith, omega arith)
+in-table (Field message row) = (omega arith, omega arith)
+in-table (Range message row) = (omega arith, omega arith)
+in-table (Contract message) = (omega arith, omega arith)
+in-table (Gaps message) = (omega arith, omega arith)
+in-table (Memory wanted) = (omega arith, omega arith)
+in-table ListOf = (omega arith, omega arith)
+in-table NoGap = (omega arith, omega arith)
+in-table State = (omega arith, omega arith)

@@ -24,6 +24,7 @@ pub use gaps::list_gaps;
 pub use gaps::write_off;
 pub use record::read_record;
 pub use refusal::Refusal;
+pub use refusal::refusal_numbers;
 pub use starting::start;
 pub use writing::Code;
 pub use writing::write_message;

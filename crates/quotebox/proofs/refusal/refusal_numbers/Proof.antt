@@ -1,7 +1,7 @@
 -- Each refusal is its row of the table.
 use borrow.Author.Needs.{needs}
-use Rattle.console.proofs.refused.refusal_numbers.Statement.{statement}
-use Rattle.console.proofs.refused.refusal_numbers.Tie as tie
+use Rattle.quotebox.proofs.refusal.refusal_numbers.Statement.{statement}
+use Rattle.quotebox.proofs.refusal.refusal_numbers.Tie as tie
 
 enum-told : tie.Need-enum-told
 enum-told c = search needs

@@ -1,4 +1,4 @@
-// The library that hosts link, called directly: the answers of `calls`' histories, and besides them every lent cell.
+// The library that hosts link, called directly: the answers of `calls`' histories, and besides them the live cells of the gap rows and which records change.
 //   host [--seed N] [--times N]
 mod asks;
 mod feed;

@@ -1,2 +1,4 @@
+pub mod FlatLaws
+pub mod Promises
 pub mod Rows
 pub mod RowsLaws

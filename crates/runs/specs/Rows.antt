@@ -1,7 +1,12 @@
 -- A lent row of runs: 01 "Sequence and gaps", "a lent row of runs, each a first and a last number".
-use Prim.Native.Nat.{ℕ}
+use Prim.Native.Nat.{ℕ, _*_}
+use mathlib.Core.Bool.{cond, _&&_}
 use mathlib.Core.List.{List, [], _∷_}
-use lib.ListN.{replicate}
+use lib.Dec.{ltb, eqb}
+use lib.ListN.{getD, replicate}
+use Rattle.contracts.specs.File.{segmentsOf}
+use Rattle.quotebox.specs.declared.refusal.Refusal.the-variants.{Memory}
+use Rattle.quotebox.specs.Refusals.{refusalNumbers}
 use Rattle.runs.specs.declared.run.Run.{Run}
 
 -- the row seen as numbers: each run's first and last in turn
@@ -22,3 +27,15 @@ abbrev pub over : List Run → List Run → List Run
 over [] rows = rows
 over (run ∷ runs) [] = []
 over (run ∷ runs) (row ∷ rows) = run ∷ over runs rows
+
+-- the runs of a gap row, and those that a call wants for a list's segments
+abbrev pub rowRuns : ℕ
+rowRuns = 66
+
+abbrev pub runsWanted : List ℕ → ℕ
+runsWanted list = rowRuns * segmentsOf list
+
+-- an answer's numbers where so many runs are lent: 15 for gap rows names the runs wanted
+unfoldable pub inRuns : List ℕ → ℕ → List ℕ → List ℕ
+inRuns list lent numbers =
+    cond (eqb (getD numbers 0 0) 15 && ltb lent (runsWanted list)) (refusalNumbers (Memory (runsWanted list))) numbers

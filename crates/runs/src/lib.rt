@@ -1,5 +1,8 @@
 // The public calls over a lent row of runs: document 01's gap list as a slice of structs.
 mod copy;
+mod front;
+mod numbers;
+mod refusal;
 mod run;
 
 pub use run::Run;

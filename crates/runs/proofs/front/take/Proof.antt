@@ -1,0 +1,68 @@
+use borrow.Author.Needs.{needs}
+use mathlib.Core.Path.{_≡_, ap, sym, _∙_}
+use mathlib.Core.List.{List}
+use Prim.Native.Nat.{ℕ, _*_}
+use lib.ListN.{length, take}
+use Rattle.quotebox.specs.Answers.{judgedNumbers}
+use Rattle.quotebox.specs.Promises.{TookBatch}
+use Rattle.runs.specs.Rows.{flat, inRuns}
+use Rattle.runs.specs.FlatLaws.{in-front, front-length}
+use Rattle.runs.proofs.front.take.Statement.{statement}
+use Rattle.runs.proofs.front.take.Tie as tie
+
+at-most-requires : tie.Need-at-most-requires
+at-most-requires c κs = search needs
+
+flat-requires : tie.Need-flat-requires
+flat-requires c κs = search needs
+
+slice-aggregate-take-numbers : tie.Need-slice-aggregate-take-numbers
+slice-aggregate-take-numbers c = search needs
+
+mul-take-numbers : tie.Need-mul-take-numbers
+mul-take-numbers c = search needs
+
+take-numbers-requires : tie.Need-take-numbers-requires
+take-numbers-requires c κs = search needs
+
+judged-requires : tie.Need-judged-requires
+judged-requires c κs = search needs
+
+paired-requires : tie.Need-paired-requires
+paired-requires c κs = search needs
+
+same-length : tie.Need-same-length
+same-length c = search needs
+
+returns : tie.Need-returns
+returns c =
+    let s = c .before .before .before .before .before .before .before .before .before .before .before .before .before in
+    let t = c .before .before .before .before .before .take-numbers in
+    let count = c .before .before .before .before .before .before .before .before .before .at-most in
+    let numbers = c .before .before .before .before .before .before .before .before .flat in
+    let a = s .args in
+    let long : length (a .runs) ≡ 132 = s .good .1 .0 .1 .0 .1 in
+    let long′ : length (c .paired .result) ≡ 132 = c .paired .ok .1 .0 .1 in
+    record {
+      core = t .result;
+      took =
+          in-front (λ ns. TookBatch (a .list .now) ns (a .records .now) (a .batch .now) (t .result) (flat (take (a .lent) (c .paired .result))) (t .last .1 .1 .1 .0))
+          (a .runs) (numbers .result) (a .lent) (count .result) long (count .ensures) (numbers .ensures)
+          (in-front (λ ns. TookBatch (a .list .now) (take (2 * count .result) (numbers .result)) (a .records .now) (a .batch .now) (t .result) ns (t .last .1 .1 .1 .0))
+          (c .paired .result) (t .last .1 .0) (a .lent) (count .result) long′ (count .ensures) (sym (c .paired .ensures)) (t .ensures));
+      answers = c .before .judged .ensures ∙ ap (λ (n : ℕ). inRuns (a .list .now) n (judgedNumbers (t .result))) (count .ensures ∙ sym (front-length (a .runs) (a .lent) long));
+    }
+
+pub take-spec : {M : Type 1} → statement M
+take-spec =
+    tie.close
+    (tie.spec
+    at-most-requires
+    flat-requires
+    slice-aggregate-take-numbers
+    mul-take-numbers
+    take-numbers-requires
+    judged-requires
+    paired-requires
+    same-length
+    returns)

@@ -1,4 +1,5 @@
 -- What the walks of this crate share.
-pub mod Calls
+pub mod Callees
 pub mod Memory
+pub mod Shared
 pub mod Steps

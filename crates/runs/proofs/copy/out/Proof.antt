@@ -56,7 +56,7 @@ use Rattle.runs.specs.Rows.{blank, blanks, over}
 use Rattle.runs.specs.RowsLaws.{over-is}
 use Rattle.runs.proofs.run.Run as T
 use Rattle.runs.proofs.run.Run.Laws as T′
-use Rattle.runs.proofs.Calls.{AtMost, limits}
+use Rattle.runs.proofs.Callees.{AtMost, limits}
 use Rattle.runs.proofs.Memory.{R, Runs, run-mir, runs-mir, run-vals, run-tells, run-typed, runs-val, runs-typed, slot-in, slot-out, at-place, within, Upto, Nearer, Nearer-wf}
 use Rattle.runs.proofs.Steps.{reads-run, stores-run}
 use Rattle.runs.proofs.run.at_most.Symbol as at-most-def

@@ -56,7 +56,7 @@ flat-more runs d i h k =
     let long : length front ≡ 2 * i = length-flat (take i runs) ∙ ap (λ (n : ℕ). 2 * n) (length-take-le i runs (omega arith)) in
     let far : 2 * (i + 1) ≡ suc (suc (2 * i)) = omega arith in
     let apart : drop (2 * i) d ≡ getD d (2 * i) 0 ∷ getD d (suc (2 * i)) 0 ∷ rest =
-        drop-cons d (2 * i) 0 (omega arith) ∙ ap (λ (l : List ℕ). getD d (2 * i) 0 ∷ l) (drop-cons d (suc (2 * i)) 0 (omega arith)) in
+    drop-cons d (2 * i) 0 (omega arith) ∙ ap (λ (l : List ℕ). getD d (2 * i) 0 ∷ l) (drop-cons d (suc (2 * i)) 0 (omega arith)) in
     let one : flat (take (suc i) runs) ≡ front ++ (run .first ∷ run .last ∷ []) = ap flat (take-suc runs i blank h) ∙ flat-append (take i runs) (run ∷ []) in
     ap (λ (l : List ℕ). set (set (front ++ l) (2 * i) (run .first)) (2 * i + 1) (run .last)) apart
     ∙ stores-at front _ _ (run .first) (run .last) rest (2 * i) (2 * i + 1) long refl

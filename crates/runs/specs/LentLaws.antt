@@ -85,7 +85,7 @@ module _ (rows : List Run) where
       in-runs-enough list (length (lent array)) numbers (omega (arith, long, few)) ∙ sym (in-runs-enough list (length rows) numbers (omega (arith, few))))
       (λ (g : headerSound list ≡ false).
       let other : (n : ℕ) → inRuns list n numbers ≡ numbers =
-          λ n. ap (inRuns list n) (unlisted g) ∙ in-runs-other list n (refusalNumbers ListOf) (cc) ∙ sym (unlisted g) in
+      λ n. ap (inRuns list n) (unlisted g) ∙ in-runs-other list n (refusalNumbers ListOf) (cc) ∙ sym (unlisted g) in
       other (length (lent array)) ∙ sym (other (length rows)))
       (either (headerSound list)))
       (order (length rows) 132)

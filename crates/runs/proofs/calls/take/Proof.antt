@@ -109,8 +109,16 @@ module _ {M : Type 1} (𝓤 : URA M) (H : Heap 𝓤) (A : Atoms 𝓤) (W : Given
 
   -- what `front::take`'s triple binds outside, at the array u of the runs that were copied out
   abbrev to-front : Val → Front 𝓤 H A mem run .Ghost
-  to-front u = (((κ₀, (κ₂, (κ₃, tt))), (q₀, (q₂, (q₃, tt))), tt, (list, (over (now rows) blanks, (length (now rows), (records, (batch, tt))))),
-    (slice-vals list, (u ∷ [], (vint w64 (length (now rows)) ∷ [], (slice-vals records, (slice-vals batch, tt)))))), tt)
+  to-front u = (
+    (
+      (κ₀, (κ₂, (κ₃, tt))),
+      (q₀, (q₂, (q₃, tt))),
+      tt,
+      (list, (over (now rows) blanks, (length (now rows), (records, (batch, tt))))),
+      (slice-vals list, (u ∷ [], (vint w64 (length (now rows)) ∷ [], (slice-vals records, (slice-vals batch, tt))))),
+    ),
+    tt,
+  )
 
   -- what it is handed besides the array and the number of runs lent
   abbrev handed : List (Item 𝓤)

@@ -99,3 +99,9 @@ pub in-front : (P : List ℕ → Type 0) (runs : List Run) (numbers : List ℕ) 
     → P (take (2 * count) numbers) → P (flat (take lent runs))
 in-front P runs numbers lent count long few e p =
     subst P (ap₂ (λ (n : ℕ) (l : List ℕ). take (2 * n) l) few e ∙ front-numbers runs lent long) p
+
+-- the same of the runs left
+pub in-fronts : (P : List ℕ → List ℕ → Type 0) (runs runs′ : List Run) (numbers numbers′ : List ℕ) (lent count : ℕ) → length runs ≡ 132 → length runs′ ≡ 132 → count ≡ min lent 132
+    → numbers ≡ flat runs → flat runs′ ≡ numbers′ → P (take (2 * count) numbers) (take (2 * count) numbers′) → P (flat (take lent runs)) (flat (take lent runs′))
+in-fronts P runs runs′ numbers numbers′ lent count long long′ few e e′ p =
+    in-front (λ ns. P ns (flat (take lent runs′))) runs numbers lent count long few e (in-front (P (take (2 * count) numbers)) runs′ numbers′ lent count long′ few (sym e′) p)

@@ -1,12 +1,11 @@
 use borrow.Author.Needs.{needs}
 use mathlib.Core.Path.{_≡_, ap, sym, _∙_}
-use mathlib.Core.List.{List}
-use Prim.Native.Nat.{ℕ, _*_}
-use lib.ListN.{length, take}
+use Prim.Native.Nat.{ℕ}
+use lib.ListN.{length}
 use Rattle.quotebox.specs.Answers.{judgedNumbers}
 use Rattle.quotebox.specs.Promises.{TookBatch}
-use Rattle.runs.specs.Rows.{flat, inRuns}
-use Rattle.runs.specs.FlatLaws.{in-front, front-length}
+use Rattle.runs.specs.Rows.{inRuns}
+use Rattle.runs.specs.FlatLaws.{in-fronts, front-length}
 use Rattle.runs.proofs.front.take.Statement.{statement}
 use Rattle.runs.proofs.front.take.Tie as tie
 
@@ -42,14 +41,11 @@ returns c =
     let numbers = c .before .before .before .before .before .before .before .before .flat in
     let a = s .args in
     let long : length (a .runs) ≡ 132 = s .good .1 .0 .1 .0 .1 in
-    let long′ : length (c .paired .result) ≡ 132 = c .paired .ok .1 .0 .1 in
     record {
       core = t .result;
       took =
-          in-front (λ ns. TookBatch (a .list .now) ns (a .records .now) (a .batch .now) (t .result) (flat (take (a .lent) (c .paired .result))) (t .last .1 .1 .1 .0))
-          (a .runs) (numbers .result) (a .lent) (count .result) long (count .ensures) (numbers .ensures)
-          (in-front (λ ns. TookBatch (a .list .now) (take (2 * count .result) (numbers .result)) (a .records .now) (a .batch .now) (t .result) ns (t .last .1 .1 .1 .0))
-          (c .paired .result) (t .last .1 .0) (a .lent) (count .result) long′ (count .ensures) (sym (c .paired .ensures)) (t .ensures));
+          in-fronts (λ ns ns′. TookBatch (a .list .now) ns (a .records .now) (a .batch .now) (t .result) ns′ (t .last .1 .1 .1 .0)) (a .runs) (c .paired .result) (numbers .result) (t .last .1 .0) (a .lent) (count .result) long (c .paired .ok .1 .0 .1)
+          (count .ensures) (numbers .ensures) (c .paired .ensures) (t .ensures);
       answers = c .before .judged .ensures ∙ ap (λ (n : ℕ). inRuns (a .list .now) n (judgedNumbers (t .result))) (count .ensures ∙ sym (front-length (a .runs) (a .lent) long));
     }
 

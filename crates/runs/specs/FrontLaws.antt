@@ -43,14 +43,19 @@ module _ (a z : List ℕ) (room : most ≤ length a) where
     few : segmentsOf list ≤ 2
     few = header .few-segments
 
+    pub rows-within : rowsWanted list ≤ length a
+    rows-within = omega (arith, few)
+
+    pub rows-lent : leb (rowsWanted list) (length (a ++ z)) ≡ leb (rowsWanted list) (length a)
+    rows-lent =
+        let longer : length (a ++ z) ≡ length a + length z = length-append a z in
+        le-leb (rowsWanted list) (length (a ++ z)) (omega (arith, few, longer)) ∙ sym (le-leb (rowsWanted list) (length a) rows-within)
+
     pub state-front : (records : List ℕ) → stateRules list (a ++ z) records ≡ stateRules list a records
     state-front records =
-        let longer : length (a ++ z) ≡ length a + length z = length-append a z in
-        let lent : leb (rowsWanted list) (length (a ++ z)) ≡ leb (rowsWanted list) (length a) =
-        le-leb (rowsWanted list) (length (a ++ z)) (omega (arith, few, longer)) ∙ sym (le-leb (rowsWanted list) (length a) (omega (arith, few))) in
         let sound : rowsSound (segmentsOf list) (a ++ z) ≡ rowsSound (segmentsOf list) a =
         all-same (λ i. soundRow (rowOf (a ++ z) i)) (λ i. soundRow (rowOf a i)) (segmentsOf list) (λ i h. ap soundRow (row-front i (omega (arith, few)))) in
-        rw (lent, sound)
+        rw (rows-lent, sound)
 
     pub letter-front : (letter : ℕ) → rowOfLetter list letter (a ++ z) ≡ rowOfLetter list letter a
     letter-front letter = go (segmentOf list letter) refl

@@ -6,5 +6,10 @@ mod numbers;
 mod refusal;
 mod run;
 
+pub use calls::judge;
+pub use calls::list_gaps;
+pub use calls::read_record;
+pub use calls::start;
 pub use calls::take;
+pub use calls::write_off;
 pub use run::Run;

@@ -50,7 +50,8 @@ use Rattle.runs.specs.LentLaws.{lent, array, took-runs}
 use Rattle.runs.specs.Promises.{TookRuns}
 use Rattle.runs.proofs.front.Took as T
 use Rattle.runs.proofs.front.Took.Laws as T′
-use Rattle.runs.proofs.Callees.{CopyOut, CopyBack, held, shared, copies-out-of, copies-back}
+use Rattle.runs.proofs.Callees.{CopyOut, CopyBack, answers-as, begins, leaves}
+use Rattle.runs.proofs.Steps.{reborrows, dies}
 use Rattle.runs.proofs.Memory.{R, Runs, runs-makes, runs-typed, field-val, field-runs}
 use Rattle.runs.proofs.copy.out.Symbol as out-def
 use Rattle.runs.proofs.copy.out.Symbol.{name as #runs·copy·out}
@@ -147,35 +148,26 @@ module _ {M : Type 1} (𝓤 : URA M) (H : Heap 𝓤) (A : Atoms 𝓤) (W : Given
         pass1 ! (init ! 26 refl (tt, (tt, (record { fits = g₀ .0 }, tt)))) $ pass1 ! (init ! 24 refl (tt, (tt, (record { fits = g₁ .0 }, tt)))) $
         pass1 ! (init ! 22 refl (tt, (tt, (record { fits = g₂ .0 }, tt)))) $ pass1 ! (init ! 20 refl (tt, (tt, (record { fits = g₃ .0 }, tt)))) $ pass0 ! $
         -- [_14; …; _0; …; the token of rows; what rows owns; …]
-        assigns ! (addr ! (from ! (fld ! refl (hop ! (look-in ! 24 (sub ! 0 refl (whole !))) (stop !))))) (from ! (stop !)) (init ! 14 refl (tt, tt)) $
-        assigns ! (agg ! (and-then ! (load ! (from ! (stop !)) (look ! 14 refl)) (and-then ! (load ! (from ! (fld ! refl (stop !))) (look-in ! 24 (sub ! 1 refl (whole !)))) (no-more !)))) (from ! (stop !)) (init ! 12 refl (tt, (tt, (record { fits = g₁ .0 }, tt)))) $
-        move ! (30 ∷ 31 ∷ []) $ copies-out-of mem run fm κ₁ q₁ (ptr rows .0) (ptr rows .1) (name rows) (now rows) (named 0) g₁ ! known-out (λ ν δ. and-then ! (load ! (from ! (stop !)) (look ! 14 refl)) (no-more !)) (λ u is.
-        land ! (from ! (stop !)) (init ! 20 refl (runs-typed 𝓤 H A W (over (now rows) blanks) is)) $
-        assigns ! (of-opd ! (load ! (from ! (fld ! refl (stop !))) (look-in ! 26 (sub ! 1 refl (whole !))))) (from ! (stop !)) (init ! 12 refl (tt, record { fits = g₁ .0 })) $
-        assigns ! (addr ! (from ! (fld ! refl (hop ! (look-in ! 24 (sub ! 0 refl (whole !))) (stop !))))) (from ! (stop !)) (init ! 10 refl (tt, tt)) $
-        assigns ! (agg ! (and-then ! (load ! (from ! (stop !)) (look ! 10 refl)) (and-then ! (load ! (from ! (fld ! refl (stop !))) (look-in ! 24 (sub ! 1 refl (whole !)))) (no-more !)))) (from ! (stop !)) (init ! 8 refl (tt, (tt, (record { fits = g₂ .0 }, tt)))) $
+        move ! (30 ∷ 31 ∷ []) $ begins mem run fm κ₁ q₁ (ptr rows .0) (ptr rows .1) (name rows) (now rows) ! known-out g₁ refl refl
+        (look-in ! 26 (sub ! 0 refl (whole !))) (init ! 16 refl (tt, tt)) (look ! 16 refl) (look-in ! 26 (sub ! 1 refl (whole !))) (init ! 14 refl (tt, (tt, (record { fits = g₁ .0 }, tt)))) (λ ν δ. look ! 14 refl)
+        (λ u is. init ! 20 refl (runs-typed 𝓤 H A W (over (now rows) blanks) is)) (λ u. look-in ! 26 (sub ! 1 refl (whole !))) (λ u. init ! 12 refl (tt, record { fits = g₁ .0 })) (λ u is.
+        reborrows ! refl refl (look-in ! 24 (sub ! 0 refl (whole !))) (init ! 10 refl (tt, tt)) (look ! 10 refl) (look-in ! 24 (sub ! 1 refl (whole !))) (init ! 8 refl (tt, (tt, (record { fits = g₂ .0 }, tt)))) $
         -- the call over numbers: [what it is handed; the token of rows; what rows owns; _14; …]
         move ! (32 ∷ 33 ∷ 34 ∷ 35 ∷ 36 ∷ 37 ∷ []) $ cut handed (raw (Front 𝓤 H A mem run .pre (to-front u)) ∷ []) _ (asks-front u is (g₁ .0)) $
-        calls-at ! fm (Front 𝓤 H A mem run) known-front (to-front u) (and-then ! (load ! (from ! (stop !)) (look ! 29 refl)) (and-then ! (load ! (from ! (stop !)) (look ! 21 refl)) (and-then ! (load ! (from ! (stop !)) (look ! 13 refl)) (and-then ! (load ! (from ! (stop !)) (look ! 9 refl)) (and-then ! (load ! (from ! (stop !)) (look ! 23 refl)) (no-more !)))))) (λ w.
-        use1 W (later (some (λ (r : Took). ((‵ (flft κ₀ q₀) ⊛ (‵ (flft κ₂ q₂) ⊛ (‵ (flft κ₃ q₃) ⊛ ‵ ftrue))) ⊛ ‵ (T.the-row .own r (w ∷ []))) ⊛ raw (ensured 𝓤 H A front.ended (front.clauses 𝓤 H A mem run) (κ₀, (κ₂, (κ₃, tt))) (to-front u .0 .3) tt r)))) (id⊢ 𝓤 _) $ await ! tt $ pick ! (λ r.
-        split ! $ move ! (1 ∷ []) $ use1 W (some (λ (zs : Unit {0} × (Unit {0} × (Unit {0} × (List ℕ × (Unit {0} × Unit {0}))))). ‵ (lasts front.ended (κ₀, (κ₂, (κ₃, tt))) (to-front u .0 .3) zs) ⊛ raw (fact 𝓤 (Did r (zs .1 .1 .1 .0))))) (id⊢ 𝓤 _) $ pick ! (λ zs.
-        split ! $ move ! (1 ∷ []) $ heard ! (Did r (zs .1 .1 .1 .0)) (λ did. fsplit ! $ toss ! $ fsplit ! $ toss ! $ fsplit ! $ toss ! $ fsplit ! $ fsplit ! $ move ! (1 ∷ []) $ feqL ! (λ long. move ! (1 ∷ []) $ toss ! $
-        -- [the last records; the tokens and the result; the token of rows; what rows owns; _14; …]
-        move ! (1 ∷ []) $ split ! $ move ! (1 ∷ []) $ facts ! T.the-row (Is T.the-row) (shows 𝓤 H A T.the-row) r (w ∷ []) (λ has. split ! $ move ! (1 ∷ []) $ split ! $ move ! (1 ∷ []) $ split ! $
-        -- [the token of batch; true; the tokens of records and list; the last records; the token of rows; what rows owns; _14; …]
-        land ! (from ! (stop !)) (init ! 23 refl (LL.lawful T.the-type T′.the-laws 𝓤 H A W .typed r _ has .0)) $
-        rewrite ! 23 (λ (t : Val). ‵ (fat fullShare T′.mir l₆ 0 t)) (ap only (LL.tells T.the-type T′.the-laws r (w ∷ []) has)) refl $
-        assigns ! (addr ! (from ! (fld ! refl (hop ! (look-in ! 31 (sub ! 0 refl (whole !))) (stop !))))) (from ! (stop !)) (init ! 9 refl (tt, tt)) $
-        assigns ! (agg ! (and-then ! (load ! (from ! (stop !)) (look ! 9 refl)) (and-then ! (load ! (from ! (fld ! refl (stop !))) (look-in ! 31 (sub ! 1 refl (whole !)))) (no-more !)))) (from ! (stop !)) (init ! 7 refl (tt, (tt, (record { fits = g₁ .0 }, tt)))) $
-        move ! (5 ∷ 6 ∷ []) $ copies-back mem run fm κ₁ q₁ (ptr rows .0) (ptr rows .1) (name rows) (now rows) ! known-back (r .runs) (field-val (r .runs)) (left-is r (w ∷ []) has)
-        (and-then ! (load ! (from ! (fld ! refl (stop !))) (look-in ! 22 (sub ! 1 refl (whole !)))) (and-then ! (load ! (from ! (stop !)) (look ! 6 refl)) (no-more !))) (λ long′.
-        -- [the token of rows; its last runs; the token of batch; true; the tokens of records and list; the last records; _14; …]
-        land ! (from ! (stop !)) (init ! 11 refl (tt, tt)) $
-        assigns ! (of-opd ! (load ! (from ! (fld ! refl (stop !))) (look-in ! 23 (sub ! 0 refl (whole !))))) (from ! (stop !)) (init ! 35 refl (EL.lawful J.the-type J′.the-laws 𝓤 H A W tt .typed (r .answer) _ (answer-is r (w ∷ []) has) .0)) $
-        returns ! (look ! 35 refl) $ forget ! 7 refl $ forget ! 9 refl $ forget ! 11 refl $ forget ! 13 refl $ forget ! 15 refl $ forget ! 17 refl $ forget ! 19 refl $ forget ! 21 refl $ forget ! 23 refl $ forget ! 25 refl $ forget ! 27 refl $ forget ! 29 refl $ forget ! 31 refl $ forget ! 33 refl $ forget ! 35 refl $
-        move ! (35 ∷ 36 ∷ []) $ free1 ! $ move ! (33 ∷ 34 ∷ []) $ free1 ! $ move ! (31 ∷ 32 ∷ []) $ free1 ! $ move ! (29 ∷ 30 ∷ []) $ free1 ! $ move ! (27 ∷ 28 ∷ []) $ free1 ! $ move ! (25 ∷ 26 ∷ []) $ free1 ! $ move ! (23 ∷ 24 ∷ []) $ free1 ! $ move ! (21 ∷ 22 ∷ []) $ free1 ! $ move ! (19 ∷ 20 ∷ []) $ free1 ! $ move ! (17 ∷ 18 ∷ []) $ free1 ! $ move ! (15 ∷ 16 ∷ []) $ free1 ! $ move ! (13 ∷ 14 ∷ []) $ free1 ! $ move ! (11 ∷ 12 ∷ []) $ free1 ! $ move ! (9 ∷ 10 ∷ []) $ free1 ! $ move ! (7 ∷ 8 ∷ []) $ free1 ! $ free0 ! $
-        keep ! (5 ∷ 0 ∷ 4 ∷ 2 ∷ 1 ∷ 6 ∷ []) $
-        by ! (exits (r .answer) (answer-val r) (over (r .runs) (now rows)) (zs .1 .1 .1 .0) (answer-is r (w ∷ []) has) long′ long (took-runs (now list) (now rows) (now records) (now batch) (r .answer) (r .runs) (zs .1 .1 .1 .0) (left-is r (w ∷ []) has .1 .0 .1) did)))))))))))))))))))))))))
+        answers-as ! fm front.ended (front.clauses 𝓤 H A mem run) known-front (to-front u .0) tt (λ r zs. Did r (zs .1 .1 .1 .0)) (λ r zs. id⊢ 𝓤 _)
+        (and-then ! (load ! (from ! (stop !)) (look ! 29 refl)) (and-then ! (load ! (from ! (stop !)) (look ! 21 refl)) (and-then ! (load ! (from ! (stop !)) (look ! 13 refl)) (and-then ! (load ! (from ! (stop !)) (look ! 9 refl)) (and-then ! (load ! (from ! (stop !)) (look ! 23 refl)) (no-more !)))))) (λ w r zs did.
+        fsplit ! $ toss ! $ fsplit ! $ toss ! $ fsplit ! $ toss ! $ fsplit ! $ fsplit ! $ move ! (1 ∷ []) $ feqL ! (λ long. move ! (1 ∷ []) $ toss ! $
+        -- [the last records; the tokens; the result; the token of rows; what rows owns; _14; …]
+        move ! (2 ∷ []) $ facts ! T.the-row (Is T.the-row) (shows 𝓤 H A T.the-row) r (w ∷ []) (λ has.
+        move ! (2 ∷ 3 ∷ []) $ land ! (from ! (stop !)) (init ! 20 refl (LL.lawful T.the-type T′.the-laws 𝓤 H A W .typed r _ has .0)) $
+        rewrite ! 20 (λ (t : Val). ‵ (fat fullShare T′.mir l₆ 0 t)) (ap only (LL.tells T.the-type T′.the-laws r (w ∷ []) has)) refl $
+        leaves mem run fm κ₁ q₁ (ptr rows .0) (ptr rows .1) (name rows) (now rows) ! known-back (r .runs) (field-val (r .runs)) (left-is r (w ∷ []) has) refl refl refl refl
+        (look-in ! 28 (sub ! 0 refl (whole !))) (init ! 6 refl (tt, tt)) (look ! 6 refl) (look-in ! 28 (sub ! 1 refl (whole !))) (init ! 4 refl (tt, (tt, (record { fits = g₁ .0 }, tt))))
+        (look-in ! 19 (sub ! 1 refl (whole !))) (look ! 3 refl) (init ! 8 refl (tt, tt)) (look-in ! 20 (sub ! 0 refl (whole !))) (init ! 32 refl (EL.lawful J.the-type J′.the-laws 𝓤 H A W tt .typed (r .answer) _ (answer-is r (w ∷ []) has) .0)) (look ! 32 refl) (λ long′.
+        -- [the token of rows; its last runs; the last records; the tokens; _14; …; _0; …]
+        move ! (32 ∷ 33 ∷ 30 ∷ 31 ∷ 28 ∷ 29 ∷ 26 ∷ 27 ∷ 24 ∷ 25 ∷ 22 ∷ 23 ∷ 20 ∷ 21 ∷ 18 ∷ 19 ∷ 16 ∷ 17 ∷ 14 ∷ 15 ∷ 12 ∷ 13 ∷ 10 ∷ 11 ∷ 8 ∷ 9 ∷ 6 ∷ 7 ∷ 4 ∷ 5 ∷ []) $ dies ! $ dies ! $ dies ! $ dies ! $ dies ! $ dies ! $ dies ! $ dies ! $ dies ! $ dies ! $ dies ! $ dies ! $ dies ! $ dies ! $ dies ! $ free0 ! $
+        move ! (3 ∷ []) $ use1 W (‵ (flft κ₀ q₀) ⊛ (‵ (flft κ₂ q₂) ⊛ (‵ (flft κ₃ q₃) ⊛ ‵ ftrue))) (id⊢ 𝓤 _) $ split ! $ move ! (1 ∷ []) $ split ! $ move ! (1 ∷ []) $ split ! $ keep ! (3 ∷ 4 ∷ 2 ∷ 0 ∷ 5 ∷ 6 ∷ []) $
+        by ! (exits (r .answer) (answer-val r) (over (r .runs) (now rows)) (zs .1 .1 .1 .0) (answer-is r (w ∷ []) has) long′ long (took-runs (now list) (now rows) (now records) (now batch) (r .answer) (r .runs) (zs .1 .1 .1 .0) (left-is r (w ∷ []) has .1 .0 .1) did))))))))))))))))))))))
       where
         Did : Took → List ℕ → Type 0
         Did r records′ = TookRuns (now list) (lent (now rows) (array (now rows))) (now records) (now batch) (r .answer) (lent (now rows) (r .runs)) records′

@@ -5,7 +5,7 @@ use mathlib.Core.List.{List, [], _∷_, _++_, append-assoc, head-eq-of-cons-eq, 
 use native.Mathlib.Numerals.{add-one}
 use native.Mathlib.Omega.{arith}
 use lib.ListN.{length, getD, set, take, drop, length-take}
-use lib.Seq.{take-nil, drop-nil, take-suc, drop-cons, take-suc-set, append-snoc, length-take-le}
+use lib.Seq.{take-nil, drop-nil, take-suc, drop-cons, take-suc-set, length-take-le}
 use Rattle.laws.specs.Lists.{take-min}
 use Rattle.laws.specs.Moves.{stores-at}
 use Rattle.runs.specs.declared.run.Run.{Run}

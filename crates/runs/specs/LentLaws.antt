@@ -1,9 +1,9 @@
 -- From the array of runs that a call looks at to the lent row: what is promised of the one is promised of the other.
-use Prim.Native.Nat.{ℕ, min, _*_, _≤_, _<_}
+use Prim.Native.Nat.{ℕ, min, _≤_, _<_}
 use mathlib.Core.Path.{_≡_, refl, ap, ap₂, sym, _∙_, subst}
 use mathlib.Core.Bool.{true, false}
 use mathlib.Core.Logic.{⊎-elim}
-use mathlib.Core.List.{List, [], _++_, append-nil}
+use mathlib.Core.List.{List, _++_, append-nil}
 use native.Mathlib.Omega.{arith}
 use lib.ListN.{length, take, drop, length-take}
 use lib.Seq.{take-all, take-at, length-take-le}
@@ -25,7 +25,7 @@ use Rattle.quotebox.specs.CallPromises.{StartedBox, ListedRuns, WroteOffRun, Re
 use Rattle.quotebox.specs.Promises.{JudgedBatch, TookBatch}
 use Rattle.quotebox.specs.Refusals.{refusalNumbers}
 use Rattle.runs.specs.declared.run.Run.{Run}
-use Rattle.runs.specs.Rows.{flat, blanks, over, runsWanted, inRuns}
+use Rattle.runs.specs.Rows.{flat, blanks, over, inRuns}
 use Rattle.runs.specs.RowsLaws.{over-is, in-runs-enough, in-runs-other}
 use Rattle.runs.specs.FlatLaws.{flat-append, flat-take, flat-drop}
 use Rattle.runs.specs.FrontLaws.{most, whole}

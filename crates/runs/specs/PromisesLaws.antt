@@ -1,6 +1,6 @@
 -- What the promises over a lent row of runs settle: one outcome, a refusal that changes no run, 15 with the runs wanted, and else the
 -- answer of the call over numbers, so that what is known of that call is known of this one.
-use Prim.Native.Nat.{ℕ, _*_, _≤_, _<_}
+use Prim.Native.Nat.{ℕ, _≤_, _<_}
 use mathlib.Core.Path.{_≡_, refl, ap, sym, _∙_, subst}
 use mathlib.Core.Bool.{Bool, true, false, cond, _&&_, true≢false}
 use mathlib.Core.List.{List, [], _∷_, _++_}

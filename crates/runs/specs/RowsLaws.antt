@@ -1,6 +1,6 @@
 -- Laws of a lent row of runs.
 use Prim.Native.Nat.{ℕ, suc, min, _≤_, _<_}
-use mathlib.Core.Path.{_≡_, refl, ap}
+use mathlib.Core.Path.{_≡_, ap}
 use mathlib.Core.Bool.{false}
 use mathlib.Core.List.{List, [], _∷_, _++_}
 use native.Mathlib.Omega.{arith}

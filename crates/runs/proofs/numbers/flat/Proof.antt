@@ -1,9 +1,9 @@
 -- The loop's invariant: the first i runs are stored as numbers.
 use Prim.Native.Nat.{ℕ, _+_, _-_, _*_, _≤_}
-use mathlib.Core.Path.{_≡_, refl, sym, ap, _∙_}
+use mathlib.Core.Path.{_≡_, refl, ap, _∙_}
 use mathlib.Core.List.{List, _++_, append-nil}
 use native.Mathlib.Omega.{arith}
-use lib.ListN.{length, getD, set, take, drop, replicate, length-set, length-replicate}
+use lib.ListN.{length, getD, set, take, drop, replicate, length-set}
 use lib.Seq.{take-all}
 use Rattle.runs.specs.declared.run.Run.{Run}
 use Rattle.runs.specs.Rows.{flat, blank}

@@ -1,12 +1,10 @@
 -- The loop's invariant: the first i runs are those of the numbers.
-use Prim.Native.Nat.{ℕ, _-_, _*_, _≤_}
+use Prim.Native.Nat.{_-_, _*_, _≤_}
 use mathlib.Core.Path.{_≡_, refl, sym, ap, _∙_}
-use mathlib.Core.List.{List}
 use native.Mathlib.Omega.{arith}
 use borrow.Author.Needs.{needs}
 use lib.ListN.{length, take, length-set}
 use lib.Seq.{take-all}
-use Rattle.runs.specs.declared.run.Run.{Run}
 use Rattle.runs.specs.Rows.{flat}
 use Rattle.runs.specs.FlatLaws.{paired-more}
 use Rattle.runs.proofs.numbers.paired.Statement.{statement}

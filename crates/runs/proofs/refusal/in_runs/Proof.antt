@@ -1,6 +1,6 @@
 -- Only 15 is told in runs, and only where the gap rows lent are too few.
 use borrow.Author.Needs.{needs}
-use Prim.Native.Nat.{ℕ, _*_, _<_}
+use Prim.Native.Nat.{ℕ, _*_}
 use mathlib.Core.Path.{_≡_, refl, sym, ap, _∙_}
 use mathlib.Core.Bool.{false}
 use mathlib.Core.List.{List, [], _∷_}

@@ -2,9 +2,6 @@ use borrow.Author.Needs.{needs}
 use Rattle.runs.specs.Rows.{inRuns}
 use Rattle.runs.proofs.refusal.judged.Statement.{statement}
 use Rattle.runs.proofs.refusal.judged.Tie as tie
-use Rattle.runs.proofs.refusal.judged.Reads as reads
-use Rattle.runs.proofs.refusal.judged.Lts as lts
-use Rattle.runs.proofs.refusal.in_runs.Reads as in-runs-reads
 
 -- src/refusal.rt:28:26
 enum-known-answer : tie.Need-enum-known-answer

@@ -1,23 +1,22 @@
 -- No largest amount reaches the ceiling, so that a capped amount reads on as the amount itself.
-use Prim.Native.Nat.{ℕ, _+_, _-_, _*_, _^_, _<_, _≤_}
+use Prim.Native.Nat.{ℕ, _+_, _-_, _*_, _/_, _^_, _<_, _≤_}
 use mathlib.Core.Path.{_≡_, refl, sym, _∙_, ap}
 use mathlib.Core.Bool.{Bool, true, false, cond}
 use mathlib.Core.List.{List, [], _∷_}
 use mathlib.Core.Logic.{⊎-elim}
 use native.Mathlib.Nat.{
+  div-lt-iff-lt-mul,
+  le-div-iff-mul-le,
   le-mul-of-pos-right,
   min-eq-left,
   min-eq-right,
   mul-le-mul-right,
-  mul-lt-mul-of-pos-right,
   one-le-pow,
   one-mul,
   pow-le-pow-right,
-  sub-add-cancel,
 }
 use native.Mathlib.Omega.{arith}
 use lib.Dec.{leb, eqb}
-use lib.Pow.{pow-add}
 use borrow.Author.Tests.{lt-leb}
 use Rattle.laws.specs.Order.{order}
 use Rattle.amount.specs.Denotes.{space, point, digitChar}
@@ -31,23 +30,23 @@ use Rattle.amount.specs.declared.read.State.the-variants.{Before, Whole,
 
 -- ## The ceiling
 
-pub cap-below : (n : ℕ) → n < 10 ^ 19 → cap n ≡ n
+pub cap-below : (n : ℕ) → n < 2 ^ 64 → cap n ≡ n
 cap-below n h = min-eq-left (omega arith)
 
-pub cap-above : (n : ℕ) → 10 ^ 19 ≤ n → cap n ≡ 10 ^ 19
-cap-above n h = min-eq-right h
+pub cap-above : (n : ℕ) → 2 ^ 64 ≤ n + 1 → cap n ≡ 2 ^ 64 - 1
+cap-above n h = min-eq-right (omega arith)
 
 module _ (n k : ℕ) where
-  split : k < 20 → 10 ^ (19 - k) * 10 ^ k ≡ 10 ^ 19
-  split h = sym (pow-add 10 (19 - k) k) ∙ ap (λ (e : ℕ). 10 ^ e) (sub-add-cancel (omega arith))
+  positive : 0 < 10 ^ k
+  positive = one-le-pow k 10 (omega arith)
 
-  pub scaled-below : k < 20 → n < 10 ^ (19 - k) → n * 10 ^ k < 10 ^ 19
-  scaled-below h l = omega (arith, mul-lt-mul-of-pos-right l (one-le-pow k 10 (omega arith)), split h)
+  pub scaled-below : n ≤ (2 ^ 64 - 1) / 10 ^ k → n * 10 ^ k < 2 ^ 64
+  scaled-below h = omega (arith, le-div-iff-mul-le positive .0 h)
 
-  pub scaled-above : k < 20 → 10 ^ (19 - k) ≤ n → 10 ^ 19 ≤ n * 10 ^ k
-  scaled-above h l = omega (arith, mul-le-mul-right (10 ^ k) l, split h)
+  pub scaled-above : (2 ^ 64 - 1) / 10 ^ k < n → 2 ^ 64 ≤ n * 10 ^ k
+  scaled-above h = omega (arith, div-lt-iff-lt-mul positive .0 h)
 
-  pub scaled-far : 20 ≤ k → 0 < n → 10 ^ 19 ≤ n * 10 ^ k
+  pub scaled-far : 20 ≤ k → 0 < n → 2 ^ 64 ≤ n * 10 ^ k
   scaled-far h l = omega (arith, pow-le-pow-right {n = 10} (omega arith) h, mul-le-mul-right (10 ^ k) l, one-mul (10 ^ k))
 
 cap-digit : (n m d : ℕ) → cap n ≡ cap m → cap (n * 10 + d) ≡ cap (m * 10 + d)
@@ -55,14 +54,14 @@ cap-digit n m d e = omega arith
 
 cap-scaled : (n m p : ℕ) → 0 < p → cap n ≡ cap m → cap (n * p) ≡ cap (m * p)
 cap-scaled n m p h e = ⊎-elim
-    (λ (l : 10 ^ 19 ≤ n).
+    (λ (l : 2 ^ 64 - 1 ≤ n).
     let n-over : n ≤ n * p = le-mul-of-pos-right n h in
     let m-over : m ≤ m * p = le-mul-of-pos-right m h in
     cap-above (n * p) (omega arith) ∙ sym (cap-above (m * p) (omega arith)))
-    (λ (l : n < 10 ^ 19). let same : n ≡ m = omega arith in rw same)
-    (order (10 ^ 19) n)
+    (λ (l : n < 2 ^ 64 - 1). let same : n ≡ m = omega arith in rw same)
+    (order (2 ^ 64 - 1) n)
 
-pub inRange-cap : (max n : ℕ) → max < 10 ^ 19 → inRange max (cap n) ≡ inRange max n
+pub inRange-cap : (max n : ℕ) → max + 1 < 2 ^ 64 → inRange max (cap n) ≡ inRange max n
 inRange-cap max n h = ⊎-elim
     (λ (l : n ≤ max). rw (cap-below n (omega arith)))
     (λ (l : max < n). rw (lt-leb n max l, lt-leb (cap n) max (omega arith)))
@@ -112,7 +111,7 @@ same-step places c h =
     same-cond (eqb c space) (same-space h)
     (same-cond (eqb c point) (same-point places h) (same-cond (isDigit c) (same-digit (c - digitChar 0) h) bad))
 
-module _ (places max : ℕ) (h : max < 10 ^ 19) where
+module _ (places max : ℕ) (h : max + 1 < 2 ^ 64) where
   same-ranged : (n m k : ℕ) → cap n ≡ cap m → ranged places max n k ≡ ranged places max m k
   same-ranged n m k e =
       let p : ℕ = 10 ^ (places - k) in

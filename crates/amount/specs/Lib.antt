@@ -1,6 +1,5 @@
 pub mod Answers
 pub mod CapLaws
-pub mod Cases
 pub mod Denotes
 pub mod DigitLaws
 pub mod EndsLaws

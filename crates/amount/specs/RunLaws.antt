@@ -150,7 +150,7 @@ module _ (t : List ℕ) (places max : ℕ) where
           reads = ap (answer places max) (sym (point-at places s t i l e)) ∙ h .reads;
         }
 
-    pub read-digits : max < 10 ^ 19 → (d n : ℕ) (run : Run)
+    pub read-digits : max + 1 < 2 ^ 64 → (d n : ℕ) (run : Run)
         → d < 10 → getD t i 0 ≡ digitChar d → n ≡ cap (soFar s * 10 + d) → PastDigits t (i + 1) n run
         → ReadTo t places max (afterDigits s (run .amount) (run .end - i)) (run .end)
     read-digits le d n run small e grown past =

@@ -8,9 +8,9 @@ use Rattle.amount.specs.declared.read.State.{State}
 use Rattle.amount.specs.declared.read.State.the-variants.{Before, Whole, Pointed, Fraction, Behind, Bad}
 use Rattle.amount.specs.declared.read.Run.{Run}
 
--- all amounts of more than nineteen digits are one: over every largest amount
+-- all amounts from the cell of all ones on are one: over every largest amount
 abbrev pub cap : ℕ → ℕ
-cap n = min n (10 ^ 19)
+cap n = min n (2 ^ 64 - 1)
 
 -- the amount that a digit is added to
 abbrev pub soFar : State → ℕ
@@ -49,7 +49,7 @@ pub record PastSpaces (text : List ℕ) (from next : ℕ) : Type 0 where
 pub record PastDigits (text : List ℕ) (from amount : ℕ) (run : Run) : Type 0 where
   pub onward : from ≤ run .end
   pub within : run .end ≤ length text
-  pub passed : (places max : ℕ) → max < 10 ^ 19 → (s : State) (count : ℕ)
+  pub passed : (places max : ℕ) → max + 1 < 2 ^ 64 → (s : State) (count : ℕ)
       → answer places max (walk places (afterDigits s amount count) (drop from text))
       ≡ answer places max (walk places (afterDigits s (run .amount) (count + (run .end - from))) (drop (run .end) text))
 

@@ -2,7 +2,7 @@
 // was read before it. The rest of a run is passed at once: one more space changes nothing, one more digit only the amount.
 use crate::Number;
 ghost use mathlib.Core.Path.{_≡_};
-ghost use Prim.Native.Nat.{_+_, _*_, _^_, _%_, _≤_, _<_};
+ghost use Prim.Native.Nat.{_+_, _-_, _*_, _^_, _/_, _%_, _≤_, _<_};
 ghost use lib.ListN.{length};
 ghost use Rattle.amount.specs.Read.{onSpace, onPoint, ranged, answer, readText};
 ghost use Rattle.amount.specs.Runs.{cap, soFar, fineness, afterDigits, PastSpaces, PastDigits};
@@ -36,10 +36,10 @@ const POINT: u8 = b'.';
 
 const NOUGHT: u8 = b'0';
 
-// Above every largest amount: what would be larger counts as this, so that no width overflows.
-const CEILING: u64 = 10_000_000_000_000_000_000;
+// All ones, which is no amount's cell: what would be larger counts as this, so that no width overflows.
+const CEILING: u64 = 18_446_744_073_709_551_615;
 
-const TENTH: u64 = 1_000_000_000_000_000_000;
+const TENTH: u64 = 1_844_674_407_370_955_161;
 
 const POWERS: [u64; 20] = [
     1,
@@ -64,6 +64,30 @@ const POWERS: [u64; 20] = [
     10_000_000_000_000_000_000,
 ];
 
+// The largest amounts that have room for so many noughts behind them.
+const ROOMS: [u64; 20] = [
+    18_446_744_073_709_551_615,
+    1_844_674_407_370_955_161,
+    184_467_440_737_095_516,
+    18_446_744_073_709_551,
+    1_844_674_407_370_955,
+    184_467_440_737_095,
+    18_446_744_073_709,
+    1_844_674_407_370,
+    184_467_440_737,
+    18_446_744_073,
+    1_844_674_407,
+    184_467_440,
+    18_446_744,
+    1_844_674,
+    184_467,
+    18_446,
+    1_844,
+    184,
+    18,
+    1,
+];
+
 // 0 to 9 for a digit's character, more for any other.
 fn digit(c: u8) -> u64
     ensures { λ r. ⌜ (r < 256) × ((r + 48) % 256 ≡ c) ⌝ }
@@ -78,6 +102,12 @@ fn grown(amount: u64, digit: u64) -> u64
 {
     if amount < TENTH {
         amount * 10 + digit
+    } else if amount == TENTH {
+        if digit < CEILING % 10 {
+            amount * 10 + digit
+        } else {
+            CEILING
+        }
     } else {
         CEILING
     }
@@ -91,12 +121,20 @@ fn power(k: usize) -> u64
     powers[k]
 }
 
+fn room(k: usize) -> u64
+    requires { ⌜ k < 20 ⌝ }
+    ensures { λ r. ⌜ r ≡ (2 ^ 64 - 1) / 10 ^ k ⌝ }
+{
+    let rooms = ROOMS;
+    rooms[k]
+}
+
 // The amount with so many noughts behind it.
 fn scaled(amount: u64, noughts: usize) -> u64
     ensures { λ r. ⌜ r ≡ cap (amount * 10 ^ noughts) ⌝ }
 {
     if noughts < 20 {
-        if amount < power(19 - noughts) {
+        if amount <= room(noughts) {
             amount * power(noughts)
         } else {
             CEILING
@@ -110,7 +148,7 @@ fn scaled(amount: u64, noughts: usize) -> u64
 
 // An amount that counts the place of the last of so many digits behind the point, in the kind's unit.
 fn ranged(amount: u64, digits: usize, places: usize, max: u64) -> Number
-    requires { ⌜ max < 10 ^ 19 ⌝ }
+    requires { ⌜ max + 1 < 2 ^ 64 ⌝ }
     ensures { λ r. ⌜ r ≡ ranged places max amount digits ⌝ }
 {
     if digits > places {
@@ -220,7 +258,7 @@ fn past_digits(text: &[u8], from: usize, amount: u64) -> Run
 
 // What the text is when it ends.
 fn answer(state: State, places: usize, max: u64) -> Number
-    requires { ⌜ max < 10 ^ 19 ⌝ }
+    requires { ⌜ max + 1 < 2 ^ 64 ⌝ }
     ensures { λ r. ⌜ r ≡ answer places max state ⌝ }
 {
     match state {
@@ -233,9 +271,9 @@ fn answer(state: State, places: usize, max: u64) -> Number
     }
 }
 
-// Any width, any number of places behind the point, any largest amount of up to nineteen digits.
+// Any width, any number of places behind the point, any largest amount that a cell can hold.
 pub fn read(text: &[u8], places: usize, max: u64) -> Number
-    requires { ⌜ max < 10 ^ 19 ⌝ }
+    requires { ⌜ max + 1 < 2 ^ 64 ⌝ }
     ensures { λ r. ⌜ r ≡ readText places max (now (text .entry)) ⌝ }
 {
     let mut state = State::Before;

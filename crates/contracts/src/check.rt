@@ -23,7 +23,7 @@ pub enum Part {
 
 // Tests are joined by `&` and `|`: none can fail, so that none has to wait for another.
 
-fn is_letter(letter: u8) -> bool
+pub fn is_letter(letter: u8) -> bool
     ensures { λ r. ⌜ r ≡ isLetter letter ⌝ }
 {
     (letter == b'D') | (letter == b'T')

@@ -5,6 +5,7 @@ mod key;
 mod lookup;
 
 pub use check::header_sound;
+pub use check::is_letter;
 pub use check::sound;
 pub use header::all_contracts;
 pub use header::contracts_before;

@@ -7,8 +7,6 @@ use native.Mathlib.Omega.{arith}
 use lib.ListN.{length, getD, take, drop, length-drop}
 use lib.Seq.{take-at, drop-at, take-add, take-append-add, length-take-le}
 use Rattle.wire.specs.Number.{numberAt}
-use Rattle.amount.specs.declared.Number.the-variants.{None, Amount}
-use Rattle.amount.specs.Read.{readText}
 use Rattle.amount.specs.ReadBack.{reads-back, none-reads-back}
 use Rattle.amount.specs.Write.{written, blankText, filled}
 use Rattle.layout.specs.declared.cells.Held.{Held}

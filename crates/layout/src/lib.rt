@@ -19,4 +19,5 @@ pub use read::read_update;
 pub use rows::Level;
 pub use rows::Row;
 pub use rows::data_length;
+pub use write::put_front;
 pub use write::write_update;

@@ -48,7 +48,7 @@ fn all_printable(text: &[u8]) -> bool
 }
 
 // As much of the text as there is room for, from the front.
-fn put_front(text: &[u8], field: &mut [u8])
+pub fn put_front(text: &[u8], field: &mut [u8])
     ensures { λ _. ⌜ now (field .exit) ≡ laid (now (text .entry)) (now (field .entry)) ⌝ }
 {
     let n = rows::least(text.len(), field.len());

@@ -8,6 +8,8 @@ use mathlib.Core.Option.{Option, none, some}
 use native.Mathlib.Omega.{arith}
 use lib.ListN.{take, drop}
 use lib.Seq.{drop-drop}
+use Rattle.laws.specs.Rules.{Hold}
+use Rattle.laws.specs.RulesLaws.{hold-append}
 use Rattle.layout.specs.declared.read.RowRead.{RowRead}
 use Rattle.layout.specs.declared.read.RowRead.the-variants.{Cell, Field, Range}
 use Rattle.layout.specs.declared.rows.Row.{Row}
@@ -25,8 +27,7 @@ use Rattle.message.specs.Message.{keyOf, keyPlace, rowsIn, messageOf}
 use Rattle.message.specs.Order.{isFormed, isInRange, rowRules, keyRules, bodyRules, messageRules}
 use Rattle.message.specs.Numbers.{verdictOf}
 use Rattle.message.specs.OrderLaws.{message-first}
-use Rattle.message.specs.Rules.{Hold}
-use Rattle.message.specs.RulesLaws.{hold-append, good-hold, hold-good}
+use Rattle.message.specs.RulesLaws.{good-hold, hold-good}
 
 -- a row that is well formed and in range has a cell
 cell-exact : (answer : RowRead) → (isFormed answer ≡ true) × (isInRange answer ≡ true) ↔ (cell : ℕ) × (answer ≡ Cell cell)

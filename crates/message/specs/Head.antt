@@ -5,16 +5,18 @@ use mathlib.Core.List.{List, [], _∷_}
 use mathlib.Core.Option.{Option, none, some}
 use lib.Dec.{leb, eqb}
 use lib.ListN.{length}
+use Rattle.laws.specs.Rules.{Rule}
 use Rattle.contracts.specs.Lookup.{segmentOf}
 use Rattle.message.specs.declared.codes.Kind.{Kind}
 use Rattle.message.specs.declared.codes.Kind.the-variants.{Heartbeat, Update, PassedOver}
 use Rattle.message.specs.declared.codes.Sum.{Sum}
 use Rattle.message.specs.declared.codes.Sum.the-variants.{Zero, Right, RightOrZero}
+use Rattle.message.specs.declared.head.Fault.{Fault}
 use Rattle.message.specs.declared.head.Fault.the-variants.{Frame, Code, Trailer, Length, Checksum, Numbering}
 use Rattle.message.specs.declared.head.Head.{Head}
 use Rattle.message.specs.Codes.{isCapital, takesLength, sumRule, bareLength}
 use Rattle.message.specs.Fields.{dataAt, letterOf, secondOf, lengthOf, numberOf, sumSent, endByte, kindIn, rightSum, zeroSum}
-use Rattle.message.specs.Rules.{Rule, firstBroken}
+use Rattle.message.specs.Rules.{firstFault}
 
 -- 5: at least 8 bytes left, a length of at least 11 and not over what is left
 unfoldable pub framed : List ℕ → Bool
@@ -56,16 +58,16 @@ takesNumber Update number = leb 1 number
 takesNumber PassedOver number = leb 1 number
 
 -- the rules 5 to 10, in document 01's order
-abbrev pub headRules : List ℕ → ℕ → List ℕ → List Rule
+abbrev pub headRules : List ℕ → ℕ → List ℕ → List (Rule Fault)
 headRules list letter bytes =
-    record { holds = framed bytes; fault = Frame }
-    ∷ record { holds = coded list letter bytes; fault = Code }
-    ∷ record { holds = trailed bytes; fault = Trailer }
-    ∷ record { holds = takesLength (kindIn bytes) (lengthOf bytes); fault = Length }
-    ∷ record { holds = summed bytes; fault = Checksum }
-    ∷ record { holds = takesNumber (kindIn bytes) (numberOf bytes); fault = Numbering }
+    record { holds = framed bytes; refusal = Frame }
+    ∷ record { holds = coded list letter bytes; refusal = Code }
+    ∷ record { holds = trailed bytes; refusal = Trailer }
+    ∷ record { holds = takesLength (kindIn bytes) (lengthOf bytes); refusal = Length }
+    ∷ record { holds = summed bytes; refusal = Checksum }
+    ∷ record { holds = takesNumber (kindIn bytes) (numberOf bytes); refusal = Numbering }
     ∷ []
 
 -- the first broken one decides
 unfoldable pub headOf : List ℕ → ℕ → List ℕ → Head
-headOf list letter bytes = firstBroken (headRules list letter bytes)
+headOf list letter bytes = firstFault (headRules list letter bytes)

@@ -4,6 +4,7 @@ use mathlib.Core.Bool.{Bool, true, false}
 use mathlib.Core.List.{List, [], _∷_, _++_}
 use mathlib.Core.Option.{Option}
 use lib.ListN.{take, drop}
+use Rattle.laws.specs.Rules.{Rule}
 use Rattle.layout.specs.declared.read.RowRead.{RowRead}
 use Rattle.layout.specs.declared.read.RowRead.the-variants as read
 use Rattle.layout.specs.declared.rows.Row.{Row}
@@ -11,11 +12,11 @@ use Rattle.layout.specs.Read.{readRow}
 use Rattle.layout.specs.Rows.{widthOf}
 use Rattle.message.specs.declared.codes.Kind.{Kind}
 use Rattle.message.specs.declared.codes.Kind.the-variants.{Heartbeat, Update, PassedOver}
+use Rattle.message.specs.declared.head.Fault.{Fault}
 use Rattle.message.specs.declared.head.Fault.the-variants.{Field, Range, Contract}
 use Rattle.message.specs.Fields.{lengthOf, dataOf, kindIn}
 use Rattle.message.specs.Head.{isSome, headRules}
 use Rattle.message.specs.Message.{keyOf, keyPlace, rowsIn}
-use Rattle.message.specs.Rules.{Rule}
 
 -- 11: well formed
 abbrev pub isFormed : RowRead → Bool
@@ -30,24 +31,24 @@ isInRange read.Field = true
 isInRange read.Range = false
 
 -- rows in turn from row i on, 11 before 12 in a row
-abbrev pub rowRules : ℕ → List Row → List ℕ → List Rule
+abbrev pub rowRules : ℕ → List Row → List ℕ → List (Rule Fault)
 rowRules i [] bytes = []
 rowRules i (row ∷ rows) bytes =
-    record { holds = isFormed (readRow row (take (widthOf row) bytes)); fault = Field i }
-    ∷ record { holds = isInRange (readRow row (take (widthOf row) bytes)); fault = Range i }
+    record { holds = isFormed (readRow row (take (widthOf row) bytes)); refusal = Field i }
+    ∷ record { holds = isInRange (readRow row (take (widthOf row) bytes)); refusal = Range i }
     ∷ rowRules (suc i) rows (drop (widthOf row) bytes)
 
 -- 13: an update's key
-abbrev pub keyRules : Kind → Option ℕ → List Rule
+abbrev pub keyRules : Kind → Option ℕ → List (Rule Fault)
 keyRules Heartbeat place = []
-keyRules Update place = record { holds = isSome place; fault = Contract } ∷ []
+keyRules Update place = record { holds = isSome place; refusal = Contract } ∷ []
 keyRules PassedOver place = []
 
 -- 11 to 13
-abbrev pub bodyRules : List ℕ → ℕ → List ℕ → List Rule
+abbrev pub bodyRules : List ℕ → ℕ → List ℕ → List (Rule Fault)
 bodyRules list letter bytes =
     rowRules 0 (rowsIn (kindIn bytes) (lengthOf bytes)) (dataOf bytes) ++ keyRules (kindIn bytes) (keyPlace list letter (keyOf bytes))
 
 -- 5 to 13
-abbrev pub messageRules : List ℕ → ℕ → List ℕ → List Rule
+abbrev pub messageRules : List ℕ → ℕ → List ℕ → List (Rule Fault)
 messageRules list letter bytes = headRules list letter bytes ++ bodyRules list letter bytes

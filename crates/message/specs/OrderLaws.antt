@@ -5,6 +5,7 @@ use mathlib.Core.Logic.{_↔_}
 use mathlib.Core.List.{List, [], _∷_}
 use mathlib.Core.Option.{Option, none, some}
 use lib.ListN.{take, drop}
+use Rattle.laws.specs.Rules.{Broken}
 use Rattle.layout.specs.declared.read.RowRead.{RowRead}
 use Rattle.layout.specs.declared.read.RowRead.the-variants as read
 use Rattle.layout.specs.declared.read.Verdict.{Verdict}
@@ -27,7 +28,7 @@ use Rattle.message.specs.Head.{headRules, headOf}
 use Rattle.message.specs.Message.{keyOf, keyPlace, rowsIn, rowsRead, ofKind, ofVerdict, ofHead, contentsOf, messageOf}
 use Rattle.message.specs.Numbers.{verdictOf}
 use Rattle.message.specs.Order.{rowRules, keyRules, bodyRules, messageRules}
-use Rattle.message.specs.Rules.{firstBroken, Broken}
+use Rattle.message.specs.Rules.{firstFault}
 use Rattle.message.specs.RulesLaws.{andThen, first-append, bad-broken, broken-bad}
 
 -- a verdict on rows as one on a message
@@ -37,14 +38,14 @@ asHead (verdict.Field row) = Bad (Field row)
 asHead (verdict.Range row) = Bad (Range row)
 
 -- 11 and 12
-rows-first : (i : ℕ) (rows : List Row) (bytes : List ℕ) → asHead (readRows i rows bytes .verdict) ≡ firstBroken (rowRules i rows bytes)
+rows-first : (i : ℕ) (rows : List Row) (bytes : List ℕ) → asHead (readRows i rows bytes .verdict) ≡ firstFault (rowRules i rows bytes)
 rows-first i [] bytes = refl
 rows-first i (row ∷ rows) bytes =
     go (readRow row (take (widthOf row) bytes)) refl (rows-first (suc i) rows (drop (widthOf row) bytes))
   where
     go : (answer : RowRead) → readRow row (take (widthOf row) bytes) ≡ answer
-        → asHead (readRows (suc i) rows (drop (widthOf row) bytes) .verdict) ≡ firstBroken (rowRules (suc i) rows (drop (widthOf row) bytes))
-        → asHead (readRows i (row ∷ rows) bytes .verdict) ≡ firstBroken (rowRules i (row ∷ rows) bytes)
+        → asHead (readRows (suc i) rows (drop (widthOf row) bytes) .verdict) ≡ firstFault (rowRules (suc i) rows (drop (widthOf row) bytes))
+        → asHead (readRows i (row ∷ rows) bytes .verdict) ≡ firstFault (rowRules i (row ∷ rows) bytes)
     go (read.Cell cell) e rest = rw e rest
     go read.Field e rest = rw e
     go read.Range e rest = rw e
@@ -55,14 +56,14 @@ verdict-then (verdict.Field row) good = refl
 verdict-then (verdict.Range row) good = refl
 
 -- 13
-key-first : (kind : Kind) (number : ℕ) (level : Level) (place : Option ℕ) → verdictOf (ofKind kind number level place) ≡ firstBroken (keyRules kind place)
+key-first : (kind : Kind) (number : ℕ) (level : Level) (place : Option ℕ) → verdictOf (ofKind kind number level place) ≡ firstFault (keyRules kind place)
 key-first Heartbeat number level place = refl
 key-first PassedOver number level place = refl
 key-first Update number level none = refl
 key-first Update number level (some k) = refl
 
 module _ (list : List ℕ) (letter : ℕ) (bytes : List ℕ) where
-  body-first : verdictOf (contentsOf list letter bytes .what) ≡ firstBroken (bodyRules list letter bytes)
+  body-first : verdictOf (contentsOf list letter bytes .what) ≡ firstFault (bodyRules list letter bytes)
   unfolding contentsOf
   body-first =
       let good : What = ofKind (kindIn bytes) (numberOf bytes) (levelOf (lengthOf bytes)) (keyPlace list letter (keyOf bytes)) in
@@ -75,7 +76,7 @@ module _ (list : List ℕ) (letter : ℕ) (bytes : List ℕ) where
   head-then (Bad fault) = refl
 
   -- 5 to 13: the first broken rule decides
-  pub message-first : verdictOf (messageOf list letter bytes .what) ≡ firstBroken (messageRules list letter bytes)
+  pub message-first : verdictOf (messageOf list letter bytes .what) ≡ firstFault (messageRules list letter bytes)
   unfolding messageOf headOf
   message-first =
       head-then (headOf list letter bytes) ∙ ap (andThen (headOf list letter bytes)) body-first ∙ sym (first-append (headRules list letter bytes) (bodyRules list letter bytes))

@@ -1,82 +1,49 @@
--- The rule that decides is the first broken one.
+-- The fault that is answered is that of the first broken rule.
 use Prim.Native.Nat.{ℕ}
-use mathlib.Core.Path.{_≡_, refl, ap, sym, _∙_}
-use mathlib.Core.Bool.{Bool, true, false}
-use mathlib.Core.Logic.{_↔_}
-use mathlib.Core.List.{List, [], _∷_, _++_}
+use mathlib.Core.Path.{_≡_, refl, ap}
+use mathlib.Core.List.{List, _++_}
+use mathlib.Core.Option.{Option, none, some}
 use native.Mathlib.Omega.{arith}
+use Rattle.laws.specs.Rules.{Rule, firstBroken, Hold, Broken}
+use Rattle.laws.specs.RulesLaws.{none-hold, hold-none, some-broken, broken-some, front-holds, front-broken}
 use Rattle.message.specs.declared.head.Fault.{Fault}
 use Rattle.message.specs.declared.head.Head.{Head}
 use Rattle.message.specs.declared.head.Head.the-variants.{Good, Bad}
-use Rattle.message.specs.Rules.{Rule, firstBroken, Hold, Broken}
+use Rattle.message.specs.Rules.{headBy, firstFault}
 
 pub unlike : {fault : Fault} → Bad fault ≡ Good → ⊥
 unlike e = let z : _≡_ {A = ℕ} 0 1 = cc in omega arith
 
-module _ (rule : Rule) (rules : List Rule) where
-  goes-on : rule .holds ≡ true → firstBroken (rule ∷ rules) ≡ firstBroken rules
-  goes-on e = rw e
+by-none : (o : Option Fault) → headBy o ≡ Good → o ≡ none
+by-none none e = refl
+by-none (some fault) e = absurd (unlike e)
 
-  ends : rule .holds ≡ false → firstBroken (rule ∷ rules) ≡ Bad (rule .fault)
-  ends e = rw e
+by-some : (o : Option Fault) (fault : Fault) → headBy o ≡ Bad fault → o ≡ some fault
+by-some none fault e = cc
+by-some (some other) fault e = cc
 
 -- none is broken exactly when all hold
-pub good-hold : (rules : List Rule) → firstBroken rules ≡ Good → Hold rules
-good-hold [] e = tt
-good-hold (rule ∷ rules) e = go (rule .holds) refl (good-hold rules)
-  where
-    go : (t : Bool) → rule .holds ≡ t → (firstBroken rules ≡ Good → Hold rules) → Hold (rule ∷ rules)
-    go true f rest = (f, rest (sym (goes-on rule rules f) ∙ e))
-    go false f rest = absurd (unlike (sym (ends rule rules f) ∙ e))
+pub good-hold : (rules : List (Rule Fault)) → firstFault rules ≡ Good → Hold rules
+good-hold rules e = none-hold rules (by-none (firstBroken rules) e)
 
-pub hold-good : (rules : List Rule) → Hold rules → firstBroken rules ≡ Good
-hold-good [] h = refl
-hold-good (rule ∷ rules) h = goes-on rule rules (h .0) ∙ hold-good rules (h .1)
+pub hold-good : (rules : List (Rule Fault)) → Hold rules → firstFault rules ≡ Good
+hold-good rules h = ap headBy (hold-none rules h)
 
 -- a fault is answered exactly when its rule is broken and all before it hold
-pub bad-broken : (rules : List Rule) (fault : Fault) → firstBroken rules ≡ Bad fault → Broken rules fault
-bad-broken [] fault e = absurd (unlike (sym e))
-bad-broken (rule ∷ rules) fault e = go (rule .holds) refl (bad-broken rules fault)
-  where
-    go : (t : Bool) → rule .holds ≡ t → (firstBroken rules ≡ Bad fault → Broken rules fault) → Broken (rule ∷ rules) fault
-    go true f rest =
-        let b = rest (sym (goes-on rule rules f) ∙ e) in
-        record {
-          before = rule ∷ b .before;
-          rule = b .rule;
-          behind = b .behind;
-          in-order = ap (λ (l : List Rule). rule ∷ l) (b .in-order);
-          hold = (f, b .hold);
-          breaks = b .breaks;
-          fault-is = b .fault-is;
-        }
-    go false f rest =
-        let same : Bad (rule .fault) ≡ Bad fault = sym (ends rule rules f) ∙ e in
-        record { before = []; rule = rule; behind = rules; in-order = refl; hold = tt; breaks = f; fault-is = cc }
+pub bad-broken : (rules : List (Rule Fault)) (fault : Fault) → firstFault rules ≡ Bad fault → Broken rules fault
+bad-broken rules fault e = some-broken rules fault (by-some (firstBroken rules) fault e)
 
-pub broken-bad : (rules : List Rule) (fault : Fault) → Broken rules fault → firstBroken rules ≡ Bad fault
-broken-bad rules fault b = ap firstBroken (b .in-order) ∙ after (b .before) (b .hold)
-  where
-    after : (before : List Rule) → Hold before → firstBroken (before ++ (b .rule ∷ b .behind)) ≡ Bad fault
-    after [] h = ends (b .rule) (b .behind) (b .breaks) ∙ ap Bad (b .fault-is)
-    after (rule ∷ before) h = goes-on rule (before ++ (b .rule ∷ b .behind)) (h .0) ∙ after before (h .1)
+pub broken-bad : (rules : List (Rule Fault)) (fault : Fault) → Broken rules fault → firstFault rules ≡ Bad fault
+broken-bad rules fault b = ap headBy (broken-some rules fault b)
 
 -- rules in front of others are judged first
 abbrev pub andThen : Head → Head → Head
 andThen Good next = next
 andThen (Bad fault) next = Bad fault
 
-pub first-append : (rules more : List Rule) → firstBroken (rules ++ more) ≡ andThen (firstBroken rules) (firstBroken more)
-first-append [] more = refl
-first-append (rule ∷ rules) more = go (rule .holds) refl (first-append rules more)
+pub first-append : (rules more : List (Rule Fault)) → firstFault (rules ++ more) ≡ andThen (firstFault rules) (firstFault more)
+first-append rules more = go (firstBroken rules) refl
   where
-    go : (t : Bool) → rule .holds ≡ t → firstBroken (rules ++ more) ≡ andThen (firstBroken rules) (firstBroken more)
-        → firstBroken (rule ∷ (rules ++ more)) ≡ andThen (firstBroken (rule ∷ rules)) (firstBroken more)
-    go true f rest = rw f rest
-    go false f rest = rw f
-
-pub hold-append : (rules more : List Rule) → Hold (rules ++ more) ↔ Hold rules × Hold more
-hold-append [] more = ((λ h. (tt, h)), (λ h. h .1))
-hold-append (rule ∷ rules) more =
-    let rest = hold-append rules more in
-    ((λ h. let p = rest .0 (h .1) in ((h .0, p .0), p .1)), (λ h. (h .0 .0, rest .1 (h .0 .1, h .1))))
+    go : (o : Option Fault) → firstBroken rules ≡ o → firstFault (rules ++ more) ≡ andThen (firstFault rules) (firstFault more)
+    go none e = rw (e, front-holds rules more (none-hold rules e))
+    go (some fault) e = rw (e, front-broken rules more fault e)

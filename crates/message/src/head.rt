@@ -103,7 +103,7 @@ fn summed(kind: Kind, bytes: &[u8], whole: usize) -> bool
     }
 }
 
-fn takes_number(kind: Kind, number: u32) -> bool
+pub fn takes_number(kind: Kind, number: u32) -> bool
     ensures { λ r. ⌜ r ≡ takesNumber kind number ⌝ }
 {
     match kind {

@@ -10,6 +10,8 @@ pub use body::contents;
 pub use body::find;
 pub use body::read;
 pub use codes::Kind;
+pub use codes::kind_of;
 pub use fields::letter_of;
 pub use head::Fault;
 pub use head::Head;
+pub use head::takes_number;

@@ -7,6 +7,7 @@ use Rattle.quotebox.specs.declared.answers.Listed.{Listed}
 use Rattle.quotebox.specs.declared.answers.WrittenOff.{WrittenOff}
 use Rattle.quotebox.specs.declared.answers.Recorded.{Recorded}
 use Rattle.quotebox.specs.declared.answers.Reading.{Reading}
+use Rattle.quotebox.specs.declared.answers.Written.{Written}
 use Rattle.quotebox.specs.Refusals.{refusalNumbers}
 
 abbrev pub startedNumbers : Started → List ℕ
@@ -33,3 +34,8 @@ recordedNumbers (Recorded.Refused refusal) = refusalNumbers refusal
 
 abbrev pub readingNumbers : Reading → List ℕ
 readingNumbers reading = recordedNumbers (reading .answer)
+
+-- "the writer its length"
+abbrev pub writtenNumbers : Written → List ℕ
+writtenNumbers (Written.Message length) = 0 ∷ length ∷ []
+writtenNumbers (Written.Refused refusal) = refusalNumbers refusal

@@ -9,7 +9,8 @@ use Rattle.quotebox.specs.Acts.{boxAt, none as noCounts}
 use Rattle.quotebox.specs.Applies.{AppliesAll, AppliedAll, AcceptedBatch, AppliedBatch}
 use Rattle.quotebox.specs.Batch.{acted, batchActs, batchLetter, countOf, dataOf, rowIn, rowOfLetter, withRowIn, messagesAct, rowsAfter, recordsAfter}
 use Rattle.quotebox.specs.BatchLaws.{good-state, good-front, messages-accepted}
-use Rattle.quotebox.specs.Good.{GoodState, GoodFront}
+use Rattle.quotebox.specs.Good.{GoodFront}
+use Rattle.quotebox.specs.GoodState.{GoodState}
 use Rattle.quotebox.specs.GoodLaws.{rows-ready}
 use Rattle.quotebox.specs.Memory.{withRow}
 use Rattle.quotebox.specs.Scratch.{RowsReady, ScratchRow}
@@ -48,7 +49,7 @@ module _ (list rows records batch : List ℕ) (a : AcceptedBatch list rows recor
               listed = listed;
               before-is = e;
               sound = s .sound;
-              enough = state-of .records-enough;
+              enough = state-of .records-lent;
             };
             box = a .box;
             accepted = scratch-in-turn;

@@ -6,6 +6,7 @@ use mathlib.Core.Option.{Option, none, some}
 use lib.Dec.{leb, ltb, eqb}
 use lib.ListN.{length, getD, take, drop}
 use lib.Seq.{sets}
+use Rattle.laws.specs.Rules.{firstBroken}
 use Rattle.wire.specs.Number.{numberAt}
 use Rattle.layout.specs.declared.rows.Level.{Level}
 use Rattle.layout.specs.Rows.{rowsOf}
@@ -19,7 +20,7 @@ use Rattle.message.specs.Fields.{letterOf, lengthOf}
 use Rattle.message.specs.Message.{messageOf}
 use Rattle.quotebox.specs.declared.refusal.Refusal.{Refusal}
 use Rattle.quotebox.specs.declared.refusal.Refusal.the-variants.{Size, Packed, Flag, Count, Gaps}
-use Rattle.quotebox.specs.Refusals.{Rule, firstBroken, refusalNumbers, ofFault}
+use Rattle.quotebox.specs.Refusals.{Rule, refusalNumbers, ofFault}
 use Rattle.quotebox.specs.Memory.{rowOf, withRow, recordAt, stateRules}
 
 -- 01 "The batch": flag (1 byte), data size (2), number of messages (2), then the data

@@ -1,22 +1,21 @@
 -- Laws of a batch.
 use Prim.Native.Nat.{ℕ}
-use native.Mathlib.Omega.{arith}
-use lib.ListN.{getD}
 use mathlib.Core.Path.{_≡_, refl, ap, sym, _∙_}
 use mathlib.Core.List.{List, _++_}
 use mathlib.Core.Option.{Option, none, some}
+use Rattle.laws.specs.Rules.{firstBroken, Hold}
+use Rattle.laws.specs.RulesLaws.{front-holds, front-broken, hold-none, none-hold}
 use Rattle.quotebox.specs.declared.answers.Judged.the-variants.{Accepted, Refused}
 use Rattle.quotebox.specs.declared.refusal.Refusal.{Refusal}
 use Rattle.quotebox.specs.Answers.{judgedNumbers}
 use Rattle.quotebox.specs.Batch.{Box, Acted, acted, refused, actedNumbers, unlessBroken, batchActs, batchRules, batchLetter, boxOf, countOf, dataOf, messagesAct}
-use Rattle.quotebox.specs.Good.{GoodState, GoodFront}
-use Rattle.quotebox.specs.GoodLaws.{state-exact, front-exact}
+use Rattle.quotebox.specs.Good.{GoodFront}
+use Rattle.quotebox.specs.GoodState.{GoodState}
+use Rattle.quotebox.specs.GoodLaws.{front-exact}
+use Rattle.quotebox.specs.StateLaws.{state-exact}
 use Rattle.quotebox.specs.Memory.{stateRules}
 use Rattle.quotebox.specs.MessagesLaws.{not-both}
-use Rattle.quotebox.specs.Refusals.{firstBroken}
-use Rattle.quotebox.specs.RefusalsLaws.{refusal-some}
-use Rattle.quotebox.specs.Rules.{Hold}
-use Rattle.quotebox.specs.RulesLaws.{front-holds, front-broken, hold-none, none-hold}
+use Rattle.quotebox.specs.RefusalsLaws.{never}
 
 module _ (list rows records batch : List ℕ) where
   -- what its messages do
@@ -71,8 +70,8 @@ module _ (list rows records batch : List ℕ) where
 -- an answer's numbers tell whether the batch was accepted
 pub accepted-box : (a : Acted) {taken old heartbeats : ℕ} → judgedNumbers (Accepted taken old heartbeats) ≡ actedNumbers a → (box : Box) × (a ≡ acted box)
 accepted-box (acted box) e = (box, refl)
-accepted-box (refused refusal) e = absurd (omega (arith, refusal-some refusal, ap (λ (l : List ℕ). getD l 0 0) e))
+accepted-box (refused refusal) e = absurd (never refusal _ (sym e))
 
 pub refused-is : (a : Acted) (refusal : Refusal) → judgedNumbers (Refused refusal) ≡ actedNumbers a → (other : Refusal) × (a ≡ refused other)
-refused-is (acted box) refusal e = absurd (omega (arith, refusal-some refusal, ap (λ (l : List ℕ). getD l 0 0) e))
+refused-is (acted box) refusal e = absurd (never refusal _ e)
 refused-is (refused other) refusal e = (other, refl)

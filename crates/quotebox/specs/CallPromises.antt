@@ -3,13 +3,13 @@ use Prim.Native.Nat.{ℕ}
 use mathlib.Core.Path.{_≡_}
 use mathlib.Core.List.{List, []}
 use lib.ListN.{length}
+use Rattle.laws.specs.Rules.{firstBroken}
 use Rattle.layout.specs.declared.rows.Level.{Level}
 use Rattle.quotebox.specs.declared.answers.Started.{Started}
 use Rattle.quotebox.specs.declared.answers.Listed.{Listed}
 use Rattle.quotebox.specs.declared.answers.WrittenOff.{WrittenOff}
 use Rattle.quotebox.specs.declared.answers.Reading.{Reading}
 use Rattle.quotebox.specs.Answers.{startedNumbers, listedNumbers, writtenOffNumbers, readingNumbers}
-use Rattle.quotebox.specs.Refusals.{firstBroken}
 use Rattle.quotebox.specs.Start.{startRules, rowsStarted, recordsCleared}
 use Rattle.quotebox.specs.Record.{recordRules, recordOfKey, recordNumber, recordValues, quoteAt, quoteBeside}
 use Rattle.quotebox.specs.Calls.{answered, leftBy, gapsOfLetter, listRules, listValues, runsPut, writeOffRules, runValues, lowestRun, rowsWrittenOff}

@@ -3,12 +3,12 @@ use Prim.Native.Nat.{ℕ, _+_, _*_, _≤_, _<_}
 use mathlib.Core.Path.{_≡_, refl, sym, ap, _∙_}
 use mathlib.Core.Bool.{true}
 use mathlib.Core.List.{List, [], _∷_, _++_}
-use mathlib.Core.Logic.{⊎-elim}
 use mathlib.Core.Option.{Option, none, some}
 use native.Mathlib.Omega.{arith}
 use lib.ListN.{length, getD, take, drop, replicate, length-append, length-drop, length-replicate, getD-replicate, List·getD-append}
 use lib.Seq.{take-at, drop-at}
-use Rattle.laws.specs.Order.{same}
+use Rattle.laws.specs.Rules.{firstBroken}
+use Rattle.laws.specs.RulesLaws.{last-held}
 use Rattle.contracts.specs.File.{segmentsOf, contractsOf}
 use Rattle.contracts.specs.Lookup.{segmentOf}
 use Rattle.layout.specs.declared.rows.Level.{Level}
@@ -23,11 +23,10 @@ use Rattle.quotebox.specs.declared.answers.Listed.{Listed}
 use Rattle.quotebox.specs.declared.answers.WrittenOff.{WrittenOff}
 use Rattle.quotebox.specs.declared.answers.Recorded.{Recorded}
 use Rattle.quotebox.specs.declared.answers.Reading.{Reading}
-use Rattle.quotebox.specs.Refusals.{firstBroken}
 use Rattle.quotebox.specs.Memory.{rowCells, rowsWanted, recordsWanted, rowOf, withRow, recordAt}
-use Rattle.quotebox.specs.RowsLaws.{length-with, row-put, row-kept}
-use Rattle.quotebox.specs.FirstBrokenLaws.{last-held}
-use Rattle.quotebox.specs.State.{segmentRules, GoodState}
+use Rattle.quotebox.specs.RowsLaws.{length-with, row-put, row-kept, sound-with}
+use Rattle.quotebox.specs.State.{segmentRules}
+use Rattle.quotebox.specs.GoodState.{GoodState}
 use Rattle.quotebox.specs.StateLaws.{state-held, row-there, row-sound}
 use Rattle.quotebox.specs.Start.{startOf, startRules, startedRow, startedRows, rowsStarted, recordsCleared}
 use Rattle.quotebox.specs.StartLaws.{GoodStart, start-exact, started-lengths, started-row}
@@ -36,7 +35,7 @@ use Rattle.quotebox.specs.Record.{recordRules, recordOfKey, recordNumber
 use Rattle.quotebox.specs.RecordLaws.{record-listed}
 use Rattle.quotebox.specs.CallsLaws.{off-left}
 use Rattle.quotebox.specs.CallPromises.{StartedBox, ListedRuns, WroteOffRun, ReadRecord}
-use Rattle.quotebox.specs.CallAnswersLaws.{started-told, listed-told, written-off-told, recorded-told, refused-by, accepted-by}
+use Rattle.quotebox.specs.AnswersLaws.{started-told, listed-told, written-off-told, recorded-told, refused-by, accepted-by}
 
 -- ---- one outcome
 
@@ -233,7 +232,5 @@ module _ {list rows records rows′ : List ℕ} {letter : ℕ} (first last : ℕ
           rows-lent = rw long lent;
           records-lent = good .records-lent;
           rows-sound = λ j h.
-              ⊎-elim (λ (e : j ≡ i). rw (e, off-rows, row-put rows i off room off-wide) off-sound)
-              (λ (n : j ≡ i → ⊥). ap soundRow (others-kept j n) ∙ good .rows-sound j h)
-              (same j i);
+              ap (λ (ns : List ℕ). soundRow (rowOf ns j)) off-rows ∙ sound-with rows i off room off-wide (segmentsOf list) (good .rows-sound) off-sound j h;
         }

@@ -9,6 +9,8 @@ use native.Mathlib.Omega.{arith}
 use borrow.Author.Tests.{le-leb, lt-leb, lt-ltb}
 use lib.Dec.{leb, ltb}
 use lib.ListN.{length}
+use Rattle.laws.specs.Rules.{firstBroken}
+use Rattle.laws.specs.RulesLaws.{front-broken, last-holds, last-broken}
 use Rattle.laws.specs.Order.{order}
 use Rattle.contracts.specs.Lookup.{segmentOf}
 use Rattle.sequence.specs.Gaps.{Gaps, wanted, wroteOff, lowest, writeOffAnswer, listAnswer}
@@ -28,8 +30,7 @@ use Rattle.quotebox.specs.declared.answers.Reading.{Reading}
 use Rattle.quotebox.specs.declared.answers.Listed.{Listed}
 use Rattle.quotebox.specs.declared.answers.WrittenOff.{WrittenOff}
 use Rattle.quotebox.specs.Answers.{listedNumbers}
-use Rattle.quotebox.specs.Refusals.{Rule, firstBroken, refusalNumbers}
-use Rattle.quotebox.specs.FirstBrokenLaws.{one-broken, last-holds, last-broken}
+use Rattle.quotebox.specs.Refusals.{Rule, refusalNumbers}
 use Rattle.quotebox.specs.Memory.{rowOf, withRow}
 use Rattle.quotebox.specs.Start.{startRules, rowsStarted, recordsCleared}
 use Rattle.quotebox.specs.State.{segmentRules}
@@ -99,7 +100,7 @@ module _ (list rows records : List ℕ) (letter : ℕ) where
     unfolding listRules
     list-refused cells =
         let room : Rule = record { holds = leb (wanted (gaps .runs)) (length cells); refusal = Memory (wanted (gaps .runs)) } in
-        let broken = one-broken (segmentRules list rows records letter) (room ∷ []) r e in
+        let broken = front-broken (segmentRules list rows records letter) (room ∷ []) r e in
         record {
           answers = sym (ap (λ (o : Option Refusal). answered o (listValues gaps)) broken);
           cells-left = sym (ap (λ (o : Option Refusal). leftBy o cells (runsPut gaps cells)) broken);
@@ -109,7 +110,7 @@ module _ (list rows records : List ℕ) (letter : ℕ) where
     unfolding writeOffRules
     off-refused =
         let some-run : Rule = record { holds = ltb 0 (length (gaps .runs)); refusal = NoGap } in
-        let broken = one-broken (segmentRules list rows records letter) (some-run ∷ []) r e in
+        let broken = front-broken (segmentRules list rows records letter) (some-run ∷ []) r e in
         record {
           answers = sym (ap (λ (o : Option Refusal). answered o (runValues (lowestRun gaps))) broken);
           rows-left = sym (ap (λ (o : Option Refusal). leftBy o rows (rowsWrittenOff list rows letter)) broken);

@@ -1,28 +1,17 @@
--- A good batch, rule by rule: the table's rows 1 to 16 and 18.
-use Prim.Native.Nat.{ℕ, zero, suc, _+_, _≤_, _<_}
+-- A good batch, rule by rule: the table's rows 1 to 14, and a good state.
+use Prim.Native.Nat.{ℕ, zero, suc, _+_, _≤_}
 use mathlib.Core.Path.{_≡_}
-use mathlib.Core.Bool.{true, cond}
+use mathlib.Core.Bool.{cond}
 use mathlib.Core.List.{List}
 use lib.ListN.{length, drop}
-use Rattle.contracts.specs.File.{segmentsOf}
-use Rattle.contracts.specs.Sound.{Header}
 use Rattle.sequence.specs.Gaps.{Gaps, most, takes, after}
-use Rattle.sequence.specs.Row.{gapsOf, soundRow}
+use Rattle.sequence.specs.Row.{gapsOf}
 use Rattle.message.specs.declared.codes.Kind.{Kind}
 use Rattle.message.specs.declared.codes.Kind.the-variants.{Heartbeat, Update, PassedOver}
 use Rattle.message.specs.Good.{GoodMessage}
 use Rattle.message.specs.Fields.{kindIn, lengthOf, numberOf}
 use Rattle.quotebox.specs.Batch.{flagOf, sizeOf, countOf, dataOf, batchLetter, rowOfLetter}
-use Rattle.quotebox.specs.Memory.{rowsWanted, recordsWanted, rowOf}
-
-pub record GoodState (list rows records : List ℕ) : Type 0 where
-  -- 16
-  pub header : Header list
-  -- 15
-  pub rows-enough : rowsWanted list ≤ length rows
-  pub records-enough : recordsWanted list ≤ length records
-  -- 18
-  pub rows-sound : (i : ℕ) → i < segmentsOf list → soundRow (rowOf rows i) ≡ true
+use Rattle.quotebox.specs.GoodState.{GoodState}
 
 -- a batch before its messages
 pub record GoodFront (batch : List ℕ) : Type 0 where

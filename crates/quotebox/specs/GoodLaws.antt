@@ -8,41 +8,21 @@ use native.Mathlib.Omega.{arith}
 use borrow.Author.Tests.{leb-true, le-leb, ltb-true, lt-ltb, eqb-true, eq-eqb}
 use lib.Dec.{leb, eqb}
 use lib.ListN.{length}
+use Rattle.laws.specs.Rules.{Hold}
 use Rattle.laws.specs.Tests.{both, conj}
-use Rattle.contracts.specs.BelowLaws.{each-passes, all-pass}
+use Rattle.contracts.specs.BelowLaws.{all-pass}
 use Rattle.contracts.specs.File.{segmentsOf}
-use Rattle.contracts.specs.HeaderLaws.{header-exact}
 use Rattle.sequence.specs.Row.{soundRow}
 use Rattle.quotebox.specs.Batch.{flagOf, sizeOf, countOf, batchRules}
-use Rattle.quotebox.specs.Good.{GoodState, GoodFront}
-use Rattle.quotebox.specs.Memory.{rowsWanted, recordsWanted, rowOf, stateRules}
-use Rattle.quotebox.specs.Rules.{Hold}
+use Rattle.quotebox.specs.Good.{GoodFront}
+use Rattle.quotebox.specs.GoodState.{GoodState}
+use Rattle.quotebox.specs.Memory.{rowOf}
 use Rattle.quotebox.specs.Scratch.{RowsReady}
 
 module _ (list rows records : List ℕ) where
-  pub state-exact : Hold (stateRules list rows records) ↔ GoodState list rows records
-  state-exact = (
-    (λ h. record {
-      header = header-exact list .0 (h .0);
-      rows-enough = leb-true (rowsWanted list) (length rows) (h .1 .0);
-      records-enough = leb-true (recordsWanted list) (length records) (h .1 .1 .0);
-      rows-sound = each-passes (λ i. soundRow (rowOf rows i)) (segmentsOf list) (h .1 .1 .1 .0);
-    }),
-    (λ g. (
-      header-exact list .1 (g .header),
-      (
-        le-leb (rowsWanted list) (length rows) (g .rows-enough),
-        (
-          le-leb (recordsWanted list) (length records) (g .records-enough),
-          (all-pass (λ i. soundRow (rowOf rows i)) (segmentsOf list) (g .rows-sound), tt),
-        ),
-      ),
-    )),
-  )
-
   pub rows-ready : GoodState list rows records → RowsReady list rows
   rows-ready g =
-      record { enough = g .rows-enough; sound = all-pass (λ i. soundRow (rowOf rows i)) (segmentsOf list) (g .rows-sound) }
+      record { enough = g .rows-lent; sound = all-pass (λ i. soundRow (rowOf rows i)) (segmentsOf list) (g .rows-sound) }
 
 pub front-exact : (batch : List ℕ) → Hold (batchRules batch) ↔ GoodFront batch
 front-exact batch = (

@@ -1,19 +1,16 @@
 -- What an accepted batch leaves: as many messages counted as it has, and a state that is good again.
-use Prim.Native.Nat.{ℕ, zero, suc, _+_, _-_, _*_, _≤_, _<_}
+use Prim.Native.Nat.{ℕ, zero, suc, _+_, _*_, _≤_, _<_}
 use mathlib.Core.Path.{_≡_, refl, ap, sym, _∙_}
 use mathlib.Core.Bool.{true}
 use mathlib.Core.Logic.{⊎-elim}
 use mathlib.Core.List.{List}
 use mathlib.Core.Option.{Option, none, some}
 use native.Mathlib.Omega.{arith}
-use borrow.Rule.Slice.PartMut.{putMid, take-put, drop-put, same-len-mid}
-use lib.ListN.{length, take, drop}
-use lib.Seq.{drop-drop, take-at, drop-at, length-take-le}
-use Rattle.laws.specs.Lists.{part-of-front}
+use lib.ListN.{length, drop}
 use Rattle.contracts.specs.File.{segmentsOf}
 use Rattle.contracts.specs.Lookup.{segmentOf}
 use Rattle.contracts.specs.LookupLaws.{segment-has}
-use Rattle.laws.specs.Order.{order, three}
+use Rattle.laws.specs.Order.{order}
 use Rattle.message.specs.declared.body.What.{What}
 use Rattle.message.specs.declared.body.What.the-variants as what
 use Rattle.message.specs.declared.head.Head.the-variants.{Good}
@@ -25,9 +22,10 @@ use Rattle.sequence.specs.RowLaws.{sound-row-exactly}
 use Rattle.quotebox.specs.ActsLaws.{acts-as}
 use Rattle.quotebox.specs.Batch.{Box, acted, messageActs, messagesAct, batchActs, batchLetter, boxOf, countOf, dataOf, rowIn, withRowIn, rowsAfter, recordsAfter}
 use Rattle.quotebox.specs.BatchLaws.{good-state, good-front, messages-accepted}
-use Rattle.quotebox.specs.Good.{gapsAfter, GoodState}
-use Rattle.quotebox.specs.Memory.{rowCells, rowOf, withRow}
-use Rattle.quotebox.specs.MemoryLaws.{put-row, part-length}
+use Rattle.quotebox.specs.Good.{gapsAfter}
+use Rattle.quotebox.specs.GoodState.{GoodState}
+use Rattle.quotebox.specs.Memory.{rowCells}
+use Rattle.quotebox.specs.RowsLaws.{length-with, sound-with}
 use Rattle.quotebox.specs.MessagesLaws.{not-both, messages-next, messages-refused, messages-end, messages-over}
 use Rattle.quotebox.specs.ScratchLaws.{none-accepted}
 use Rattle.quotebox.specs.StepLaws.{messagesIn, Went, Fell, good-goes}
@@ -40,7 +38,7 @@ pub record Leaves (count : ℕ) (before after : Box) : Type 0 where
   pub records-kept : length (after .records) ≡ length (before .records)
 
 module _ (list : List ℕ) (letter : ℕ) where
-  last-box : (i : ℕ) (box : Box) (bytes : List ℕ) (final : Box) → messagesAct 0 list letter i box bytes ≡ acted final → box ≡ final
+  pub last-box : (i : ℕ) (box : Box) (bytes : List ℕ) (final : Box) → messagesAct 0 list letter i box bytes ≡ acted final → box ≡ final
   last-box i box bytes final e =
       ⊎-elim (λ (h : length bytes ≤ 0). let same : acted box ≡ acted final = sym (messages-end list letter i box bytes (omega arith)) ∙ e in cc)
       (λ (h : 0 < length bytes). absurd (not-both (sym (messages-over list letter i box bytes h) ∙ e)))
@@ -71,50 +69,6 @@ module _ (list : List ℕ) (letter : ℕ) where
       go rest what.Heartbeat f = good rest (ap verdictOf f)
       go rest (what.PassedOver number) f = good rest (ap verdictOf f)
       go rest (what.Update number level place) f = good rest (ap verdictOf f)
-
--- ---- the gap rows with one row put back
-
-module _ (rows row : List ℕ) (s : ℕ) (inside : rowCells * s + rowCells ≤ length rows) (wide : length row ≡ rowCells) where
-  abbrev from : ℕ
-  from = rowCells * s
-
-  abbrev rows′ : List ℕ
-  rows′ = putMid from (from + rowCells - from) rows row
-
-  same-wide : length row ≡ length (take (from + rowCells - from) (drop from rows))
-  same-wide = wide ∙ sym (part-length rows s inside)
-
-  put-length : length rows′ ≡ length rows
-  put-length = same-len-mid from (from + rowCells - from) rows row same-wide
-
-  put-here : rowOf rows′ s ≡ row
-  put-here =
-      ap (take rowCells) (drop-at (take from rows) _ from (length-take-le from rows (omega arith))) ∙ take-at row _ rowCells wide
-
-  put-below : (i : ℕ) → i < s → rowOf rows′ i ≡ rowOf rows i
-  put-below i h =
-      sym (part-of-front (rowCells * i) rowCells from rows′ (omega arith))
-      ∙ ap (λ (l : List ℕ). take rowCells (drop (rowCells * i) l)) (take-put from (from + rowCells - from) rows row (omega arith))
-      ∙ part-of-front (rowCells * i) rowCells from rows (omega arith)
-
-  put-above : (i : ℕ) → s < i → rowOf rows′ i ≡ rowOf rows i
-  put-above i h =
-      let end : ℕ = from + rowCells in
-      let n : ℕ = rowCells * i - end in
-      let e : end + n ≡ rowCells * i = omega arith in
-      let far : (l : List ℕ) → drop (rowCells * i) l ≡ drop n (drop end l) = λ l. ap (λ (k : ℕ). drop k l) (sym e) ∙ sym (drop-drop n end l) in
-      ap (take rowCells)
-      (far rows′ ∙ ap (drop n) (drop-put from end rows row (omega arith) inside (same-wide ∙ part-length rows s inside ∙ omega arith)) ∙ sym (far rows))
-
-  pub put-sound : (n : ℕ) → ((i : ℕ) → i < n → soundRow (rowOf rows i) ≡ true) → soundRow row ≡ true → (i : ℕ) → i < n → soundRow (rowOf (withRow rows s row) i) ≡ true
-  put-sound n each sound i h =
-      rw (← put-row rows row s)
-      (⊎-elim (λ (b : i < s). rw (put-below i b) (each i h))
-      (⊎-elim (λ (b : s < i). rw (put-above i b) (each i h)) (λ (b : i ≡ s). rw (b, put-here) sound))
-      (three i s))
-
-  pub with-length : length (withRow rows s row) ≡ length rows
-  with-length = ap length (sym (put-row rows row s)) ∙ put-length
 
 -- ---- the batch
 
@@ -149,13 +103,13 @@ module _ (list rows records batch : List ℕ) (box : Box) (accepted : batchActs 
   state-left =
       let l = is-listed in
       let there = segment-has list letter (l .0) (l .1) .0 in
-      let inside : rowCells * l .0 + rowCells ≤ length rows = omega (arith, there, state .rows-enough) in
+      let inside : rowCells * l .0 + rowCells ≤ length rows = omega (arith, there, state .rows-lent) in
       let wide = sound-row-exactly (box .row) .0 (leaves .sound) .0 in
-      let long = with-length rows (box .row) (l .0) inside wide in
+      let long = length-with rows (l .0) (box .row) inside wide in
       rw (ap (withRowIn rows (box .row)) (l .1))
       (record {
         header = state .header;
-        rows-enough = omega (arith, state .rows-enough, long);
-        records-enough = omega (arith, state .records-enough, leaves .records-kept);
-        rows-sound = put-sound rows (box .row) (l .0) inside wide (segmentsOf list) (state .rows-sound) (leaves .sound);
+        rows-lent = omega (arith, state .rows-lent, long);
+        records-lent = omega (arith, state .records-lent, leaves .records-kept);
+        rows-sound = sound-with rows (l .0) (box .row) inside wide (segmentsOf list) (state .rows-sound) (leaves .sound);
       })

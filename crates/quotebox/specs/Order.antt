@@ -4,11 +4,12 @@ use mathlib.Core.List.{List, [], _∷_, _++_}
 use mathlib.Core.Option.{Option, none, some}
 use lib.Dec.{leb, eqb}
 use lib.ListN.{length, drop}
+use Rattle.laws.specs.Rules.{Rule as RuleOf}
 use Rattle.sequence.specs.Gaps.{Gaps, most}
 use Rattle.sequence.specs.Row.{gapsOf}
+use Rattle.message.specs.declared.head.Fault.{Fault}
 use Rattle.message.specs.Fields.{lengthOf}
 use Rattle.message.specs.Order.{messageRules}
-use Rattle.message.specs.Rules.{Rule as MessageRule}
 use Rattle.quotebox.specs.declared.refusal.Refusal.{Refusal}
 use Rattle.quotebox.specs.declared.refusal.Refusal.the-variants.{Count, Gaps as GapsOver}
 use Rattle.quotebox.specs.Batch.{Acted, acted, refused, countOf, dataOf, batchLetter, batchRules, rowOfLetter}
@@ -17,9 +18,9 @@ use Rattle.quotebox.specs.Memory.{stateRules}
 use Rattle.quotebox.specs.Refusals.{Rule, ofFault}
 
 -- the rules of message i: 5 to 13
-abbrev pub asRules : ℕ → List MessageRule → List Rule
+abbrev pub asRules : ℕ → List (RuleOf Fault) → List Rule
 asRules i [] = []
-asRules i (rule ∷ rules) = record { holds = rule .holds; refusal = ofFault (rule .fault) i } ∷ asRules i rules
+asRules i (rule ∷ rules) = record { holds = rule .holds; refusal = ofFault (rule .refusal) i } ∷ asRules i rules
 
 -- message by message, each in the order 5 to 14; last, bytes left over (4)
 abbrev pub messagesRules : ℕ → List ℕ → ℕ → ℕ → Gaps → List ℕ → List Rule

@@ -8,6 +8,8 @@ use mathlib.Core.Option.{Option, none, some}
 use native.Mathlib.Omega.{arith}
 use lib.Dec.{leb, eqb}
 use lib.ListN.{length, drop}
+use Rattle.laws.specs.Rules.{Rule as RuleOf, firstBroken, Hold, Broken}
+use Rattle.laws.specs.RulesLaws.{none-hold, hold-none, some-broken, broken-some, front-holds, front-broken, hold-append, unlike}
 use Rattle.laws.specs.Tests.{leb-is, eqb-is}
 use Rattle.contracts.specs.Lookup.{segmentOf}
 use Rattle.contracts.specs.LookupLaws.{segment-has}
@@ -24,20 +26,19 @@ use Rattle.message.specs.Message.{messageOf}
 use Rattle.message.specs.Numbers.{verdictOf}
 use Rattle.message.specs.Order.{messageRules}
 use Rattle.message.specs.OrderLaws.{message-first}
-use Rattle.message.specs.Rules.{Rule as MessageRule, firstBroken as firstFault, Hold as HoldAll}
+use Rattle.message.specs.Rules.{firstFault}
 use Rattle.quotebox.specs.declared.refusal.Refusal.{Refusal}
 use Rattle.quotebox.specs.declared.refusal.Refusal.the-variants.{Count, Gaps as GapsOver}
 use Rattle.quotebox.specs.ActsLaws.{acts-as}
 use Rattle.quotebox.specs.Batch.{Box, Acted, acted, refused, unlessBroken, messageActs, messagesAct, batchActs, batchRules, batchLetter, boxOf, countOf, dataOf, rowIn, rowOfLetter}
 use Rattle.quotebox.specs.BatchLaws.{inTurn}
 use Rattle.quotebox.specs.Good.{gapsAfter, GoodMessages, GoodBatch}
-use Rattle.quotebox.specs.GoodLaws.{state-exact, front-exact}
+use Rattle.quotebox.specs.GoodLaws.{front-exact}
+use Rattle.quotebox.specs.StateLaws.{state-exact}
 use Rattle.quotebox.specs.Memory.{stateRules}
 use Rattle.quotebox.specs.MessagesLaws.{messages-next, messages-refused}
 use Rattle.quotebox.specs.Order.{asRules, messagesRules, allRules, refusalOf}
-use Rattle.quotebox.specs.Refusals.{Rule, firstBroken, ofFault}
-use Rattle.quotebox.specs.Rules.{Hold, Broken}
-use Rattle.quotebox.specs.RulesLaws.{none-hold, hold-none, some-broken, broken-some, front-holds, front-broken, hold-append, unlike}
+use Rattle.quotebox.specs.Refusals.{Rule, ofFault}
 use Rattle.quotebox.specs.ScratchLaws.{never-good}
 use Rattle.quotebox.specs.StepLaws.{Went, Fell, good-goes}
 
@@ -47,7 +48,7 @@ abbrev asOption : ℕ → Head → Option Refusal
 asOption i Good = none
 asOption i (Bad fault) = some (ofFault fault i)
 
-as-first : (i : ℕ) (rules : List MessageRule) → firstBroken (asRules i rules) ≡ asOption i (firstFault rules)
+as-first : (i : ℕ) (rules : List (RuleOf Fault)) → firstBroken (asRules i rules) ≡ asOption i (firstFault rules)
 as-first i [] = refl
 as-first i (rule ∷ rules) = go (rule .holds) refl (as-first i rules)
   where
@@ -56,7 +57,7 @@ as-first i (rule ∷ rules) = go (rule .holds) refl (as-first i rules)
     go true f rest = rw f rest
     go false f rest = rw f
 
-as-hold : (i : ℕ) (rules : List MessageRule) → Hold (asRules i rules) ↔ HoldAll rules
+as-hold : (i : ℕ) (rules : List (RuleOf Fault)) → Hold (asRules i rules) ↔ Hold rules
 as-hold i [] = ((λ h. tt), (λ h. tt))
 as-hold i (rule ∷ rules) =
     let rest = as-hold i rules in

@@ -6,6 +6,7 @@ use mathlib.Core.List.{List, [], _∷_, _++_}
 use mathlib.Core.Option.{Option, none, some}
 use lib.Dec.{eqb}
 use lib.ListN.{length, getD, take, drop, replicate}
+use Rattle.laws.specs.Rules.{firstBroken}
 use Rattle.layout.specs.declared.rows.Level.{Level}
 use Rattle.layout.specs.Rows.{keyRows, rowsOf}
 use Rattle.layout.specs.declared.quote.Quote.{Quote}
@@ -19,7 +20,7 @@ use Rattle.quotebox.specs.declared.refusal.Refusal.the-variants.{Contrac
 use Rattle.quotebox.specs.declared.answers.Reading.{Reading}
 use Rattle.quotebox.specs.declared.record.Place.{Place}
 use Rattle.quotebox.specs.declared.record.Place.the-variants.{At, Refused}
-use Rattle.quotebox.specs.Refusals.{Rule, firstBroken}
+use Rattle.quotebox.specs.Refusals.{Rule}
 use Rattle.quotebox.specs.Answers.{readingNumbers}
 use Rattle.quotebox.specs.Memory.{recordAt}
 use Rattle.quotebox.specs.State.{segmentRules}

@@ -7,6 +7,8 @@ use mathlib.Core.Option.{Option, none, some}
 use native.Mathlib.Omega.{arith}
 use lib.ListN.{length, take, drop, replicate, length-drop}
 use lib.Seq.{paste, length-take-le}
+use Rattle.laws.specs.Rules.{firstBroken}
+use Rattle.laws.specs.RulesLaws.{front-broken, last-holds, last-broken, last-held}
 use Rattle.contracts.specs.File.{contractsBefore, contractsOf}
 use Rattle.contracts.specs.FileLaws.{before-reaches}
 use Rattle.contracts.specs.HeaderLaws.{contracts-few}
@@ -20,8 +22,7 @@ use Rattle.message.specs.Message.{placeThere, keyPlace}
 use Rattle.quotebox.specs.Batch.{contractIn}
 use Rattle.quotebox.specs.declared.refusal.Refusal.{Refusal}
 use Rattle.quotebox.specs.declared.refusal.Refusal.the-variants.{Contract}
-use Rattle.quotebox.specs.Refusals.{Rule, firstBroken}
-use Rattle.quotebox.specs.FirstBrokenLaws.{one-broken, last-holds, last-broken, last-held}
+use Rattle.quotebox.specs.Refusals.{Rule}
 use Rattle.quotebox.specs.Memory.{recordCells, recordsWanted, recordAt}
 use Rattle.quotebox.specs.State.{segmentRules}
 use Rattle.quotebox.specs.StateLaws.{state-held, letter-listed}
@@ -31,6 +32,12 @@ pub rows-few : (level : Level) → recordRows level ≤ 32
 unfolding recordRows rowsOf
 rows-few One = omega arith
 rows-few Two = omega arith
+
+-- the rows that a record keeps are those behind the key
+pub rows-kept : (level : Level) → recordRows level + 5 ≡ length (rowsOf level)
+unfolding recordRows rowsOf
+rows-kept One = refl
+rows-kept Two = refl
 
 -- a record ends with its contract's cells, or before
 pub record-inside : (contract : ℕ) (level : Level) → recordAt contract level + recordRows level < recordCells * contract + recordCells
@@ -56,7 +63,7 @@ cells-copied records at level h =
 
 -- ---- the rules
 
-is-some : (o : Option ℕ) → isSome o ≡ true → (i : ℕ) × (o ≡ some i)
+pub is-some : (o : Option ℕ) → isSome o ≡ true → (i : ℕ) × (o ≡ some i)
 is-some none e = absurd (true≢false (sym e))
 is-some (some i) e = (i, refl)
 
@@ -66,7 +73,7 @@ module _ (list rows records : List ℕ) (letter : ℕ) (key : List ℕ) where
 
   pub segment-broken : (r : Refusal) → firstBroken (segmentRules list rows records letter) ≡ some r → firstBroken (recordRules list rows records letter key) ≡ some r
   unfolding recordRules
-  segment-broken r e = one-broken (segmentRules list rows records letter) (listed ∷ []) r e
+  segment-broken r e = front-broken (segmentRules list rows records letter) (listed ∷ []) r e
 
   module _ (e : firstBroken (segmentRules list rows records letter) ≡ none) (i : ℕ) (s : segmentOf list letter ≡ some i) where
     key-place : keyPlace list letter key ≡ placeIn list i key

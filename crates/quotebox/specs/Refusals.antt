@@ -1,8 +1,7 @@
 -- 01, the table of refusals.
 use Prim.Native.Nat.{ℕ}
-use mathlib.Core.Bool.{Bool, cond}
 use mathlib.Core.List.{List, [], _∷_}
-use mathlib.Core.Option.{Option, none, some}
+use Rattle.laws.specs.Rules.{Rule as RuleOf}
 use Rattle.message.specs.declared.head.Fault.{Fault}
 use Rattle.message.specs.declared.head.Fault.the-variants as fault
 use Rattle.quotebox.specs.declared.refusal.Refusal.{Refusal}
@@ -42,11 +41,5 @@ ofFault (fault.Range row) i = Range i row
 ofFault fault.Contract i = Contract i
 
 -- a rule, and the refusal of what breaks it
-pub record Rule : Type 0 where
-  pub holds : Bool
-  pub refusal : Refusal
-
--- the first broken rule decides, in the order of the checks
-abbrev pub firstBroken : List Rule → Option Refusal
-firstBroken [] = none
-firstBroken (rule ∷ rules) = cond (rule .holds) (firstBroken rules) (some (rule .refusal))
+abbrev pub Rule : Type 0
+Rule = RuleOf Refusal

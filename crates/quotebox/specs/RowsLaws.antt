@@ -2,12 +2,14 @@
 use Prim.Native.Nat.{ℕ, _+_, _-_, _*_, _≤_, _<_}
 use mathlib.Core.Path.{_≡_, ap, ap₂, sym, _∙_}
 use mathlib.Core.List.{List, _++_, append-assoc}
+use mathlib.Core.Bool.{true}
 use mathlib.Core.Logic.{⊎-elim}
 use native.Mathlib.Omega.{arith}
 use lib.ListN.{length, take, drop, length-append, length-drop}
 use lib.Seq.{take-at, drop-at, drop-drop, length-take-le, drop-append-le, take-append-le, drop-append-add}
-use Rattle.laws.specs.Order.{order}
+use Rattle.laws.specs.Order.{order, same}
 use Rattle.laws.specs.Lists.{part-of-front}
+use Rattle.sequence.specs.Row.{soundRow}
 use Rattle.quotebox.specs.Memory.{rowCells, rowOf, withRow}
 
 -- a row laid behind those before it
@@ -67,3 +69,9 @@ module _ (rows : List ℕ) (i : ℕ) (row : List ℕ) (room : rowCells * i + row
   pub row-kept : (j : ℕ) → (j ≡ i → ⊥) → rowOf (withRow rows i row) j ≡ rowOf rows j
   row-kept j n =
       ⊎-elim (λ (h : i ≤ j). higher-row j (omega arith)) (λ (h : j < i). lower-row j h) (order i j)
+
+  -- sound rows stay sound where the row that was put is
+  pub sound-with : (n : ℕ) → ((j : ℕ) → j < n → soundRow (rowOf rows j) ≡ true) → soundRow row ≡ true → (j : ℕ) → j < n
+      → soundRow (rowOf (withRow rows i row) j) ≡ true
+  sound-with n each sound j h =
+      ⊎-elim (λ (e : j ≡ i). rw (e, row-put) sound) (λ (d : j ≡ i → ⊥). ap soundRow (row-kept j d) ∙ each j h) (same j i)

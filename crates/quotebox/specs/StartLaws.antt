@@ -3,13 +3,15 @@ use Prim.Native.Nat.{ℕ, zero, suc, _+_, _*_, _≤_, _<_}
 use mathlib.Core.Path.{_≡_, refl, ap, sym, _∙_}
 use mathlib.Core.Bool.{true, false}
 use mathlib.Core.Logic.{_↔_, ⊎-elim}
-use mathlib.Core.List.{List, _∷_, _++_, append-assoc}
+use mathlib.Core.List.{List, _++_, append-assoc}
 use mathlib.Core.Option.{none, some}
 use native.Mathlib.Omega.{arith}
 use native.Mathlib.Numerals.{add-one}
 use borrow.Author.Tests.{le-leb, ltb-true, lt-ltb}
 use lib.Dec.{ltb}
 use lib.ListN.{length, drop, replicate, length-append}
+use Rattle.laws.specs.Rules.{firstBroken}
+use Rattle.laws.specs.RulesLaws.{none-hold}
 use Rattle.laws.specs.Order.{order}
 use Rattle.contracts.specs.BelowLaws.{each-passes, all-pass}
 use Rattle.contracts.specs.File.{segmentsOf}
@@ -18,8 +20,7 @@ use Rattle.contracts.specs.SoundLaws.{sound-exact}
 use Rattle.sequence.specs.Gaps.{begun}
 use Rattle.sequence.specs.RowLaws.{laid-length}
 use Rattle.quotebox.specs.declared.refusal.Refusal.the-variants.{Numbering, List as ListOf}
-use Rattle.quotebox.specs.Refusals.{Rule, firstBroken}
-use Rattle.quotebox.specs.FirstBrokenLaws.{rule-held}
+use Rattle.quotebox.specs.Refusals.{Rule}
 use Rattle.quotebox.specs.Memory.{rowCells, rowsWanted, recordsWanted, rowOf, withRow, memoryRules}
 use Rattle.quotebox.specs.RowsLaws.{row-laid, row-behind}
 use Rattle.quotebox.specs.StateLaws.{memory-lent}
@@ -51,12 +52,11 @@ module _ (list starts : List ℕ) (rows records : ℕ) where
   is-good : firstBroken (startRules list starts rows records) ≡ none → GoodStart list starts rows records
   unfolding startRules eachStarts
   is-good e =
-      let first = rule-held (record { holds = sound list; refusal = ListOf }) (numbers ∷ memoryRules list rows records) e in
-      let second = rule-held numbers (memoryRules list rows records) (first .1) in
-      let room = memory-lent list rows records (second .1) in
+      let h = none-hold (startRules list starts rows records) e in
+      let room = memory-lent list rows records (h .1 .1) in
       record {
-        list-sound = sound-exact list .0 (first .0);
-        started = λ i h. ltb-true 0 (startOf starts i) (each-passes (λ j. ltb 0 (startOf starts j)) (segmentsOf list) (second .0) i h);
+        list-sound = sound-exact list .0 (h .0);
+        started = λ i l. ltb-true 0 (startOf starts i) (each-passes (λ j. ltb 0 (startOf starts j)) (segmentsOf list) (h .1 .0) i l);
         rows-lent = room .0;
         records-lent = room .1;
       }

@@ -1,14 +1,10 @@
 -- What the checks of the handed state answer.
-use Prim.Native.Nat.{ℕ, _≤_, _<_}
+use Prim.Native.Nat.{ℕ}
 use mathlib.Core.Path.{_≡_}
-use mathlib.Core.Bool.{true}
 use mathlib.Core.List.{List, [], _∷_, _++_}
 use mathlib.Core.Option.{Option, none, some}
-use lib.ListN.{length}
-use Rattle.contracts.specs.File.{segmentsOf}
+use Rattle.laws.specs.Rules.{firstBroken}
 use Rattle.contracts.specs.Lookup.{segmentOf}
-use Rattle.contracts.specs.Sound.{Header}
-use Rattle.sequence.specs.Row.{soundRow}
 use Rattle.message.specs.Head.{isSome}
 use Rattle.quotebox.specs.declared.refusal.Refusal.{Refusal}
 use Rattle.quotebox.specs.declared.refusal.Refusal.the-variants.{Code}
@@ -16,8 +12,8 @@ use Rattle.quotebox.specs.declared.state.Checked.{Checked}
 use Rattle.quotebox.specs.declared.state.Checked.the-variants as checked
 use Rattle.quotebox.specs.declared.state.Asked.{Asked}
 use Rattle.quotebox.specs.declared.state.Asked.the-variants as asked
-use Rattle.quotebox.specs.Refusals.{Rule, firstBroken}
-use Rattle.quotebox.specs.Memory.{rowsWanted, recordsWanted, rowOf, stateRules}
+use Rattle.quotebox.specs.Refusals.{Rule}
+use Rattle.quotebox.specs.Memory.{stateRules}
 
 abbrev pub checkedRefusal : Checked → Option Refusal
 checkedRefusal checked.Good = none
@@ -33,10 +29,3 @@ abbrev pub Asks : List ℕ → List ℕ → List ℕ → ℕ → Asked → Type 
 Asks list rows records letter (asked.Segment segment) =
     (firstBroken (segmentRules list rows records letter) ≡ none) × (segmentOf list letter ≡ some segment)
 Asks list rows records letter (asked.Refused refusal) = firstBroken (segmentRules list rows records letter) ≡ some refusal
-
--- the state as it must be handed back: what 16, 15 and 18 ask
-pub record GoodState (list rows records : List ℕ) : Type 0 where
-  pub header : Header list
-  pub rows-lent : rowsWanted list ≤ length rows
-  pub records-lent : recordsWanted list ≤ length records
-  pub rows-sound : (i : ℕ) → i < segmentsOf list → soundRow (rowOf rows i) ≡ true

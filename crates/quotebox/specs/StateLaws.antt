@@ -9,6 +9,8 @@ use native.Mathlib.Omega.{arith}
 use borrow.Author.Tests.{le-leb, leb-true}
 use lib.Dec.{leb}
 use lib.ListN.{length}
+use Rattle.laws.specs.Rules.{firstBroken, Hold}
+use Rattle.laws.specs.RulesLaws.{none-hold, hold-none, front-broken, last-holds, last-broken, last-held}
 use Rattle.contracts.specs.BelowLaws.{each-passes, all-pass}
 use Rattle.contracts.specs.File.{segmentsOf}
 use Rattle.contracts.specs.HeaderLaws.{header-exact}
@@ -18,19 +20,15 @@ use Rattle.contracts.specs.Sound.{headerSound}
 use Rattle.sequence.specs.Row.{soundRow}
 use Rattle.message.specs.Head.{isSome}
 use Rattle.quotebox.specs.declared.refusal.Refusal.{Refusal}
-use Rattle.quotebox.specs.declared.refusal.Refusal.the-variants.{Code, Memory, List as ListOf, State}
-use Rattle.quotebox.specs.Refusals.{Rule, firstBroken}
-use Rattle.quotebox.specs.FirstBrokenLaws.{rule-held, one-broken, last-holds, last-broken, last-held}
+use Rattle.quotebox.specs.declared.refusal.Refusal.the-variants.{Code, List as ListOf, State}
+use Rattle.quotebox.specs.Refusals.{Rule}
 use Rattle.quotebox.specs.Memory.{rowCells, rowsWanted, recordsWanted, rowOf, rowsSound, memoryRules, stateRules}
-use Rattle.quotebox.specs.State.{segmentRules, GoodState}
+use Rattle.quotebox.specs.State.{segmentRules}
+use Rattle.quotebox.specs.GoodState.{GoodState}
 
 -- 15 in its two places
-pub memory-lent : (list : List ℕ) (rows records : ℕ) → firstBroken (memoryRules list rows records) ≡ none → (rowsWanted list ≤ rows) × (recordsWanted list ≤ records)
-memory-lent list rows records e =
-    let more : Rule = record { holds = leb (recordsWanted list) records; refusal = Memory (recordsWanted list) } in
-    let first = rule-held (record { holds = leb (rowsWanted list) rows; refusal = Memory (rowsWanted list) }) (more ∷ []) e in
-    let second = rule-held more [] (first .1) in
-    (leb-true (rowsWanted list) rows (first .0), leb-true (recordsWanted list) records (second .0))
+pub memory-lent : (list : List ℕ) (rows records : ℕ) → Hold (memoryRules list rows records) → (rowsWanted list ≤ rows) × (recordsWanted list ≤ records)
+memory-lent list rows records h = (leb-true (rowsWanted list) rows (h .0), leb-true (recordsWanted list) records (h .1 .0))
 
 module _ (list rows records : List ℕ) where
   abbrev soundness : Rule
@@ -52,7 +50,7 @@ module _ (list rows records : List ℕ) where
     header-holds = rw h
 
     pub memory-broken : (r : Refusal) → firstBroken lent ≡ some r → firstBroken (stateRules list rows records) ≡ some r
-    memory-broken r e = header-holds ∙ one-broken lent (soundness ∷ []) r e
+    memory-broken r e = header-holds ∙ front-broken lent (soundness ∷ []) r e
 
     pub row-broken : firstBroken lent ≡ none → rowsSound (segmentsOf list) rows ≡ false → firstBroken (stateRules list rows records) ≡ some State
     row-broken e s = header-holds ∙ last-broken lent soundness e s
@@ -62,26 +60,31 @@ module _ (list rows records : List ℕ) where
 
   -- ---- 16, 15 and 18 are not given exactly where the state is good
 
+  pub state-exact : Hold (stateRules list rows records) ↔ GoodState list rows records
+  state-exact = (
+    (λ h. record {
+      header = header-exact list .0 (h .0);
+      rows-lent = leb-true (rowsWanted list) (length rows) (h .1 .0);
+      records-lent = leb-true (recordsWanted list) (length records) (h .1 .1 .0);
+      rows-sound = each-passes (λ i. soundRow (rowOf rows i)) (segmentsOf list) (h .1 .1 .1 .0);
+    }),
+    (λ g. (
+      header-exact list .1 (g .header),
+      (
+        le-leb (rowsWanted list) (length rows) (g .rows-lent),
+        (
+          le-leb (recordsWanted list) (length records) (g .records-lent),
+          (all-pass (λ i. soundRow (rowOf rows i)) (segmentsOf list) (g .rows-sound), tt),
+        ),
+      ),
+    )),
+  )
+
   is-good : firstBroken (stateRules list rows records) ≡ none → GoodState list rows records
-  is-good e =
-      let header = rule-held (record { holds = headerSound list; refusal = ListOf }) behind e in
-      let last = last-held lent soundness (header .1) in
-      let room = memory-lent list (length rows) (length records) (last .0) in
-      record {
-        header = header-exact list .0 (header .0);
-        rows-lent = room .0;
-        records-lent = room .1;
-        rows-sound = each-passes (λ i. soundRow (rowOf rows i)) (segmentsOf list) (last .1);
-      }
+  is-good e = state-exact .0 (none-hold (stateRules list rows records) e)
 
-  good-holds : GoodState list rows records → firstBroken (stateRules list rows records) ≡ none
-  good-holds good =
-      state-holds (header-exact list .1 (good .header))
-      (rw (le-leb (rowsWanted list) (length rows) (good .rows-lent), le-leb (recordsWanted list) (length records) (good .records-lent)))
-      (all-pass (λ i. soundRow (rowOf rows i)) (segmentsOf list) (good .rows-sound))
-
-  pub state-exact : firstBroken (stateRules list rows records) ≡ none ↔ GoodState list rows records
-  state-exact = (is-good, good-holds)
+  pub good-unrefused : GoodState list rows records → firstBroken (stateRules list rows records) ≡ none
+  good-unrefused good = hold-none (stateRules list rows records) (state-exact .1 good)
 
   -- ---- the segment that is asked for
 
@@ -91,7 +94,7 @@ module _ (list rows records : List ℕ) where
 
     pub state-broken : (r : Refusal) → firstBroken (stateRules list rows records) ≡ some r → firstBroken (segmentRules list rows records letter) ≡ some r
     unfolding segmentRules
-    state-broken r e = one-broken (stateRules list rows records) (listed ∷ []) r e
+    state-broken r e = front-broken (stateRules list rows records) (listed ∷ []) r e
 
     pub letter-broken : firstBroken (stateRules list rows records) ≡ none → segmentOf list letter ≡ none → firstBroken (segmentRules list rows records letter) ≡ some (Code 0)
     unfolding segmentRules

@@ -4,26 +4,27 @@ use mathlib.Core.Path.{_≡_, refl, ap, sym, _∙_}
 use mathlib.Core.Logic.{_↔_}
 use mathlib.Core.List.{List}
 use native.Mathlib.Omega.{arith}
+use Rattle.laws.specs.Rules.{Broken}
 use Rattle.quotebox.specs.declared.answers.Judged.{Judged}
 use Rattle.quotebox.specs.declared.answers.Judged.the-variants.{Accepted, Refused}
 use Rattle.quotebox.specs.declared.refusal.Refusal.{Refusal}
 use Rattle.quotebox.specs.Answers.{judgedNumbers}
 use Rattle.quotebox.specs.Batch.{Box, Acted, acted, refused, batchActs, batchLetter, countOf, actedNumbers, rowsAfter, recordsAfter}
 use Rattle.quotebox.specs.BatchLaws.{accepted-box, refused-is}
-use Rattle.quotebox.specs.Good.{GoodState, GoodBatch}
+use Rattle.quotebox.specs.Good.{GoodBatch}
+use Rattle.quotebox.specs.GoodState.{GoodState}
 use Rattle.quotebox.specs.LeftLaws.{all-counted, state-left}
 use Rattle.quotebox.specs.Order.{allRules}
 use Rattle.quotebox.specs.OrderLaws.{accepted-exact, refused-exact}
 use Rattle.quotebox.specs.Promises.{JudgedBatch, TookBatch}
-use Rattle.quotebox.specs.RefusalsLaws.{judged-told}
-use Rattle.quotebox.specs.Rules.{Broken}
+use Rattle.quotebox.specs.AnswersLaws.{judged-told}
 
 -- the answer of what a batch does
 abbrev pub answerOf : Acted → Judged
 answerOf (acted box) = Accepted (box .taken) (box .old) (box .heartbeats)
 answerOf (refused refusal) = Refused refusal
 
-answer-numbers : (a : Acted) → judgedNumbers (answerOf a) ≡ actedNumbers a
+pub answer-numbers : (a : Acted) → judgedNumbers (answerOf a) ≡ actedNumbers a
 answer-numbers (acted box) = refl
 answer-numbers (refused refusal) = refl
 

@@ -6,6 +6,7 @@ use mathlib.Core.List.{List, [], _++_}
 use mathlib.Core.Option.{Option, none, some}
 use lib.Dec.{eqb}
 use lib.ListN.{length, drop}
+use Rattle.laws.specs.Rules.{firstBroken}
 use Rattle.sequence.specs.Gaps.{takes, full, after}
 use Rattle.sequence.specs.Row.{gapsOf, laid}
 use Rattle.message.specs.declared.body.What.{What}
@@ -21,7 +22,6 @@ use Rattle.quotebox.specs.Batch.{Box, Acted, acted, refused, unlessBroke
 use Rattle.quotebox.specs.BatchLaws.{inTurn}
 use Rattle.quotebox.specs.Memory.{stateRules, recordAt}
 use Rattle.quotebox.specs.Promises.{JudgedBatch}
-use Rattle.quotebox.specs.Refusals.{firstBroken}
 
 -- what is done, but for the records
 abbrev countsOf : Box → Counts

@@ -37,3 +37,9 @@ pub struct Reading {
     pub answer: Recorded,
     pub quote: Quote,
 }
+
+// The length of the message that was written.
+pub enum Written {
+    Message(usize),
+    Refused(Refusal),
+}

@@ -3,41 +3,14 @@ ghost use mathlib.Core.Path.{_≡_};
 ghost use Prim.Native.Nat.{_+_, _*_, _≤_, _<_};
 ghost use lib.ListN.{length};
 ghost use lib.Seq.{sets};
-ghost use Rattle.layout.specs.Rows.{rowsOf};
 ghost use Rattle.quotebox.specs.Batch.{stored, recordOf};
 ghost use Rattle.quotebox.specs.Memory.{recordAt};
 ghost use Rattle.quotebox.specs.Applies.{Applies, Applied, AppliesAll, AppliedAll};
 use crate::act;
 use crate::act::Act;
-use crate::state;
+use crate::record;
 use layout::Level;
 use message::What;
-
-// The rows of the key, which records don't keep.
-const KEY_ROWS: usize = 5;
-
-// The cells of a level 1 record.
-const LEVEL_ONE: usize = 15;
-
-// Its rows from the market type on.
-fn rows_kept(level: Level) -> usize
-    ensures { λ r. ⌜ r + 5 ≡ length (rowsOf level) ⌝ }
-{
-    match level {
-        Level::One => 14,
-        Level::Two => 32,
-    }
-}
-
-fn record_at(contract: usize, level: Level) -> usize
-    requires { ⌜ contract < 65536 ⌝ }
-    ensures { λ r. ⌜ r ≡ recordAt contract level ⌝ }
-{
-    match level {
-        Level::One => state::RECORD * contract,
-        Level::Two => state::RECORD * contract + LEVEL_ONE,
-    }
-}
 
 fn put(records: &mut [u64], at: usize, cells: &[u64])
     requires { ⌜ at + length (now cells) ≤ length (now records) ⌝ }
@@ -55,11 +28,11 @@ fn store(records: &mut [u64], contract: usize, level: Level, number: u32, cells:
     requires { ⌜ (48 * contract + 48 ≤ length (now records)) × (contract < 65536) × (length (now cells) ≡ 37) ⌝ }
     ensures { λ _. ⌜ now (records .exit) ≡ stored (recordAt contract level) number (recordOf level (now (cells .entry))) (now (records .entry)) ⌝ }
 {
-    let at = record_at(contract, level);
-    let end = KEY_ROWS + rows_kept(level);
+    let at = record::record_at(contract, level);
+    let end = record::KEY_ROWS + record::record_rows(level);
     if records[at] < number as u64 {
         records[at] = number as u64;
-        put(records, at + 1, &cells[KEY_ROWS..end]);
+        put(records, at + 1, &cells[record::KEY_ROWS..end]);
     }
 }
 

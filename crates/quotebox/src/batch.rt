@@ -1,6 +1,6 @@
 // A batch: judged whole on scratch memory, and applied only where every message has passed.
 ghost use mathlib.Core.Path.{_≡_};
-ghost use Rattle.quotebox.specs.Refusals.{firstBroken};
+ghost use Rattle.laws.specs.Rules.{firstBroken};
 ghost use Rattle.quotebox.specs.State.{checkedRefusal};
 ghost use Rattle.quotebox.specs.Acts.{JudgedMessages};
 ghost use Rattle.quotebox.specs.Batch.{batchRules, rowOfLetter};
@@ -13,7 +13,7 @@ use crate::act;
 use crate::answers::Judged;
 use crate::apply;
 use crate::refusal::Refusal;
-use crate::scratch;
+use crate::rows;
 use crate::state;
 use crate::state::Checked;
 use contracts::Found;
@@ -56,7 +56,7 @@ fn judge_data(list: &[u8], rows: &[u32], data: &[u8], count: usize) -> Judged
     ensures { λ r. ⌜ JudgedMessages (now (list .entry)) (letterOf (now («data» .entry))) (rowOfLetter (now (list .entry)) (letterOf (now («data» .entry))) (now (rows .entry))) (now («data» .entry)) count r ⌝ }
 {
     let letter = wire::u8_at(data, 0);
-    let mut row = scratch::row_of(list, rows, letter);
+    let mut row = rows::row_of_letter(list, rows, letter);
     act::judge_messages(list, letter, &mut row, data, count)
 }
 
@@ -86,11 +86,9 @@ fn apply(list: &[u8], rows: &mut [u32], records: &mut [u64], batch: &[u8])
     match contracts::segment_of(list, letter) {
         Found::At(segment) => {
             let before = contracts::contracts_before(list, segment);
-            let mut row = scratch::row_of(list, rows, letter);
+            let mut row = rows::row_of_letter(list, rows, letter);
             apply::apply_messages(list, letter, before, &mut row, records, data, count);
-            let from = sequence::CELLS * segment;
-            let end = from + sequence::CELLS;
-            scratch::copy(&row, &mut rows[from..end]);
+            rows::put_row(rows, segment, &row);
         }
         Found::Nowhere => {}
     }

@@ -15,7 +15,7 @@ use layout::Level;
 use layout::Quote;
 
 // The rows of an update's key, which no record holds.
-const KEY_ROWS: usize = 5;
+pub(crate) const KEY_ROWS: usize = 5;
 
 // Where the records of level 2 begin among a contract's.
 const LEVEL_TWO: usize = 15;
@@ -26,7 +26,7 @@ enum Place {
     Refused(Refusal),
 }
 
-fn record_rows(level: Level) -> usize
+pub(crate) fn record_rows(level: Level) -> usize
     ensures { λ r. ⌜ r ≡ recordRows level ⌝ }
 {
     match level {
@@ -35,7 +35,7 @@ fn record_rows(level: Level) -> usize
     }
 }
 
-fn record_at(contract: usize, level: Level) -> usize
+pub(crate) fn record_at(contract: usize, level: Level) -> usize
     requires { ⌜ contract < 65536 ⌝ }
     ensures { λ r. ⌜ r ≡ recordAt contract level ⌝ }
 {

@@ -3,7 +3,7 @@ ghost use mathlib.Core.Path.{_≡_};
 ghost use mathlib.Core.List.{_++_};
 ghost use Prim.Native.Nat.{_*_, _≤_};
 ghost use lib.ListN.{length, drop, replicate};
-ghost use Rattle.quotebox.specs.Refusals.{firstBroken};
+ghost use Rattle.laws.specs.Rules.{firstBroken};
 ghost use Rattle.quotebox.specs.Memory.{rowCells};
 ghost use Rattle.quotebox.specs.State.{checkedRefusal};
 ghost use Rattle.quotebox.specs.Start.{startOf, eachStarts, startRules, startedRows};

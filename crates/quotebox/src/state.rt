@@ -2,7 +2,7 @@
 ghost use mathlib.Core.Path.{_≡_};
 ghost use Prim.Native.Nat.{_*_, _≤_};
 ghost use lib.ListN.{length};
-ghost use Rattle.quotebox.specs.Refusals.{firstBroken};
+ghost use Rattle.laws.specs.Rules.{firstBroken};
 ghost use Rattle.quotebox.specs.Memory.{rowCells, memoryRules, rowsSound, stateRules};
 ghost use Rattle.quotebox.specs.State.{checkedRefusal, Asks};
 use crate::refusal::Refusal;

@@ -9,7 +9,8 @@ use native.Mathlib.Omega.{arith}
 use borrow.Author.Tests.{lt-leb}
 use lib.Dec.{ltb, eqb}
 use lib.ListN.{length, getD}
-use Rattle.laws.specs.Choice.{clash}
+use Rattle.laws.specs.Rules.{firstBroken}
+use Rattle.laws.specs.RulesLaws.{unlike, front-broken}
 use Rattle.contracts.specs.Sound.{headerSound}
 use Rattle.layout.specs.declared.rows.Level.{Level}
 use Rattle.quotebox.specs.declared.answers.Started.{Started}
@@ -22,16 +23,14 @@ use Rattle.quotebox.specs.declared.refusal.Refusal.{Refusal}
 use Rattle.quotebox.specs.declared.refusal.Refusal.the-variants.{Memory}
 use Rattle.quotebox.specs.Answers.{startedNumbers, judgedNumbers, listedNumbers, writtenOffNumbers, readingNumbers}
 use Rattle.quotebox.specs.Batch.{batchRules, batchActs, refused, actedNumbers}
-use Rattle.quotebox.specs.CallAnswersLaws.{started-told, listed-told, written-off-told, recorded-told, refused-by}
+use Rattle.quotebox.specs.AnswersLaws.{started-told, judged-told, listed-told, written-off-told, recorded-told, refused-by}
 use Rattle.quotebox.specs.Calls.{answered, gapsOfLetter, listRules, listValues, writeOffRules, runValues, lowestRun}
 use Rattle.quotebox.specs.CallPromises.{StartedBox, WroteOffRun}
 use Rattle.quotebox.specs.CallPromisesLaws.{one-started, one-listed, one-written-off, one-reading, start-refusal, off-refusal}
-use Rattle.quotebox.specs.FirstBrokenLaws.{one-broken}
 use Rattle.quotebox.specs.Memory.{rowsWanted, stateRules}
 use Rattle.quotebox.specs.Promises.{TookBatch}
 use Rattle.quotebox.specs.Record.{recordRules, recordOfKey, recordNumber, recordValues}
-use Rattle.quotebox.specs.Refusals.{Rule, firstBroken, refusalNumbers}
-use Rattle.quotebox.specs.RefusalsLaws.{judged-told}
+use Rattle.quotebox.specs.Refusals.{Rule, refusalNumbers}
 use Rattle.quotebox.specs.State.{segmentRules}
 use Rattle.quotebox.specs.StateLaws.{state-broken}
 use Rattle.quotebox.specs.TookLaws.{one-judged, one-took, refused-keeps}
@@ -112,9 +111,6 @@ started-core {list} {starts} {records} {records′} {rows} {rows′} p =
 
 -- ---- a refusal changes no run and no record
 
-no : {r : Refusal} → none ≡ some r → ⊥
-no e = clash (cc)
-
 -- nor is it the answer of an accepted call over numbers
 accepted-never : (list : List ℕ) (lent : ℕ) (r : Refusal) (values : List ℕ) → refusalNumbers r ≡ inRuns list lent (0 ∷ values) → none ≡ some r
 accepted-never list lent r values e = refused-by none values r (e ∙ in-runs-other list lent (0 ∷ values) refl)
@@ -123,21 +119,21 @@ pub started-refused : {list starts records records′ : List ℕ} {rows rows′ 
 started-refused {list} {starts} {records} {records′} {rows} {rows′} r p = go (p .core) (p .started) (p .answers)
   where
     go : (core : Started) → StartedBox list starts (flat rows) records core (flat rows′) records′ → refusalNumbers r ≡ inRuns list (length rows) (startedNumbers core) → (rows′ ≡ rows) × (records′ ≡ records)
-    go Started.Started q e = absurd (no (accepted-never list (length rows) r [] e))
+    go Started.Started q e = absurd (unlike (sym (accepted-never list (length rows) r [] e)))
     go (Started.Refused s) q e = let k = start-refusal s q in (flat-told rows′ rows (k .1), k .2)
 
 pub took-refused : {list records batch records′ : List ℕ} {rows rows′ : List Run} (r : Refusal) → TookRuns list rows records batch (Judged.Refused r) rows′ records′ → (rows′ ≡ rows) × (records′ ≡ records)
 took-refused {list} {records} {batch} {records′} {rows} {rows′} r p = go (p .core) (p .took) (p .answers)
   where
     go : (core : Judged) → TookBatch list (flat rows) records batch core (flat rows′) records′ → refusalNumbers r ≡ inRuns list (length rows) (judgedNumbers core) → (rows′ ≡ rows) × (records′ ≡ records)
-    go (Judged.Accepted taken old heartbeats) q e = absurd (no (accepted-never list (length rows) r (taken ∷ old ∷ heartbeats ∷ []) e))
+    go (Judged.Accepted taken old heartbeats) q e = absurd (unlike (sym (accepted-never list (length rows) r (taken ∷ old ∷ heartbeats ∷ []) e)))
     go (Judged.Refused s) q e = let k = refused-keeps list (flat rows) records batch s (flat rows′) records′ q in (flat-told rows′ rows (k .0), k .1)
 
 pub wrote-off-refused : {list records : List ℕ} {rows rows′ : List Run} {letter : ℕ} (r : Refusal) → WroteOffRuns list rows records letter (WrittenOff.Refused r) rows′ → rows′ ≡ rows
 wrote-off-refused {list} {records} {rows} {rows′} {letter} r p = go (p .core) (p .wrote-off) (p .answers)
   where
     go : (core : WrittenOff) → WroteOffRun list (flat rows) records letter core (flat rows′) → refusalNumbers r ≡ inRuns list (length rows) (writtenOffNumbers core) → rows′ ≡ rows
-    go (WrittenOff.Removed first last) q e = absurd (no (accepted-never list (length rows) r (first ∷ last ∷ []) e))
+    go (WrittenOff.Removed first last) q e = absurd (unlike (sym (accepted-never list (length rows) r (first ∷ last ∷ []) e)))
     go (WrittenOff.Refused s) q e = flat-told rows′ rows (off-refusal s q .1)
 
 -- ---- too few runs: 15 with the runs wanted, once the list's header is sound
@@ -153,7 +149,7 @@ module _ (list : List ℕ) (rows : List Run) (header : headerSound list ≡ true
 
   acts-short : (records batch : List ℕ) → batchActs list (flat rows) records batch ≡ refused (Memory (rowsWanted list))
   unfolding batchActs
-  acts-short records batch = rw (one-broken (stateRules list (flat rows) records) (batchRules batch) (Memory (rowsWanted list)) (state-short records))
+  acts-short records batch = rw (front-broken (stateRules list (flat rows) records) (batchRules batch) (Memory (rowsWanted list)) (state-short records))
 
   pub judged-short : {records batch : List ℕ} (answer : Judged) → JudgedRuns list rows records batch answer → answer ≡ Judged.Refused (Memory (runsWanted list))
   judged-short {records} {batch} answer p =
@@ -165,7 +161,7 @@ module _ (list : List ℕ) (rows : List Run) (header : headerSound list ≡ true
 
   module _ (records : List ℕ) (letter : ℕ) where
     rules-short : (more : List Rule) → firstBroken (segmentRules list (flat rows) records letter ++ more) ≡ some (Memory (rowsWanted list))
-    rules-short more = one-broken (segmentRules list (flat rows) records letter) more (Memory (rowsWanted list)) (state-broken list (flat rows) records letter (Memory (rowsWanted list)) (state-short records))
+    rules-short more = front-broken (segmentRules list (flat rows) records letter) more (Memory (rowsWanted list)) (state-broken list (flat rows) records letter (Memory (rowsWanted list)) (state-short records))
 
     pub wrote-off-short : {rows′ : List Run} (answer : WrittenOff) → WroteOffRuns list rows records letter answer rows′ → answer ≡ WrittenOff.Refused (Memory (runsWanted list))
     unfolding writeOffRules

@@ -10,6 +10,7 @@ use mathlib.Core.Option.{Option, none, some}
 use lib.ListN.{length, drop}
 use lib.Seq.{drop-append-le}
 use Rattle.laws.specs.Choice.{either}
+use Rattle.laws.specs.Rules.{firstBroken}
 use Rattle.contracts.specs.Lookup.{segmentOf}
 use Rattle.contracts.specs.HeaderLaws.{header-exact}
 use Rattle.contracts.specs.File.{segmentsOf}
@@ -36,7 +37,7 @@ use Rattle.quotebox.specs.Memory.{rowsWanted}
 use Rattle.quotebox.specs.Promises.{JudgedBatch, TookBatch}
 use Rattle.quotebox.specs.Start.{startRules, startedRows, rowsStarted, recordsCleared}
 use Rattle.quotebox.specs.State.{segmentRules}
-use Rattle.quotebox.specs.Refusals.{Rule, firstBroken, refusalNumbers}
+use Rattle.quotebox.specs.Refusals.{Rule, refusalNumbers}
 use Rattle.runs.specs.FrontLaws.{most, rows-within, rows-lent, state-front, letter-front, with-front}
 
 told-as : (o : Option Refusal) (values : List ℕ) → o ≡ some ListOf → answered o values ≡ refusalNumbers ListOf

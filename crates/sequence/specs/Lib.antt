@@ -13,4 +13,3 @@ pub mod AnswersLaws
 pub mod Steps
 pub mod Promises
 pub mod PromisesLaws
-pub mod Cases

@@ -1,7 +1,7 @@
 -- 01 "The checksum".
 use Prim.Native.Nat.{ℕ, zero, suc, _+_, _-_, _/_, _%_, _^_}
 use mathlib.Core.List.{List, [], _∷_}
-use mathlib.Core.Bool.{Bool, cond, _||_}
+use mathlib.Core.Bool.{cond, _||_}
 use lib.Bits.{bitXor}
 use lib.Dec.{eqb}
 

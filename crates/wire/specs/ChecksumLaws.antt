@@ -1,16 +1,16 @@
 -- Laws of the checksum: a byte's bits seen at the top of sixteen, and a text's sum one byte at a time.
 use Prim.Native.Nat.{ℕ, zero, suc, _+_, _-_, _*_, _/_, _%_, _^_, _≤_, _<_}
-use mathlib.Core.Path.{_≡_, refl, ap, sym, _∙_}
+use mathlib.Core.Path.{_≡_, ap, sym, _∙_}
 use mathlib.Core.Logic.{_⊎_, inl, inr}
-use mathlib.Core.List.{List, [], _∷_, _++_}
+use mathlib.Core.List.{List}
 use native.Mathlib.Omega.{arith}
 use native.Mathlib.Nat.{mul-div-mul-right, mul-mod-left, add-zero, mul-add, two-pow-succ}
 use lib.Arith.{mod-mul}
-use lib.ListN.{length, getD, take, drop}
+use lib.ListN.{length, getD, drop}
 use lib.Seq.{drop-cons}
 use lib.Pow.{pow-add, pow-pos, field, mod-mod-pow, shl-shr}
 use borrow.Author.Tests.{ne-eqb}
-use Rattle.wire.specs.Checksum.{bits, bitStep, bitSteps, byteStep, sumFrom, sumOf, lowered}
+use Rattle.wire.specs.Checksum.{bits, bitStep, bitSteps, byteStep, sumFrom, lowered}
 
 one-more : (k : ℕ) → 1 + k ≡ suc k
 one-more k = omega arith

@@ -1,4 +1,3 @@
-pub mod Cases
 pub mod Checksum
 pub mod ChecksumLaws
 pub mod Number

@@ -1,10 +1,10 @@
 -- Laws of big-endian numbers, over the width.
 use Prim.Native.Nat.{ℕ, zero, suc, _+_, _-_, _*_, _/_, _%_, _^_, _≤_, _<_}
-use mathlib.Core.Path.{_≡_, refl, ap, sym, _∙_, subst}
+use mathlib.Core.Path.{_≡_, refl, ap, sym, _∙_}
 use mathlib.Core.List.{List, [], _∷_, _++_}
 use native.Mathlib.Omega.{arith}
 use native.Mathlib.Numerals.{add-one}
-use native.Mathlib.Nat.{suc-add, zero-add, add-zero, add-suc, mul-add, mul-assoc, add-mul, mod-lt, mod-one, pow-suc, div-div-eq-div-mul, mul-comm, one-le-pow, add-assoc}
+use native.Mathlib.Nat.{suc-add, zero-add, add-zero, mul-assoc, add-mul, mod-lt, mod-one, pow-suc, div-div-eq-div-mul, mul-comm, one-le-pow, add-assoc}
 use lib.Arith.{mod-mul, digits-div, digits-mod, digits-lt}
 use lib.Pow.{pow-add}
 use lib.ListN.{length, getD, take, set, List·getD-eq-default, length-set}

@@ -8,31 +8,35 @@ use Rattle.laws.specs.Lists.{middle}
 use Rattle.layout.specs.Rows.{rowsOf}
 use Rattle.quotebox.specs.AppliesLaws.{stored-newer, stored-late}
 use Rattle.quotebox.specs.Batch.{recordOf}
-use Rattle.quotebox.specs.MemoryLaws.{record-room}
+use Rattle.quotebox.specs.RecordLaws.{rows-few, rows-kept, record-inside}
 use borrow.Author.Needs.{needs}
 use Rattle.quotebox.proofs.apply.store.Statement.{statement}
 use Rattle.quotebox.proofs.apply.store.Tie as tie
 
 -- what is known of the record's place
-module _ (c : tie.After-rows-kept) where
+module _ (c : tie.After-record-rows) where
   abbrev start : tie.Start
   start = c .before .before .before .before
 
-  room : (c .before .record-at .result + 1 + c .rows-kept .result ≤ length (start .args .records .now)) × (c .rows-kept .result ≤ 32)
-  room =
-      let r = record-room (start .args .contract) (c .rows-kept .result) (start .args .level) (c .rows-kept .ensures) in
-      (omega (arith, r .0, start .pre .0, c .before .record-at .ensures), r .1)
+  kept : c .record-rows .result + 5 ≡ length (rowsOf (start .args .level))
+  kept = ap (λ (k : ℕ). k + 5) (c .record-rows .ensures) ∙ rows-kept (start .args .level)
 
-  kept-cells : take (5 + c .rows-kept .result - 5) (drop 5 (start .args .cells .now)) ≡ recordOf (start .args .level) (start .args .cells .now)
+  room : (c .before .record-at .result + 1 + c .record-rows .result ≤ length (start .args .records .now)) × (c .record-rows .result ≤ 32)
+  room = (
+    omega (arith, record-inside (start .args .contract) (start .args .level), start .pre .0, c .before .record-at .ensures, c .record-rows .ensures),
+    omega (arith, rows-few (start .args .level), c .record-rows .ensures),
+  )
+
+  kept-cells : take (5 + c .record-rows .result - 5) (drop 5 (start .args .cells .now)) ≡ recordOf (start .args .level) (start .args .cells .now)
   kept-cells =
-      let n : 5 + c .rows-kept .result ≡ length (rowsOf (start .args .level)) = omega (arith, c .rows-kept .ensures) in
-      middle (start .args .cells .now) 5 (5 + c .rows-kept .result) (omega (arith, room .1, start .pre .2)) ∙ ap (λ (k : ℕ). drop 5 (take k (start .args .cells .now))) n
+      let n : 5 + c .record-rows .result ≡ length (rowsOf (start .args .level)) = omega (arith, kept) in
+      middle (start .args .cells .now) 5 (5 + c .record-rows .result) (omega (arith, room .1, start .pre .2)) ∙ ap (λ (k : ℕ). drop 5 (take k (start .args .cells .now))) n
 
 record-at-requires : tie.Need-record-at-requires
 record-at-requires c κs = search needs
 
-rows-kept-requires : tie.Need-rows-kept-requires
-rows-kept-requires c κs = search needs
+record-rows-requires : tie.Need-record-rows-requires
+record-rows-requires c κs = search needs
 
 add-end : tie.Need-add-end
 add-end c = omega (arith, room c .1)
@@ -86,7 +90,7 @@ store-spec =
     tie.close
     (tie.spec
     record-at-requires
-    rows-kept-requires
+    record-rows-requires
     add-end
     mul-if1
     slice-read-if1

@@ -4,7 +4,6 @@ use mathlib.Core.Path.{_≡_, ap, sym, _∙_}
 use mathlib.Core.List.{List}
 use mathlib.Core.Option.{some}
 use native.Mathlib.Omega.{arith}
-use borrow.Rule.Slice.PartMut.{putMid}
 use lib.ListN.{length, take, drop}
 use Rattle.contracts.specs.Answers.{placeOf}
 use Rattle.contracts.specs.Lookup.{segmentOf}
@@ -12,7 +11,6 @@ use Rattle.message.specs.Fields.{letterOf}
 use Rattle.sequence.specs.RowLaws.{sound-row-exactly}
 use Rattle.quotebox.specs.AppliedLaws.{front-of, ready-rows, is-listed, applies-all, applied-batch}
 use Rattle.quotebox.specs.Batch.{batchLetter, countOf, dataOf}
-use Rattle.quotebox.specs.MemoryLaws.{put-row, part-length}
 use Rattle.quotebox.specs.MessagesLaws.{rest-is}
 use Rattle.quotebox.specs.ScratchLaws.{segment-inside}
 use borrow.Author.Needs.{needs}
@@ -100,37 +98,16 @@ enum-known-segment c = search needs
 contracts-before-requires : tie.Need-contracts-before-requires
 contracts-before-requires c κs = search needs
 
-row-of-requires : tie.Need-row-of-requires
-row-of-requires c κs = let d = c .before .before .before in ready-rows (list (read d)) (rows (read d)) (records (read d)) (batch (read d)) (start (read d) .pre)
+row-of-letter-requires : tie.Need-row-of-letter-requires
+row-of-letter-requires c κs = let d = c .before .before .before in ready-rows (list (read d)) (rows (read d)) (records (read d)) (batch (read d)) (start (read d) .pre)
 
 apply-messages-requires : tie.Need-apply-messages-requires
-apply-messages-requires c κs = let d = c .before .before .before .before .before .before in applies-all (list (read d)) (rows (read d)) (records (read d)) (batch (read d)) (start (read d) .pre) (letter (read d)) (bytes (read d)) (count (read d)) (letter-is (read d)) (bytes-is (read d)) (count-is (read d)) (segment d) (listed d) _ (c .before .before .row-of .ensures) _ (c .before .before .before .before .contracts-before .ensures)
+apply-messages-requires c κs = let d = c .before .before .before .before .before .before in applies-all (list (read d)) (rows (read d)) (records (read d)) (batch (read d)) (start (read d) .pre) (letter (read d)) (bytes (read d)) (count (read d)) (letter-is (read d)) (bytes-is (read d)) (count-is (read d)) (segment d) (listed d) _ (c .before .before .row-of-letter .ensures) _ (c .before .before .before .before .contracts-before .ensures)
 
-mul-from : tie.Need-mul-from
-mul-from c = omega (arith, inside (c .before .before .before .before .before .before .before .before .before))
-
-add-end : tie.Need-add-end
-add-end c = omega (arith, inside (c .before .before .before .before .before .before .before .before .before))
-
-slice-aggregate-copy : tie.Need-slice-aggregate-copy
-slice-aggregate-copy c = sym (row-length (c .before .before .before))
-
-mul-copy : tie.Need-mul-copy
-mul-copy c = omega (arith, inside (c .before .before .before .before .before .before .before .before .before .before))
-
-sub-copy : tie.Need-sub-copy
-sub-copy c = search needs
-
-part-copy-start : tie.Need-part-copy-start
-part-copy-start c = search needs
-
-part-copy-end : tie.Need-part-copy-end
-part-copy-end c = omega (arith, inside (c .before .before .before .before .before .before .before .before .before .before))
-
-copy-requires : tie.Need-copy-requires
-copy-requires c κs =
+put-row-requires : tie.Need-put-row-requires
+put-row-requires c κs =
     let d = c .before .before .before .before .before .before .before .before .before .before .before in
-    row-length (c .before .before .before .before) ∙ sym (part-length (rows (read d)) (segment d) (inside d))
+    (inside d, row-length (c .before .before .before .before))
 
 enum-told : tie.Need-enum-told
 enum-told c = search needs
@@ -144,8 +121,7 @@ same-length-2 c = search needs
 returns : tie.Need-returns
 returns c =
     let d = c .before .before .before .before .before .before .before .before .before .before .before .before .before .before in
-    applied-batch (list (read d)) (rows (read d)) (records (read d)) (batch (read d)) (start (read d) .pre) (letter (read d)) (bytes (read d)) (count (read d)) (letter-is (read d)) (bytes-is (read d)) (count-is (read d)) (segment d) (listed d) _ (c .before .before .before .before .before .before .before .before .before .before .row-of .ensures) _ _ (c .before .before .before .before .before .before .before .apply-messages .ensures) _
-    (ap (putMid (132 * segment d) (132 * segment d + 132 - 132 * segment d) (rows (read d))) (c .before .before .copy .ensures) ∙ put-row (rows (read d)) _ (segment d))
+    applied-batch (list (read d)) (rows (read d)) (records (read d)) (batch (read d)) (start (read d) .pre) (letter (read d)) (bytes (read d)) (count (read d)) (letter-is (read d)) (bytes-is (read d)) (count-is (read d)) (segment d) (listed d) _ (c .before .before .before .before .before .before .before .before .before .before .row-of-letter .ensures) _ _ (c .before .before .before .before .before .before .before .apply-messages .ensures) _ (c .before .before .put-row .ensures)
 
 returns-2 : tie.Need-returns-2
 returns-2 c =
@@ -165,16 +141,9 @@ apply-spec =
     segment-of-requires
     enum-known-segment
     contracts-before-requires
-    row-of-requires
+    row-of-letter-requires
     apply-messages-requires
-    mul-from
-    add-end
-    slice-aggregate-copy
-    mul-copy
-    sub-copy
-    part-copy-start
-    part-copy-end
-    copy-requires
+    put-row-requires
     enum-told
     same-length
     same-length-2

@@ -3,15 +3,16 @@ use Prim.Native.Nat.{ℕ}
 use mathlib.Core.Path.{_≡_, ap, sym, _∙_}
 use mathlib.Core.List.{List}
 use native.Mathlib.Omega.{arith}
+use Rattle.laws.specs.Rules.{Hold}
+use Rattle.laws.specs.RulesLaws.{none-hold}
 use Rattle.quotebox.specs.Batch.{countOf, batchRules, actedNumbers}
 use Rattle.quotebox.specs.BatchLaws.{state-refuses, front-refuses, messages-decide}
 use Rattle.quotebox.specs.State.{checkedRefusal}
 use Rattle.quotebox.specs.Good.{GoodFront}
-use Rattle.quotebox.specs.GoodLaws.{state-exact, front-exact, rows-ready}
+use Rattle.quotebox.specs.GoodLaws.{front-exact, rows-ready}
+use Rattle.quotebox.specs.StateLaws.{state-exact}
 use Rattle.quotebox.specs.Memory.{stateRules}
 use Rattle.quotebox.specs.MessagesLaws.{rest-is}
-use Rattle.quotebox.specs.Rules.{Hold}
-use Rattle.quotebox.specs.RulesLaws.{none-hold}
 use Rattle.quotebox.specs.Scratch.{RowsReady}
 use borrow.Author.Needs.{needs}
 use Rattle.quotebox.proofs.batch.judge.Statement.{statement}

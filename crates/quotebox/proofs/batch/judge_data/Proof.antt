@@ -9,8 +9,8 @@ use Rattle.quotebox.proofs.batch.judge_data.Tie as tie
 u8-at-requires : tie.Need-u8-at-requires
 u8-at-requires c κs = search needs
 
-row-of-requires : tie.Need-row-of-requires
-row-of-requires c κs = search needs
+row-of-letter-requires : tie.Need-row-of-letter-requires
+row-of-letter-requires c κs = search needs
 
 judge-messages-requires : tie.Need-judge-messages-requires
 judge-messages-requires c κs = search needs
@@ -20,8 +20,8 @@ unfolding letterOf
 letter-is c = c .u8-at .ensures
 
 returns : tie.Need-returns
-returns c = rw (← letter-is (c .before .before .before)) (scratch-judges _ _ _ _ _ _ _ (c .before .before .row-of .ensures) (c .before .before .before .before .before .before .before .pre .1) (c .judge-messages .ensures))
+returns c = rw (← letter-is (c .before .before .before)) (scratch-judges _ _ _ _ _ _ _ (c .before .before .row-of-letter .ensures) (c .before .before .before .before .before .before .before .pre .1) (c .judge-messages .ensures))
 
 pub judge-data-spec : {M : Type 1} → statement M
 judge-data-spec =
-    tie.close (tie.spec u8-at-requires row-of-requires judge-messages-requires returns)
+    tie.close (tie.spec u8-at-requires row-of-letter-requires judge-messages-requires returns)

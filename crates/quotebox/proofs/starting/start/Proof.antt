@@ -6,8 +6,8 @@ use mathlib.Core.Option.{none}
 use native.Mathlib.Omega.{arith}
 use borrow.Author.Needs.{needs}
 use lib.ListN.{length, drop, replicate}
+use Rattle.laws.specs.Rules.{firstBroken}
 use Rattle.contracts.specs.HeaderLaws.{contracts-few}
-use Rattle.quotebox.specs.Refusals.{firstBroken}
 use Rattle.quotebox.specs.Memory.{rowCells, recordCells}
 use Rattle.quotebox.specs.State.{checkedRefusal}
 use Rattle.quotebox.specs.Start.{startRules, startedRows, rowsStarted, recordsCleared}

@@ -2,8 +2,8 @@
 use mathlib.Core.Path.{_≡_, sym, ap, _∙_}
 use mathlib.Core.Option.{none}
 use borrow.Author.Needs.{needs}
+use Rattle.laws.specs.Rules.{firstBroken}
 use Rattle.contracts.specs.Answers.{placeOf}
-use Rattle.quotebox.specs.Refusals.{firstBroken}
 use Rattle.quotebox.specs.Memory.{stateRules}
 use Rattle.quotebox.specs.State.{checkedRefusal}
 use Rattle.quotebox.specs.StateLaws.{state-broken, letter-broken, segment-holds}

@@ -5,8 +5,9 @@ use mathlib.Core.Option.{none}
 use borrow.Author.Needs.{needs}
 use borrow.Author.Tests.{not-true, not-false}
 use lib.ListN.{length}
+use Rattle.laws.specs.RulesLaws.{none-hold}
+use Rattle.laws.specs.Rules.{firstBroken}
 use Rattle.contracts.specs.Sound.{headerSound}
-use Rattle.quotebox.specs.Refusals.{firstBroken}
 use Rattle.quotebox.specs.Memory.{memoryRules, rowsSound}
 use Rattle.quotebox.specs.State.{checkedRefusal}
 use Rattle.quotebox.specs.StateLaws.{list-broken, memory-lent, memory-broken, row-broken, state-holds}
@@ -41,7 +42,7 @@ segments-requires c κs = search needs
 rows-sound-requires : tie.Need-rows-sound-requires
 rows-sound-requires c κs =
     let a = c .before .before .before .before .before .before .before .before .before .args in
-    rw (c .segments .ensures) (memory-lent (a .list .now) (length (a .rows .now)) (length (a .records .now)) (lent (c .before)) .0)
+    rw (c .segments .ensures) (memory-lent (a .list .now) (length (a .rows .now)) (length (a .records .now)) (none-hold (memoryRules (a .list .now) (length (a .rows .now)) (length (a .records .now))) (lent (c .before))) .0)
 
 returns-2 : tie.Need-returns-2
 returns-2 c =

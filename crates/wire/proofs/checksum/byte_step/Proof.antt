@@ -1,5 +1,4 @@
 -- The loop's invariant: the byte's bits that are left stand at the top of `d`, and their steps from `a` give the byte's.
-use borrow.Author.Needs.{needs}
 use Prim.Native.Nat.{ℕ, _≤_, _-_, _+_}
 use mathlib.Core.Path.{_≡_, refl, ap, sym, _∙_}
 use native.Mathlib.Omega.{arith}

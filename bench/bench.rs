@@ -1,0 +1,206 @@
+// Time a message of judging and taking batches: the compiled library beside the independent implementation of the tests, on the
+// same batches in one run. The independent one stands twice, with a checksum of one table byte a step and of sixteen.
+//   bench [ROUNDS]
+#[path = "../tests/feed.rs"]
+mod feed;
+#[path = "../tests/library.rs"]
+mod library;
+#[path = "../tests/random.rs"]
+mod random;
+#[path = "../tests/reference.rs"]
+mod reference;
+
+use feed::Book;
+use random::Random;
+use reference::{Sum, GAP_ROW, RECORD};
+use std::hint::black_box;
+use std::time::Instant;
+
+const LETTER: u8 = b'D';
+const BATCHES: usize = 24;
+const MESSAGES: usize = 64; // in a batch
+
+type Answered = (u32, [u64; 4]);
+
+#[derive(Clone, Copy)]
+enum Box {
+    Ours,
+    Independent(Sum),
+}
+
+const BOXES: [Box; 3] = [Box::Ours, Box::Independent(reference::sum_by_bytes), Box::Independent(reference::sum_by_sixteens)];
+
+struct Memory {
+    rows: Vec<u32>,
+    records: Vec<u64>,
+}
+
+fn told(result: Result<reference::Counts, reference::Refusal>) -> Answered {
+    match result {
+        Ok(counts) => (0, [counts.taken, counts.old, counts.heartbeats, 0]),
+        Err(refusal) => (refusal.number as u32, [refusal.message as u64, refusal.row as u64, refusal.cells as u64, 0]),
+    }
+}
+
+impl Box {
+    fn judge(self, list: &[u8], memory: &mut Memory, batch: &[u8]) -> Answered {
+        let (rows, records) = (&memory.rows, &memory.records);
+        match self {
+            Box::Ours => library::judge(list, rows, records, batch),
+            Box::Independent(sum) => told(reference::judge(sum, list, rows, records, batch)),
+        }
+    }
+
+    fn take(self, list: &[u8], memory: &mut Memory, batch: &[u8]) -> Answered {
+        let (rows, records) = (&mut memory.rows, &mut memory.records);
+        match self {
+            Box::Ours => library::take(list, rows, records, batch),
+            Box::Independent(sum) => told(reference::take(sum, list, rows, records, batch)),
+        }
+    }
+}
+
+struct Feed {
+    list: Vec<u8>,
+    batches: Vec<Vec<u8>>,
+    messages: usize,
+}
+
+fn batches(messages: impl Iterator<Item = Vec<u8>>) -> Vec<Vec<u8>> {
+    messages.collect::<Vec<_>>().chunks(MESSAGES).map(feed::batch).collect()
+}
+
+// An update as an exchange sends it: every row filled, prices to four places.
+fn an_update(r: &mut Random, level: usize, number: u32, key: &feed::Key) -> Vec<u8> {
+    let rows = &reference::layout(level)[reference::MARKET_TYPE_ROW..];
+    let values: Vec<u64> = rows
+        .iter()
+        .map(|&(row, _)| match row {
+            reference::Row::Number(kind) if kind == reference::PRICE => (800_000 + r.below(100_000)) * 1_000,
+            reference::Row::Number(_) => 1 + r.below(10_000_000),
+            reference::Row::MarketType => b'N' as u64,
+            _ => b' ' as u64,
+        })
+        .collect();
+    reference::write_message([LETTER, b'N'], level, number, key, &values, usize::MAX).expect("these can be written")
+}
+
+// Late ones come eight behind their place, and one of forty never.
+fn late_and_missing(count: usize) -> Vec<u32> {
+    let mut numbers: Vec<u32> = (1..=count as u32).filter(|n| n % 40 != 7).collect();
+    for k in (8..numbers.len()).step_by(13) {
+        numbers[k - 8..=k].rotate_left(1);
+    }
+    numbers
+}
+
+// Updates of both levels, and now and then a message that is passed over or a heartbeat, which takes no number.
+fn a_mix(r: &mut Random, keys: &[feed::Key]) -> Vec<Vec<u8>> {
+    let mut messages = vec![];
+    for number in late_and_missing(BATCHES * MESSAGES) {
+        let key = r.pick(keys);
+        match r.below(10) {
+            0 => messages.extend([feed::sealed([LETTER, b'H'], 0, &[]), feed::sealed([LETTER, b'O'], number, b"N")]),
+            1..=5 => messages.push(an_update(r, 1, number, &key)),
+            _ => messages.push(an_update(r, 2, number, &key)),
+        }
+    }
+    batches(messages.into_iter())
+}
+
+fn feeds(r: &mut Random, contracts: usize) -> Vec<(&'static str, Feed)> {
+    let keys = feed::keys(r, contracts);
+    let list = Book { segments: vec![(LETTER, keys.clone())] }.bytes();
+    let numbers = || 1..=(BATCHES * MESSAGES) as u32;
+    let mut updates = |level| {
+        batches(numbers().map(|number| {
+            let key = r.pick(&keys);
+            an_update(r, level, number, &key)
+        }))
+    };
+    let all = [
+        ("level 1", updates(1)),
+        ("level 2", updates(2)),
+        ("heartbeats", batches(numbers().map(|_| feed::sealed([LETTER, b'H'], 0, &[])))),
+        ("a mix, late and missing", a_mix(r, &keys)),
+        ("passed over, 505 bytes", batches(numbers().map(|number| feed::sealed([LETTER, b'B'], number, &[b'x'; 494])))),
+    ];
+    let counted = |batches: &[Vec<u8>]| batches.iter().map(|b| u16::from_be_bytes([b[3], b[4]]) as usize).sum();
+    all.into_iter().map(|(name, batches)| (name, Feed { list: list.clone(), messages: counted(&batches), batches })).collect()
+}
+
+fn started(feed: &Feed, contracts: usize) -> Memory {
+    let mut memory = Memory { rows: vec![0; GAP_ROW], records: vec![0; RECORD * contracts] };
+    reference::start(&feed.list, &[1], &mut memory.rows, &mut memory.records).expect("the list is sound");
+    memory
+}
+
+// Batches timed in one piece. On a busy machine a process is put aside every few milliseconds: a piece must be much shorter, or
+// the slower box meets that in every round and the faster one in few.
+const PIECE: usize = 4;
+
+// One round: all batches in turn, the nanoseconds of each piece and what was answered.
+fn timed(feed: &Feed, memory: &mut Memory, call: impl Fn(&[u8], &mut Memory, &[u8]) -> Answered) -> (Vec<f64>, Vec<Answered>) {
+    let mut answers = Vec::with_capacity(feed.batches.len());
+    let mut times = vec![];
+    for piece in feed.batches.chunks(PIECE) {
+        let begun = Instant::now();
+        for batch in piece {
+            answers.push(call(black_box(&feed.list), memory, black_box(batch)));
+        }
+        times.push(begun.elapsed().as_nanos() as f64);
+    }
+    (times, answers)
+}
+
+// Nanoseconds a message for each box: the best of the rounds for each piece, the boxes in turn so that all meet the same machine.
+fn best(feed: &Feed, contracts: usize, rounds: usize, call: impl Fn(Box, &[u8], &mut Memory, &[u8]) -> Answered) -> [f64; 3] {
+    let pieces = feed.batches.len().div_ceil(PIECE);
+    let mut best = [vec![f64::INFINITY; pieces], vec![f64::INFINITY; pieces], vec![f64::INFINITY; pieces]];
+    for _ in 0..rounds {
+        let mut right = None;
+        for (of, best) in BOXES.into_iter().zip(&mut best) {
+            let mut memory = started(feed, contracts);
+            let (times, answers) = timed(feed, &mut memory, |list, memory, batch| call(of, list, memory, batch));
+            best.iter_mut().zip(times).for_each(|(best, time)| *best = best.min(time));
+            assert!(answers.iter().all(|answer| answer.0 == 0), "a batch is refused");
+            let got = (answers, memory.rows[..feed::live_cells(&memory.rows)].to_vec());
+            assert!(*right.get_or_insert(got.clone()) == got, "the boxes answer differently");
+        }
+    }
+    best.map(|pieces| pieces.iter().sum::<f64>() / feed.messages as f64)
+}
+
+fn checksum_alone(length: usize, rounds: usize) -> f64 {
+    let text = vec![b'7'; length];
+    let one = |_| {
+        let begun = Instant::now();
+        for _ in 0..1_000 {
+            black_box(reference::sum_by_sixteens(black_box(&text)));
+        }
+        begun.elapsed().as_nanos() as f64 / 1_000.0
+    };
+    (0..rounds).map(one).fold(f64::INFINITY, f64::min)
+}
+
+fn main() {
+    let rounds = std::env::args().nth(1).and_then(|n| n.parse().ok()).unwrap_or(60);
+    println!("ns a message, best of {rounds} rounds for each {PIECE} of {BATCHES} batches of {MESSAGES}; the ratio is ours to the independent one's,");
+    println!("whose checksum takes one byte or sixteen a step");
+    println!("{:<24} {:>9} {:>6} {:>8} {:>8} {:>8} {:>7} {:>7}", "messages", "contracts", "", "ours", "by 1", "by 16", "ratio 1", "16");
+    let mut worst: (f64, f64) = (0.0, 0.0);
+    for contracts in [1, 64, 4_096] {
+        let mut r = Random::new(contracts as u64);
+        for (name, feed) in feeds(&mut r, contracts) {
+            let judged = best(&feed, contracts, rounds, Box::judge);
+            let taken = best(&feed, contracts, rounds, Box::take);
+            for (what, [ours, bytes, sixteens]) in [("judge", judged), ("take", taken)] {
+                let ratios = (ours / bytes, ours / sixteens);
+                worst = (worst.0.max(ratios.0), worst.1.max(ratios.1));
+                println!("{name:<24} {contracts:>9} {what:>6} {ours:>8.0} {bytes:>8.0} {sixteens:>8.0} {:>7.2} {:>7.2}", ratios.0, ratios.1);
+            }
+        }
+    }
+    println!("largest ratio {:.2} to one byte a step, {:.2} to sixteen", worst.0, worst.1);
+    println!("the checksum alone, sixteen bytes a step: {:.0} ns for 246 bytes, {:.0} for 502", checksum_alone(246, rounds), checksum_alone(502, rounds));
+}

@@ -1,0 +1,9 @@
+-- What of the program's memory is handed to the calls.
+use Prim.Native.Nat.{ℕ, _≤_}
+use mathlib.Core.List.{List}
+use lib.ListN.{length}
+use Rattle.calls.specs.declared.keep.Lent.{Lent}
+
+-- no more than there is
+abbrev pub Within : Lent → List ℕ → List ℕ → List ℕ → Type 0
+Within lent list rows records = (lent .list ≤ length list) × (lent .rows ≤ length rows) × (lent .records ≤ length records)

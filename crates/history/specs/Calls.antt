@@ -1,0 +1,68 @@
+-- Calls made in turn after a start: what each answers, what it leaves by the definitions that its promise cites, and the past
+-- that they make. Histories that can be computed; `CallsLaws` says that they are histories.
+use Prim.Native.Nat.{ℕ}
+use mathlib.Core.List.{List, [], _∷_, _++_}
+use mathlib.Core.Option.{Option, none, some}
+use lib.ListN.{length}
+use Rattle.laws.specs.Rules.{firstBroken}
+use Rattle.sequence.specs.Runs.{Run}
+use Rattle.quotebox.specs.declared.refusal.Refusal.{Refusal}
+use Rattle.quotebox.specs.declared.answers.WrittenOff.{WrittenOff}
+use Rattle.quotebox.specs.Batch.{Acted, batchActs, batchLetter, actedNumbers, rowsAfter, recordsAfter}
+use Rattle.quotebox.specs.Calls.{answered, leftBy, gapsOfLetter, listRules, listValues, runsPut, writeOffRules, runValues, lowestRun, rowsWrittenOff}
+use Rattle.quotebox.specs.Start.{rowsStarted, recordsCleared}
+use Rattle.quotebox.specs.TookLaws.{answerOf}
+use Rattle.history.specs.Past.{Event, afterTake, afterWriteOff}
+
+-- a batch taken, a write-off of a letter, a listing of a letter's gaps with cells lent
+pub data Call : Type 0 where
+  take : List ℕ → Call
+  writeOff : ℕ → Call
+  listGaps : ℕ → List ℕ → Call
+
+-- the gap rows and records that calls leave, and their past
+pub record Left : Type 0 where
+  pub rows : List ℕ
+  pub records : List ℕ
+  pub past : List Event
+
+abbrev pub startLeaves : List ℕ → List ℕ → List ℕ → List ℕ → Left
+startLeaves list starts rows records = record { rows = rowsStarted list starts rows; records = recordsCleared list records; past = [] }
+
+-- the first broken rule of a write-off
+abbrev pub offBroken : List ℕ → Left → ℕ → Option Refusal
+offBroken list before letter = firstBroken (writeOffRules list (before .rows) (before .records) letter)
+
+abbrev pub offAnswer : Option Refusal → Run → WrittenOff
+offAnswer (some refusal) run = WrittenOff.Refused refusal
+offAnswer none run = WrittenOff.Removed (run .first) (run .last)
+
+abbrev pub batchLeaves : List ℕ → Left → List ℕ → Acted → Left
+batchLeaves list before batch acts =
+    record {
+      rows = rowsAfter list (batchLetter batch) (before .rows) acts;
+      records = recordsAfter (before .records) acts;
+      past = afterTake list batch (answerOf acts) (before .past);
+    }
+
+abbrev pub leaves : List ℕ → Left → Call → Left
+leaves list before (take batch) = batchLeaves list before batch (batchActs list (before .rows) (before .records) batch)
+leaves list before (writeOff letter) =
+    record {
+      rows = leftBy (offBroken list before letter) (before .rows) (rowsWrittenOff list (before .rows) letter);
+      records = before .records;
+      past = afterWriteOff letter (offAnswer (offBroken list before letter) (lowestRun (gapsOfLetter list (before .rows) letter))) (before .past);
+    }
+leaves list before (listGaps letter cells) = before
+
+abbrev pub allLeave : List ℕ → Left → List Call → Left
+allLeave list before [] = before
+allLeave list before (c ∷ cs) = allLeave list (leaves list before c) cs
+
+-- the numbers that a call answers; of a listing also the lent cells afterwards
+abbrev pub answers : List ℕ → Left → Call → List ℕ
+answers list before (take batch) = actedNumbers (batchActs list (before .rows) (before .records) batch)
+answers list before (writeOff letter) = answered (offBroken list before letter) (runValues (lowestRun (gapsOfLetter list (before .rows) letter)))
+answers list before (listGaps letter cells) =
+    answered (firstBroken (listRules list (before .rows) (before .records) letter (length cells))) (listValues (gapsOfLetter list (before .rows) letter))
+    ++ leftBy (firstBroken (listRules list (before .rows) (before .records) letter (length cells))) cells (runsPut (gapsOfLetter list (before .rows) letter) cells)

@@ -1,0 +1,262 @@
+-- Demand 3, "A call is refused for gaps exactly when no earlier rule refuses it and over 64 runs would stand".
+use Prim.Native.Nat.{ℕ, zero, suc, _+_, _≤_}
+use mathlib.Core.Path.{_≡_, refl, sym, ap, subst, _∙_}
+use mathlib.Core.Bool.{Bool, true, false, cond, _&&_}
+use mathlib.Core.List.{List, _∷_}
+use mathlib.Core.Option.{Option, none, some}
+use mathlib.Core.Logic.{_↔_, inl, inr, ⊎-elim}
+use native.Mathlib.Omega.{arith}
+use borrow.Author.Tests.{ltb-true}
+use lib.Dec.{leb, ltb, eqb}
+use lib.ListN.{length, drop}
+use Rattle.laws.specs.Rules.{firstBroken, Hold}
+use Rattle.laws.specs.RulesLaws.{none-hold}
+use Rattle.laws.specs.Choice.{clash, either}
+use Rattle.contracts.specs.Lookup.{segmentOf}
+use Rattle.sequence.specs.Gaps.{Gaps, most, takes, full, runsAfter}
+use Rattle.sequence.specs.Row.{gapsOf}
+use Rattle.message.specs.declared.body.Message.{Message}
+use Rattle.message.specs.declared.body.What.{What}
+use Rattle.message.specs.declared.body.What.the-variants as what
+use Rattle.message.specs.declared.head.Fault.{Fault}
+use Rattle.message.specs.declared.head.Fault.the-variants as fault
+use Rattle.message.specs.declared.head.Head.the-variants.{Good}
+use Rattle.message.specs.Fields.{lengthOf}
+use Rattle.message.specs.Good.{GoodMessage}
+use Rattle.message.specs.GoodLaws.{good-exact}
+use Rattle.message.specs.Message.{messageOf}
+use Rattle.message.specs.Numbers.{verdictOf, numberIn}
+use Rattle.message.specs.RulesLaws.{unlike}
+use Rattle.quotebox.specs.declared.refusal.Refusal.{Refusal}
+use Rattle.quotebox.specs.declared.refusal.Refusal.the-variants.{Size, Packed, Flag, Count, Gaps as GapsOver}
+use Rattle.quotebox.specs.ActsLaws.{acts-as}
+use Rattle.quotebox.specs.Batch.{Box, Acted, acted, refused, stored, contractAt, recordOf, numberActs, messageActs, messagesAct, batchActs, batchRules, batchLetter, boxOf, flagOf, sizeOf, countOf, dataOf}
+use Rattle.quotebox.specs.BatchLaws.{front-refuses, messages-decide}
+use Rattle.quotebox.specs.GoodLaws.{front-exact}
+use Rattle.quotebox.specs.ScratchLaws.{never-good}
+use Rattle.quotebox.specs.StateLaws.{state-exact}
+use Rattle.quotebox.specs.Memory.{recordAt, stateRules}
+use Rattle.quotebox.specs.MessagesLaws.{not-both, messages-next, messages-refused}
+use Rattle.quotebox.specs.Refusals.{ofFault}
+use Rattle.quotebox.specs.Start.{startOf}
+use Rattle.history.specs.Past.{Event, came, isNumbered, numberOf, wroteOffIn, takenOf, comesNew, standingBy, runsStanding}
+use Rattle.history.specs.SegmentLaws.{takes-new, after-standing, fits-standing}
+use Rattle.history.specs.Turn.{BoxFits}
+use Rattle.history.specs.TurnLaws.{taken-here, message-turns}
+use Rattle.history.specs.Exactly.{cameNext, TooMany, OverAt, OverInBatch}
+use Rattle.history.specs.Histories.{Reached}
+use Rattle.history.specs.HoldsLaws.{reached-holds, box-before}
+
+-- ---- which refusals are 14
+
+fault-not-gaps : (f : Fault) (k i : ℕ) → ofFault f k ≡ GapsOver i → ⊥
+fault-not-gaps fault.Frame k i e = clash (cc)
+fault-not-gaps fault.Code k i e = clash (cc)
+fault-not-gaps fault.Trailer k i e = clash (cc)
+fault-not-gaps fault.Length k i e = clash (cc)
+fault-not-gaps fault.Checksum k i e = clash (cc)
+fault-not-gaps fault.Numbering k i e = clash (cc)
+fault-not-gaps (fault.Field row) k i e = clash (cc)
+fault-not-gaps (fault.Range row) k i e = clash (cc)
+fault-not-gaps fault.Contract k i e = clash (cc)
+
+same-refusal : {a b : Refusal} → refused a ≡ refused b → a ≡ b
+same-refusal e = cc
+
+same-place : {k i : ℕ} → GapsOver k ≡ GapsOver i → k ≡ i
+same-place e = cc
+
+-- nor is what stands behind the last message
+end-not-gaps : (box : Box) (i : ℕ) (t : Bool) → cond t (acted box) (refused Count) ≡ refused (GapsOver i) → ⊥
+end-not-gaps box i true e = not-both (sym e)
+end-not-gaps box i false e = let other : Count ≡ GapsOver i = same-refusal e in clash (cc)
+
+-- a number is refused where it would be taken and over 64 runs would stand
+number-fell : (box : Box) (k number : ℕ) (changed : List ℕ → List ℕ) (refusal : Refusal) → numberActs box k number changed ≡ refused refusal
+    → (takes (gapsOf (box .row)) number ≡ true) × (full (gapsOf (box .row)) number ≡ true) × (GapsOver k ≡ refusal)
+number-fell box k number changed refusal e =
+    ⊎-elim (λ (t : takes (gapsOf (box .row)) number ≡ true).
+    ⊎-elim (λ (f : full (gapsOf (box .row)) number ≡ true). (t, f, same-refusal (rw (t, f) at e)))
+    (λ (f : full (gapsOf (box .row)) number ≡ false). absurd (not-both (sym (rw (t, f) at e))))
+    (either (full (gapsOf (box .row)) number)))
+    (λ (t : takes (gapsOf (box .row)) number ≡ false). absurd (not-both (sym (rw t at e))))
+    (either (takes (gapsOf (box .row)) number))
+
+-- ---- one message
+
+module _ (list starts : List ℕ) (letter s : ℕ) (listed : segmentOf list letter ≡ some s) where
+  abbrev start : ℕ
+  start = startOf starts s
+
+  abbrev standing : List Event → ℕ
+  standing past = runsStanding letter start past
+
+  too-many : {n : ℕ} → TooMany n → n ≤ most → ⊥
+  too-many h l = omega arith
+
+  box-standing : (past : List Event) (box : Box) → BoxFits list starts letter s past box → standing past ≤ most
+  box-standing past box f =
+      subst (λ (n : ℕ). n ≤ most) (fits-standing start (takenOf letter start past) (wroteOffIn letter past) (gapsOf (box .row)) (f .gaps-fit)) (f .gaps-fit .sound .few)
+
+  module _ (past : List Event) (box : Box) (f : BoxFits list starts letter s past box) (k : ℕ) (bytes : List ℕ) where
+    abbrev m : Message
+    m = messageOf list letter bytes
+
+    abbrev g : Gaps
+    g = gapsOf (box .row)
+
+    abbrev later : List Event
+    later = came letter m ∷ past
+
+    -- a number that is refused
+    numbered-over : isNumbered (m .what) ≡ true → takes g (numberOf m) ≡ true → full g (numberOf m) ≡ true → TooMany (standing later)
+    numbered-over numbered t over =
+        let earlier : List Message = takenOf letter start past in
+        let new : comesNew start earlier (wroteOffIn letter past) m ≡ true = rw numbered (sym (takes-new start earlier (wroteOffIn letter past) g (f .gaps-fit) (numberOf m)) ∙ t) in
+        let now : takenOf letter start later ≡ m ∷ earlier = taken-here letter start m past ∙ ap (λ (t : Bool). cond t (m ∷ earlier) earlier) new in
+        let count : standing later ≡ length (runsAfter g (numberOf m)) =
+        ap (λ (taken : List Message). standingBy start taken (wroteOffIn letter past)) now ∙ sym (after-standing start earlier (wroteOffIn letter past) g (f .gaps-fit) m)
+        in
+        subst TooMany (sym count) (ltb-true most (length (runsAfter g (numberOf m))) over)
+
+    -- what becomes of message k: it is bad, or it acts and at most 64 runs stand, or over 64 would
+    pub data Comes : Type 0 where
+      bad : (fault : Fault) → messageActs list letter box k bytes ≡ refused (ofFault fault k) → (GoodMessage list letter bytes → ⊥) → Comes
+      goes : (box′ : Box) → messageActs list letter box k bytes ≡ acted box′ → GoodMessage list letter bytes → BoxFits list starts letter s later box′ → Comes
+      over : messageActs list letter box k bytes ≡ refused (GapsOver k) → GoodMessage list letter bytes → TooMany (standing later) → Comes
+
+    numbered-comes : (w : What) → m .what ≡ w → isNumbered w ≡ true → verdictOf w ≡ Good → (changed : List ℕ → List ℕ)
+        → messageActs list letter box k bytes ≡ numberActs box k (numberOf m) changed → Comes
+    numbered-comes w e numbered v changed is = go (messageActs list letter box k bytes) refl
+      where
+        is-good : GoodMessage list letter bytes
+        is-good = good-exact list letter bytes .0 (ap verdictOf e ∙ v)
+
+        go : (a : Acted) → messageActs list letter box k bytes ≡ a → Comes
+        go (acted box′) h = goes box′ h is-good (message-turns list starts letter s listed past box f k bytes box′ h .fits)
+        go (refused refusal) h =
+            let fell = number-fell box k (numberOf m) changed refusal (sym is ∙ h) in
+            over (h ∙ ap refused (sym (fell .2))) is-good (numbered-over (ap isNumbered e ∙ numbered) (fell .0) (fell .1))
+
+    comes : Comes
+    comes = go (m .what) refl
+      where
+        go : (w : What) → m .what ≡ w → Comes
+        go (what.Bad fault) e =
+            bad fault (acts-as list letter bytes m refl e box k) (λ good. unlike (sym (ap verdictOf e) ∙ good-exact list letter bytes .1 good))
+        go what.Heartbeat e =
+            let h = acts-as list letter bytes m refl e box k in
+            goes _ h (good-exact list letter bytes .0 (ap verdictOf e)) (message-turns list starts letter s listed past box f k bytes _ h .fits)
+        go (what.PassedOver number) e =
+            numbered-comes (what.PassedOver number) e refl refl (λ records. records)
+            (acts-as list letter bytes m refl e box k ∙ ap (λ (n : ℕ). numberActs box k n (λ records. records)) (sym (ap numberIn e)))
+        go (what.Update number level place) e =
+            let changed : List ℕ → List ℕ = stored (recordAt (contractAt list letter place) level) number (recordOf level (m .cells)) in
+            numbered-comes (what.Update number level place) e refl refl changed
+            (acts-as list letter bytes m refl e box k ∙ ap (λ (n : ℕ). numberActs box k n changed) (sym (ap numberIn e)))
+
+  -- ---- messages in turn
+
+  pub over-exact : (count k : ℕ) (past : List Event) (box : Box) (bytes : List ℕ) (i : ℕ) → BoxFits list starts letter s past box
+      → messagesAct count list letter k box bytes ≡ refused (GapsOver i) ↔ OverAt count list letter start past k bytes i
+  unfolding messagesAct
+  over-exact zero k past box bytes i f = (end-not-gaps box i (eqb (length bytes) 0), (λ w. absurd w))
+  over-exact (suc more) k past box bytes i f =
+      go (comes past box f k bytes) (λ box′ fit. over-exact more (suc k) (cameNext list letter bytes past) box′ (drop (lengthOf bytes) bytes) i fit)
+    where
+      go : Comes past box f k bytes
+          → ((box′ : Box) → BoxFits list starts letter s (cameNext list letter bytes past) box′
+          → messagesAct more list letter (suc k) box′ (drop (lengthOf bytes) bytes) ≡ refused (GapsOver i) ↔ OverAt more list letter start (cameNext list letter bytes past) (suc k) (drop (lengthOf bytes) bytes) i)
+          → messagesAct (suc more) list letter k box bytes ≡ refused (GapsOver i) ↔ OverAt (suc more) list letter start past k bytes i
+      go (bad fault acts not-good) rest = (
+        (λ e. absurd (fault-not-gaps fault k i (same-refusal (sym (messages-refused list letter more k box bytes (ofFault fault k) acts) ∙ e)))),
+        (λ w. absurd (not-good (w .0))),
+      )
+      go (goes box′ acts good fit) rest =
+          let few = box-standing (cameNext list letter bytes past) box′ fit in
+          let next = messages-next list letter more k box bytes box′ acts in (
+            (λ e. (good, inr (few, rest box′ fit .0 (sym next ∙ e)))),
+            (λ w.
+                ⊎-elim (λ (o : (i ≡ k) × TooMany (standing (cameNext list letter bytes past))). absurd (too-many (o .1) few))
+                (λ (o : (standing (cameNext list letter bytes past) ≤ most) × OverAt more list letter start (cameNext list letter bytes past) (suc k) (drop (lengthOf bytes) bytes) i).
+                next ∙ rest box′ fit .1 (o .1))
+                (w .1)),
+          )
+      go (over acts good many) rest =
+          let stops = messages-refused list letter more k box bytes (GapsOver k) acts in (
+            (λ e. (good, inl (sym (same-place (same-refusal (sym stops ∙ e))), many))),
+            (λ w.
+                ⊎-elim (λ (o : (i ≡ k) × TooMany (standing (cameNext list letter bytes past))). stops ∙ ap (λ (n : ℕ). refused (GapsOver n)) (sym (o .0)))
+                (λ (o : (standing (cameNext list letter bytes past) ≤ most) × OverAt more list letter start (cameNext list letter bytes past) (suc k) (drop (lengthOf bytes) bytes) i).
+                absurd (too-many many (o .0)))
+                (w .1)),
+          )
+
+-- ---- a whole batch
+
+-- no rule before the messages refuses 14
+front-not-gaps : (batch : List ℕ) (i : ℕ) → firstBroken (batchRules batch) ≡ some (GapsOver i) → ⊥
+front-not-gaps batch i e =
+    go (leb 5 (length batch)) (ltb 0 (flagOf batch)) (leb (flagOf batch) 1) (leb (sizeOf batch) 32767 && eqb (length batch) (sizeOf batch + 5)) (ltb 0 (countOf batch)) e
+  where
+    go : (p q r t u : Bool)
+        → cond p (cond q (cond r (cond t (cond u none (some Count)) (some Size)) (some Flag)) (some Packed)) (some Size) ≡ some (GapsOver i)
+        → ⊥
+    go false q r t u e = clash (cc)
+    go true false r t u e = clash (cc)
+    go true true false t u e = clash (cc)
+    go true true true false u e = clash (cc)
+    go true true true true false e = clash (cc)
+    go true true true true true e = clash (cc)
+
+-- where no segment has the letter the first message is bad
+unlisted-not-gaps : (list : List ℕ) (letter : ℕ) → segmentOf list letter ≡ none → (count : ℕ) (box : Box) (bytes : List ℕ) (i : ℕ) → messagesAct count list letter 0 box bytes ≡ refused (GapsOver i) → ⊥
+unfolding messagesAct
+unlisted-not-gaps list letter u zero box bytes i e = end-not-gaps box i (eqb (length bytes) 0) e
+unlisted-not-gaps list letter u (suc more) box bytes i e = go (messageOf list letter bytes .what) refl
+  where
+    go : (w : What) → messageOf list letter bytes .what ≡ w → ⊥
+    go (what.Bad fault) f =
+        fault-not-gaps fault 0 i
+        (same-refusal
+        (sym (messages-refused list letter more 0 box bytes (ofFault fault 0) (acts-as list letter bytes (messageOf list letter bytes) refl f box 0)) ∙ e))
+    go what.Heartbeat f = never-good list letter u bytes (ap verdictOf f)
+    go (what.PassedOver number) f = never-good list letter u bytes (ap verdictOf f)
+    go (what.Update number level place) f = never-good list letter u bytes (ap verdictOf f)
+
+module _ {list starts rows records : List ℕ} {past : List Event} (r : Reached list starts rows records past) (batch : List ℕ) (i : ℕ) where
+  abbrev letter : ℕ
+  letter = batchLetter batch
+
+  state : Hold (stateRules list rows records)
+  state = state-exact list rows records .1 (reached-holds r .state)
+
+  pub acts-over : batchActs list rows records batch ≡ refused (GapsOver i) ↔ OverInBatch list starts past batch i
+  acts-over = (is-over, over-is)
+    where
+      is-over : batchActs list rows records batch ≡ refused (GapsOver i) → OverInBatch list starts past batch i
+      is-over e = front (firstBroken (batchRules batch)) refl
+        where
+          listed : Hold (batchRules batch) → (o : Option ℕ) → segmentOf list letter ≡ o → OverInBatch list starts past batch i
+          listed h none u =
+              absurd (unlisted-not-gaps list letter u (countOf batch) (boxOf list letter rows records) (dataOf batch) i (sym (messages-decide list rows records batch state h) ∙ e))
+          listed h (some s) l =
+              record {
+                front = front-exact batch .0 h;
+                segment = s;
+                listed = l;
+                over =
+                    over-exact list starts letter s l (countOf batch) 0 past (boxOf list letter rows records) (dataOf batch) i (box-before (reached-holds r) batch s l) .0
+                    (sym (messages-decide list rows records batch state h) ∙ e);
+              }
+
+          front : (o : Option Refusal) → firstBroken (batchRules batch) ≡ o → OverInBatch list starts past batch i
+          front none h = listed (none-hold (batchRules batch) h) (segmentOf list letter) refl
+          front (some refusal) h =
+              absurd (front-not-gaps batch i (h ∙ ap some (same-refusal (sym (front-refuses list rows records batch state refusal h) ∙ e))))
+
+      over-is : OverInBatch list starts past batch i → batchActs list rows records batch ≡ refused (GapsOver i)
+      over-is w =
+          messages-decide list rows records batch state (front-exact batch .1 (w .front))
+          ∙ over-exact list starts letter (w .segment) (w .listed) (countOf batch) 0 past (boxOf list letter rows records) (dataOf batch) i
+          (box-before (reached-holds r) batch (w .segment) (w .listed)) .1 (w .over)

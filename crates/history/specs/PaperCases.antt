@@ -1,0 +1,201 @@
+-- 01 "Cases": P1 to P14 as one statement. Each is evaluated by the definitions that the promises cite, and P11 to P13 also by
+-- what the past of their calls says.
+use Prim.Native.Nat.{ℕ, zero, suc, _+_}
+use Prim.Native.String.{String}
+use mathlib.Core.Path.{_≡_, refl}
+use mathlib.Core.Bool.{Bool, cond}
+use mathlib.Core.List.{List, [], _∷_, _++_, map}
+use mathlib.Core.Option.{none}
+use lib.ListN.{length, replicate}
+use Rattle.laws.specs.Rules.{firstBroken}
+use Rattle.laws.specs.Texts.{codes}
+use Rattle.wire.specs.Checksum.{bitStep, byteStep, sumOf, checksumOf}
+use Rattle.amount.specs.Answers.{numberNumbers}
+use Rattle.amount.specs.Kinds.{price, readAs}
+use Rattle.amount.specs.Read.{step, walk, readText}
+use Rattle.amount.specs.Write.{size, sizeIn, textOf}
+use Rattle.layout.specs.declared.rows.Level.the-variants.{Two}
+use Rattle.layout.specs.Quote.{quoteOf, cellsOf}
+use Rattle.layout.specs.Rows.{rowsOf}
+use Rattle.layout.specs.Write.{rowText}
+use Rattle.contracts.specs.Cases.{twoOf, threeKeys}
+use Rattle.contracts.specs.File.{segmentsOf, letterAt, zeroAt, countAt, offsetAt, keyFrom, contractsBefore}
+use Rattle.contracts.specs.Lookup.{segmentOf}
+use Rattle.contracts.specs.Sound.{entrySound, headerSound, bytesSound, keySound, bodySound, sound}
+use Rattle.sequence.specs.Row.{gapsOf, laid, soundRow}
+use Rattle.message.specs.Codes.{takesLength, levelOf}
+use Rattle.message.specs.Fields.{letterOf, secondOf, lengthOf, numberOf, sumSent, endByte, kindIn, rightSum, dataOf as dataIn}
+use Rattle.message.specs.Head.{framed, coded, trailed, summed, headOf}
+use Rattle.message.specs.Message.{keyOf, keyPlace, contentsOf, messageOf}
+use Rattle.quotebox.specs.Batch.{flagOf, sizeOf, countOf, messageActs, messagesAct, batchActs}
+use Rattle.quotebox.specs.Calls.{gapsOfLetter, listRules, runsPut, writeOffRules, rowsWrittenOff}
+use Rattle.quotebox.specs.Start.{eachStarts, startRules, rowsStarted, recordsCleared}
+use Rattle.quotebox.specs.State.{segmentRules}
+use Rattle.quotebox.specs.Writer.{dataWritten, lengthWritten, writeRules}
+use Rattle.history.specs.Past.{Event, isTaken, highestIn, missingIn, runsStanding}
+use Rattle.history.specs.Exactly.{cameNext}
+use Rattle.history.specs.Calls.{Call, Left, take, writeOff, listGaps, startLeaves, allLeave, answers}
+use Rattle.history.specs.CallsLaws.{ReachedBy, start-reached, calls-reached}
+use Rattle.history.specs.ReadBack.{plainBatch}
+use Rattle.history.specs.WrittenCases as writer
+
+-- ---- the box that is asked: D and T listed, each started at 1
+
+abbrev pub list : List ℕ
+list = twoOf 68 84 18 57 threeKeys
+
+abbrev pub T : ℕ
+T = 84
+
+abbrev starts : List ℕ
+starts = 1 ∷ 1 ∷ []
+
+abbrev lentRows : List ℕ
+lentRows = replicate 264 0
+
+abbrev lentRecords : List ℕ
+lentRecords = replicate 144 0
+
+abbrev pub started : Left
+started = startLeaves list starts lentRows lentRecords
+
+start-accepted : firstBroken (startRules list starts (length lentRows) (length lentRecords)) ≡ none
+unfolding startRules eachStarts segmentsOf letterAt zeroAt countAt offsetAt keyFrom contractsBefore entrySound headerSound bytesSound keySound bodySound sound
+start-accepted = refl
+
+-- whatever calls follow, they are a history
+pub a-history : (cs : List Call) → ReachedBy list starts (allLeave list started cs)
+a-history = calls-reached list starts started (start-reached list starts lentRows lentRecords start-accepted)
+
+-- ---- what comes
+
+-- P5: one heartbeat. P6: with size and count exchanged
+abbrev p5 : List ℕ
+p5 = 0x01 ∷ 0x00 ∷ 0x0B ∷ 0x00 ∷ 0x01 ∷ 0x44 ∷ 0x48 ∷ 0x00 ∷ 0x0B ∷ 0x00 ∷ 0x00 ∷ 0x00 ∷ 0x00 ∷ 0x00 ∷ 0x00 ∷ 0x0D ∷ []
+
+abbrev p6 : List ℕ
+p6 = 0x01 ∷ 0x00 ∷ 0x01 ∷ 0x00 ∷ 0x0B ∷ 0x44 ∷ 0x48 ∷ 0x00 ∷ 0x0B ∷ 0x00 ∷ 0x00 ∷ 0x00 ∷ 0x00 ∷ 0x00 ∷ 0x00 ∷ 0x0D ∷ []
+
+-- messages of T that are passed over, with these numbers, each below 256
+abbrev messages : List ℕ → List ℕ
+messages [] = []
+messages (n ∷ ns) = 84 ∷ 69 ∷ 0 ∷ 11 ∷ 0 ∷ 0 ∷ 0 ∷ n ∷ 0 ∷ 0 ∷ 13 ∷ messages ns
+
+-- a batch of them
+abbrev numbers : List ℕ → Call
+numbers ns = take (plainBatch (length ns) (messages ns))
+
+-- so many numbers, each two above the one before
+abbrev twoApart : ℕ → ℕ → List ℕ
+twoApart n zero = []
+twoApart n (suc more) = n ∷ twoApart (n + 2) more
+
+-- runs of one number each, as first and last
+abbrev alone : List ℕ → List ℕ
+alone [] = []
+alone (n ∷ ns) = n ∷ n ∷ alone ns
+
+-- the gaps of T, with so many cells lent
+abbrev gapsIn : ℕ → Call
+gapsIn cells = listGaps T (replicate cells 0)
+
+abbrev p11 : List Call
+p11 = numbers (1 ∷ 2 ∷ 5 ∷ 9 ∷ 4 ∷ []) ∷ []
+
+abbrev p12 : List Call
+p12 = p11 ++ (numbers (7 ∷ []) ∷ [])
+
+abbrev p12-off : List Call
+p12-off = p12 ++ (writeOff T ∷ [])
+
+abbrev p13 : List Call
+p13 = numbers (twoApart 2 64) ∷ []
+
+abbrev p13-130 : List Call
+p13-130 = p13 ++ (numbers (130 ∷ []) ∷ [])
+
+abbrev p13-127 : List Call
+p13-127 = p13-130 ++ (numbers (129 ∷ []) ∷ numbers (127 ∷ []) ∷ [])
+
+-- ---- what is asked, and the answer
+
+-- the numbers below a bound that pass a test, ascending
+abbrev pub those : (ℕ → Bool) → ℕ → List ℕ
+those test zero = []
+those test (suc n) = those test n ++ cond (test n) (n ∷ []) []
+
+pub data Asked : Type 0 where
+  -- a text's sum, and its two bytes as sent
+  sum sent : List ℕ → Asked
+  -- a price's text
+  text : String → Asked
+  -- a call after others
+  call : List Call → Call → Asked
+  -- what the past of calls says of T: its missing numbers, and how many runs they make
+  missing standing : List Call → Asked
+  -- of a number that comes next: 1 where it is taken, and how many runs would stand
+  next : List Call → ℕ → Asked
+  -- the writer, of a message
+  write : writer.Asked → Asked
+
+abbrev pastOf : List Call → List Event
+pastOf cs = allLeave list started cs .past
+
+abbrev answerTo : Asked → List ℕ
+answerTo (sum bytes) = sumOf bytes ∷ []
+answerTo (sent bytes) = checksumOf bytes
+answerTo (text t) = numberNumbers (readAs price (codes t))
+answerTo (call cs c) = answers list (allLeave list started cs) c
+answerTo (missing cs) = those (missingIn T 1 (pastOf cs)) (suc (highestIn T 1 (pastOf cs)))
+answerTo (standing cs) = runsStanding T 1 (pastOf cs) ∷ []
+answerTo (next cs n) = cond (isTaken T 1 (pastOf cs) (messageOf list T (messages (n ∷ [])))) 1 0 ∷ runsStanding T 1 (cameNext list T (messages (n ∷ [])) (pastOf cs)) ∷ []
+answerTo (write a) = writer.answerTo a
+
+pub record Case : Type 0 where
+  pub asked : Asked
+  pub says : List ℕ
+
+unfoldable pub cases : List Case
+cases =
+    record { asked = sum (codes "123456789"); says = 0x31C3 ∷ [] }  -- P1
+    ∷ record { asked = sent (codes "123456789"); says = 0xC3 ∷ 0x31 ∷ [] }
+    ∷ record { asked = sent []; says = 0x00 ∷ 0x00 ∷ [] }  -- P2
+    ∷ record { asked = sent (0x01 ∷ []); says = 0x21 ∷ 0x10 ∷ [] }  -- P3
+    ∷ record { asked = sum (0x32 ∷ []); says = 0x1611 ∷ [] }  -- P4
+    ∷ record { asked = sent (0x32 ∷ []); says = 0x10 ∷ 0x16 ∷ [] }
+    ∷ record { asked = call [] (take p5); says = 0 ∷ 0 ∷ 0 ∷ 1 ∷ [] }  -- P5: none taken, none old, one heartbeat
+    ∷ record { asked = call [] (take p6); says = 1 ∷ 0 ∷ 0 ∷ 0 ∷ [] }  -- P6
+    ∷ record { asked = text "           100.25"; says = 0 ∷ 1_002_500_000 ∷ [] }  -- P7
+    ∷ record { asked = text "99999999999.99999"; says = 0 ∷ 999_999_999_999_999_900 ∷ [] }  -- P8
+    ∷ record { asked = text "100000000000"; says = 12 ∷ [] }  -- P9
+    ∷ record { asked = text "1.00000000"; says = 12 ∷ [] }  -- P10
+    ∷ record { asked = text "100."; says = 11 ∷ [] }
+    ∷ record { asked = text "-1"; says = 11 ∷ [] }
+    ∷ record { asked = call p11 (gapsIn 4); says = 0 ∷ 9 ∷ 2 ∷ 3 ∷ 3 ∷ 6 ∷ 8 ∷ [] }  -- P11: highest 9 and two runs
+    ∷ record { asked = missing p11; says = 3 ∷ 6 ∷ 7 ∷ 8 ∷ [] }
+    ∷ record { asked = call p12 (gapsIn 6); says = 0 ∷ 9 ∷ 3 ∷ alone (3 ∷ 6 ∷ 8 ∷ []) }  -- P12
+    ∷ record { asked = missing p12; says = 3 ∷ 6 ∷ 8 ∷ [] }
+    ∷ record { asked = call p12 (writeOff T); says = 0 ∷ 3 ∷ 3 ∷ [] }
+    ∷ record { asked = call p12-off (numbers (3 ∷ [])); says = 0 ∷ 0 ∷ 1 ∷ 0 ∷ [] }
+    ∷ record { asked = missing p12-off; says = 6 ∷ 8 ∷ [] }
+    ∷ record { asked = next p12-off 3; says = 0 ∷ 2 ∷ [] }
+    ∷ record { asked = call p13 (gapsIn 128); says = 0 ∷ 128 ∷ 64 ∷ alone (twoApart 1 64) }  -- P13: highest 128 and 64 runs
+    ∷ record { asked = standing p13; says = 64 ∷ [] }
+    ∷ record { asked = call p13 (numbers (130 ∷ [])); says = 14 ∷ 0 ∷ 0 ∷ 0 ∷ [] }
+    ∷ record { asked = next p13 130; says = 1 ∷ 65 ∷ [] }
+    ∷ record { asked = call p13-130 (numbers (129 ∷ [])); says = 0 ∷ 1 ∷ 0 ∷ 0 ∷ [] }
+    ∷ record { asked = next p13-130 129; says = 1 ∷ 64 ∷ [] }
+    ∷ record { asked = call p13-127 (gapsIn 126); says = 0 ∷ 129 ∷ 63 ∷ alone (twoApart 1 63) }
+    ∷ record { asked = standing p13-127; says = 63 ∷ [] }
+    ∷ record { asked = write (writer.asked 84 78 Two 1 writer.key 999_999_999_999_999_999 505); says = 12 ∷ 0 ∷ 26 ∷ 0 ∷ [] }  -- P14: at its row
+    ∷ []
+
+unfoldable pub answered : List Case → List (List ℕ)
+answered = map (λ (c : Case). answerTo (c .asked))
+
+unfoldable pub sayings : List Case → List (List ℕ)
+sayings = map (λ (c : Case). c .says)
+
+pub P1-to-P14 : answered cases ≡ sayings cases
+unfolding cases answered sayings bitStep byteStep step walk readText segmentsOf letterAt zeroAt countAt offsetAt contractsBefore segmentOf entrySound headerSound gapsOf laid soundRow takesLength levelOf letterOf secondOf lengthOf numberOf dataIn sumSent endByte kindIn rightSum framed coded trailed summed headOf keyOf keyPlace contentsOf messageOf flagOf sizeOf countOf messageActs messagesAct batchActs gapsOfLetter listRules runsPut writeOffRules rowsWrittenOff rowsStarted recordsCleared segmentRules writeRules lengthWritten dataWritten rowsOf rowText quoteOf cellsOf textOf size sizeIn
+P1-to-P14 = refl

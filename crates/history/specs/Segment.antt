@@ -1,0 +1,18 @@
+-- A segment's gaps beside what its past says: the words of the laws on every step of a history.
+use Prim.Native.Nat.{ℕ, _≤_}
+use mathlib.Core.Path.{_≡_}
+use mathlib.Core.Bool.{Bool, true}
+use mathlib.Core.List.{List}
+use Rattle.sequence.specs.Runs.{missing}
+use Rattle.sequence.specs.Gaps.{Gaps}
+use Rattle.sequence.specs.Sound.{Sound}
+use Rattle.message.specs.declared.body.Message.{Message}
+use Rattle.history.specs.Past.{highestOf, missingBy}
+
+-- gaps that name exactly the missing numbers
+pub record Fits (start : ℕ) (taken : List Message) (written : ℕ → Bool) (g : Gaps) : Type 0 where
+  pub sound : Sound g
+  pub start-is : g .start ≡ start
+  pub highest-is : g .highest ≡ highestOf start taken
+  pub missing-is : (n : ℕ) → missing (g .runs) n ≡ missingBy start taken written n
+  pub written-below : (n : ℕ) → written n ≡ true → n ≤ g .highest

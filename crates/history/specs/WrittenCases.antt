@@ -1,0 +1,55 @@
+-- What the writer answers and writes, by the definitions that its promise cites.
+use Prim.Native.Nat.{ℕ}
+use mathlib.Core.Path.{_≡_, refl}
+use mathlib.Core.List.{List, [], _∷_, map}
+use lib.ListN.{replicate, set}
+use Rattle.laws.specs.Rules.{firstBroken}
+use Rattle.amount.specs.Write.{size, sizeIn, textOf}
+use Rattle.layout.specs.declared.quote.Quote.{Quote}
+use Rattle.layout.specs.declared.rows.Level.{Level}
+use Rattle.layout.specs.declared.rows.Level.the-variants.{One, Two}
+use Rattle.layout.specs.Cells.{none}
+use Rattle.layout.specs.Quote.{quoteOf, cellsOf}
+use Rattle.layout.specs.Rows.{rowsOf}
+use Rattle.layout.specs.Write.{rowText}
+use Rattle.quotebox.specs.declared.writing.Code.{Code}
+use Rattle.quotebox.specs.Calls.{answered}
+use Rattle.quotebox.specs.Writer.{dataWritten, lengthWritten, writeRules, messageBytes}
+
+-- a key of 39 letters, and a quote of market type N and status S whose numbers are all none but the last traded price
+abbrev pub key : List ℕ
+key = replicate 39 65
+
+abbrev quoteAt : ℕ → Quote
+quoteAt last = quoteOf Two (set (set (set (replicate 37 none) 5 78) 28 83) 26 last)
+
+pub record Asked : Type 0 where
+  code : Code
+  level : Level
+  number : ℕ
+  key : List ℕ
+  quote : Quote
+  room : ℕ
+
+abbrev pub asked : ℕ → ℕ → Level → ℕ → List ℕ → ℕ → ℕ → Asked
+asked first second level number key last room =
+    record { code = record { 0 = first; 1 = second }; level = level; number = number; key = key; quote = quoteAt last; room = room }
+
+abbrev pub answerTo : Asked → List ℕ
+answerTo a = answered (firstBroken (writeRules (a .code) (a .level) (a .number) (a .key) (a .quote) (a .room))) (lengthWritten (a .code) (a .level) ∷ [])
+
+-- AN and DX, a heartbeat with a number and an update without one, a byte 31 of the key, P14, a byte too few, and accepted ones
+answers : map answerTo (
+    asked 65 78 Two 1 key none 505 ∷ asked 68 88 Two 1 key none 505 ∷ asked 68 72 Two 1 key none 505 ∷ asked 68 78 Two 0 key none 505
+    ∷ asked 84 78 One 1 (set key 6 31) none 249 ∷ asked 84 78 Two 1 key 999_999_999_999_999_999 505 ∷ asked 84 78 Two 1 key none 504
+    ∷ asked 84 78 Two 1 key none 505 ∷ asked 68 78 One 1 key none 249 ∷ asked 84 72 One 0 [] none 11 ∷ [])
+    ≡ (6 ∷ 0 ∷ 0 ∷ 0 ∷ []) ∷ (6 ∷ 0 ∷ 0 ∷ 0 ∷ []) ∷ (10 ∷ 0 ∷ 0 ∷ 0 ∷ []) ∷ (10 ∷ 0 ∷ 0 ∷ 0 ∷ [])
+    ∷ (11 ∷ 0 ∷ 1 ∷ 0 ∷ []) ∷ (12 ∷ 0 ∷ 26 ∷ 0 ∷ []) ∷ (15 ∷ 0 ∷ 0 ∷ 505 ∷ [])
+    ∷ (0 ∷ 505 ∷ []) ∷ (0 ∷ 249 ∷ []) ∷ (0 ∷ 11 ∷ []) ∷ []
+unfolding writeRules lengthWritten dataWritten rowsOf rowText quoteOf cellsOf textOf size sizeIn
+answers = refl
+
+-- P5's heartbeat
+heartbeat : messageBytes (record { 0 = 68; 1 = 72 }) 0 [] ≡ 68 ∷ 72 ∷ 0 ∷ 11 ∷ 0 ∷ 0 ∷ 0 ∷ 0 ∷ 0 ∷ 0 ∷ 13 ∷ []
+unfolding messageBytes
+heartbeat = refl

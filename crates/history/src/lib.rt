@@ -1,0 +1,1 @@
+// Theorems over every history of public calls; the crate has no code.

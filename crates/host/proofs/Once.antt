@@ -1,0 +1,50 @@
+-- Against the contracts that the check makes of the source: what each function returns, answers and leaves follows from what it is handed.
+use mathlib.Core.Path.{_≡_}
+use contract.Lifetimes.{Lfts}
+use denote.Ref.{now}
+use Rattle.host.specs.PromisesLaws.{start-once, judge-once, take-once, list-once, write-off-once, read-once, write-once}
+use Rattle.host.proofs.calls.quotebox_start.Reads as start
+use Rattle.host.proofs.calls.quotebox_judge.Reads as judge
+use Rattle.host.proofs.calls.quotebox_take.Reads as take
+use Rattle.host.proofs.calls.quotebox_list_gaps.Reads as list-gaps
+use Rattle.host.proofs.calls.quotebox_write_off.Reads as write-off
+use Rattle.host.proofs.calls.quotebox_read_level1.Reads as read-level1
+use Rattle.host.proofs.calls.quotebox_read_level2.Reads as read-level2
+use Rattle.host.proofs.calls.quotebox_write_level1.Reads as write-level1
+use Rattle.host.proofs.calls.quotebox_write_level2.Reads as write-level2
+
+start-outcome : (κs : Lfts 5) (a : _) (r s : _) (x y : _) → start.Post κs a r x → start.Post κs a s y
+    → ((r ≡ s) × (now (x .1 .1 .1 .1 .0) ≡ now (y .1 .1 .1 .1 .0))) × (now (x .1 .1 .0) ≡ now (y .1 .1 .0)) × (now (x .1 .1 .1 .0) ≡ now (y .1 .1 .1 .0))
+start-outcome κs a r s x y p q = start-once p q
+
+judge-outcome : (κs : Lfts 5) (a : _) (r s : _) (x y : _) → judge.Post κs a r x → judge.Post κs a s y
+    → (r ≡ s) × (now (x .1 .1 .1 .1 .0) ≡ now (y .1 .1 .1 .1 .0))
+judge-outcome κs a r s x y p q = judge-once p q
+
+take-outcome : (κs : Lfts 5) (a : _) (r s : _) (x y : _) → take.Post κs a r x → take.Post κs a s y
+    → ((r ≡ s) × (now (x .1 .1 .1 .1 .0) ≡ now (y .1 .1 .1 .1 .0))) × (now (x .1 .0) ≡ now (y .1 .0)) × (now (x .1 .1 .0) ≡ now (y .1 .1 .0))
+take-outcome κs a r s x y p q = take-once p q
+
+list-gaps-outcome : (κs : Lfts 5) (a : _) (r s : _) (x y : _) → list-gaps.Post κs a r x → list-gaps.Post κs a s y
+    → ((r ≡ s) × (now (x .1 .1 .1 .1 .1 .0) ≡ now (y .1 .1 .1 .1 .1 .0))) × (now (x .1 .1 .1 .1 .0) ≡ now (y .1 .1 .1 .1 .0))
+list-gaps-outcome κs a r s x y p q = list-once p q
+
+write-off-outcome : (κs : Lfts 4) (a : _) (r s : _) (x y : _) → write-off.Post κs a r x → write-off.Post κs a s y
+    → ((r ≡ s) × (now (x .1 .1 .1 .1 .0) ≡ now (y .1 .1 .1 .1 .0))) × (now (x .1 .0) ≡ now (y .1 .0))
+write-off-outcome κs a r s x y p q = write-off-once p q
+
+read-level1-outcome : (κs : Lfts 6) (a : _) (r s : _) (x y : _) → read-level1.Post κs a r x → read-level1.Post κs a s y
+    → ((r ≡ s) × (now (x .1 .1 .1 .1 .1 .1 .0) ≡ now (y .1 .1 .1 .1 .1 .1 .0))) × (now (x .1 .1 .1 .1 .1 .0) ≡ now (y .1 .1 .1 .1 .1 .0))
+read-level1-outcome κs a r s x y p q = read-once p q
+
+read-level2-outcome : (κs : Lfts 6) (a : _) (r s : _) (x y : _) → read-level2.Post κs a r x → read-level2.Post κs a s y
+    → ((r ≡ s) × (now (x .1 .1 .1 .1 .1 .1 .0) ≡ now (y .1 .1 .1 .1 .1 .1 .0))) × (now (x .1 .1 .1 .1 .1 .0) ≡ now (y .1 .1 .1 .1 .1 .0))
+read-level2-outcome κs a r s x y p q = read-once p q
+
+write-level1-outcome : (κs : Lfts 5) (a : _) (r s : _) (x y : _) → write-level1.Post κs a r x → write-level1.Post κs a s y
+    → ((r ≡ s) × (now (x .1 .1 .1 .1 .1 .0) ≡ now (y .1 .1 .1 .1 .1 .0))) × (now (x .1 .1 .1 .1 .0) ≡ now (y .1 .1 .1 .1 .0))
+write-level1-outcome κs a r s x y p q = write-once p q
+
+write-level2-outcome : (κs : Lfts 5) (a : _) (r s : _) (x y : _) → write-level2.Post κs a r x → write-level2.Post κs a s y
+    → ((r ≡ s) × (now (x .1 .1 .1 .1 .1 .0) ≡ now (y .1 .1 .1 .1 .1 .0))) × (now (x .1 .1 .1 .1 .0) ≡ now (y .1 .1 .1 .1 .0))
+write-level2-outcome κs a r s x y p q = write-once p q

@@ -1,0 +1,29 @@
+-- The call's own promise, and its answer told.
+use Rattle.quotebox.specs.Answers.{writtenOffNumbers}
+use Rattle.host.specs.ToldLaws.{handed-on}
+use borrow.Author.Needs.{needs}
+use Rattle.host.proofs.calls.quotebox_write_off.Statement.{statement}
+use Rattle.host.proofs.calls.quotebox_write_off.Tie as tie
+
+write-off-requires : tie.Need-write-off-requires
+write-off-requires c κs = search needs
+
+of-written-off-requires : tie.Need-of-written-off-requires
+of-written-off-requires c κs = search needs
+
+tell-requires : tie.Need-tell-requires
+tell-requires c κs = search needs
+
+same-length : tie.Need-same-length
+same-length c = search needs
+
+returns : tie.Need-returns
+returns c =
+    let told = c .before .before in
+    let made = told .before .before .before .write-off in
+    record { written-off = made .result; promised = made .ensures; tells = handed-on (writtenOffNumbers (made .result)) (told .of-written-off .ensures) (c .tell .ensures) }
+
+pub quotebox-write-off-spec : {M : Type 1} → statement M
+quotebox-write-off-spec =
+    tie.close
+    (tie.spec write-off-requires of-written-off-requires tell-requires same-length returns)

@@ -1,0 +1,23 @@
+-- What a host is told of a call, from the numbers of its answer.
+use Prim.Native.Nat.{ℕ}
+use mathlib.Core.Path.{_≡_}
+use mathlib.Core.List.{List, [], _∷_, _++_}
+use lib.ListN.{getD, take, drop, replicate}
+use Rattle.host.specs.declared.told.Told.{Told}
+use Rattle.quotebox.specs.declared.answers.Recorded.{Recorded}
+use Rattle.quotebox.specs.declared.answers.Recorded.the-variants.{Record, NoRecord, Refused}
+use Rattle.quotebox.specs.Refusals.{refusalNumbers}
+
+-- the function returns the refusal's number, 0 for accepted; the four numbers of `answer` are the values behind it, and 0 where there are fewer
+abbrev pub toldOf : List ℕ → Told
+toldOf numbers = record { number = getD numbers 0 0; answer = take 4 (drop 1 numbers ++ replicate 4 0) }
+
+pub record Tells (numbers : List ℕ) (returned : ℕ) (answer : List ℕ) : Type 0 where
+  pub number : returned ≡ toldOf numbers .number
+  pub values : answer ≡ toldOf numbers .answer
+
+-- of a reading: 1 for a record, whose number stands among the values, and 0 where there is none
+abbrev pub recordNumbers : Recorded → List ℕ
+recordNumbers (Record number) = 0 ∷ 1 ∷ []
+recordNumbers NoRecord = 0 ∷ 0 ∷ []
+recordNumbers (Refused refusal) = refusalNumbers refusal

@@ -1,0 +1,116 @@
+// What a host is told of a call: the number that the function returns, and the four numbers of its answer.
+ghost use mathlib.Core.Path.{_≡_};
+ghost use mathlib.Core.List.{_∷_, []};
+ghost use Rattle.host.specs.Told.{toldOf, recordNumbers};
+ghost use Rattle.quotebox.specs.Refusals.{refusalNumbers};
+ghost use Rattle.quotebox.specs.Answers.{startedNumbers, judgedNumbers, listedNumbers, writtenOffNumbers, writtenNumbers};
+use quotebox::Judged;
+use quotebox::Listed;
+use quotebox::Recorded;
+use quotebox::Refusal;
+use quotebox::Started;
+use quotebox::Written;
+use quotebox::WrittenOff;
+
+pub struct Told {
+    pub number: u32,
+    pub answer: [u64; 4],
+}
+
+// No answer has a fourth number.
+fn of_numbers(number: u32, first: usize, second: usize, third: usize) -> Told
+    ensures { λ r. ⌜ r ≡ toldOf (number ∷ first ∷ second ∷ third ∷ []) ⌝ }
+{
+    let answer = [first as u64, second as u64, third as u64, 0];
+    Told { number, answer }
+}
+
+// By the paper's number, with the message, the row and the cells wanted.
+fn of_refusal(refusal: Refusal) -> Told
+    ensures { λ r. ⌜ r ≡ toldOf (refusalNumbers refusal) ⌝ }
+{
+    match refusal {
+        Refusal::Size => of_numbers(1, 0, 0, 0),
+        Refusal::Packed => of_numbers(2, 0, 0, 0),
+        Refusal::Flag => of_numbers(3, 0, 0, 0),
+        Refusal::Count => of_numbers(4, 0, 0, 0),
+        Refusal::Frame(message) => of_numbers(5, message, 0, 0),
+        Refusal::Code(message) => of_numbers(6, message, 0, 0),
+        Refusal::Trailer(message) => of_numbers(7, message, 0, 0),
+        Refusal::Length(message) => of_numbers(8, message, 0, 0),
+        Refusal::Checksum(message) => of_numbers(9, message, 0, 0),
+        Refusal::Numbering(message) => of_numbers(10, message, 0, 0),
+        Refusal::Field(message, row) => of_numbers(11, message, row, 0),
+        Refusal::Range(message, row) => of_numbers(12, message, row, 0),
+        Refusal::Contract(message) => of_numbers(13, message, 0, 0),
+        Refusal::Gaps(message) => of_numbers(14, message, 0, 0),
+        Refusal::Memory(wanted) => of_numbers(15, 0, 0, wanted),
+        Refusal::List => of_numbers(16, 0, 0, 0),
+        Refusal::NoGap => of_numbers(17, 0, 0, 0),
+        Refusal::State => of_numbers(18, 0, 0, 0),
+    }
+}
+
+pub(crate) fn of_started(started: Started) -> Told
+    ensures { λ r. ⌜ r ≡ toldOf (startedNumbers started) ⌝ }
+{
+    match started {
+        Started::Started => of_numbers(0, 0, 0, 0),
+        Started::Refused(refusal) => of_refusal(refusal),
+    }
+}
+
+pub(crate) fn of_judged(judged: Judged) -> Told
+    ensures { λ r. ⌜ r ≡ toldOf (judgedNumbers judged) ⌝ }
+{
+    match judged {
+        Judged::Accepted(taken, old, heartbeats) => of_numbers(0, taken, old, heartbeats),
+        Judged::Refused(refusal) => of_refusal(refusal),
+    }
+}
+
+pub(crate) fn of_listed(listed: Listed) -> Told
+    ensures { λ r. ⌜ r ≡ toldOf (listedNumbers listed) ⌝ }
+{
+    match listed {
+        Listed::Runs(highest, runs) => of_numbers(0, highest as usize, runs, 0),
+        Listed::Refused(refusal) => of_refusal(refusal),
+    }
+}
+
+pub(crate) fn of_written_off(written_off: WrittenOff) -> Told
+    ensures { λ r. ⌜ r ≡ toldOf (writtenOffNumbers «written_off») ⌝ }
+{
+    match written_off {
+        WrittenOff::Removed(first, last) => of_numbers(0, first as usize, last as usize, 0),
+        WrittenOff::Refused(refusal) => of_refusal(refusal),
+    }
+}
+
+// 1 for a record, whose number stands among the values.
+pub(crate) fn of_recorded(recorded: Recorded) -> Told
+    ensures { λ r. ⌜ r ≡ toldOf (recordNumbers recorded) ⌝ }
+{
+    match recorded {
+        Recorded::Record(_) => of_numbers(0, 1, 0, 0),
+        Recorded::NoRecord => of_numbers(0, 0, 0, 0),
+        Recorded::Refused(refusal) => of_refusal(refusal),
+    }
+}
+
+pub(crate) fn of_written(written: Written) -> Told
+    ensures { λ r. ⌜ r ≡ toldOf (writtenNumbers written) ⌝ }
+{
+    match written {
+        Written::Message(length) => of_numbers(0, length, 0, 0),
+        Written::Refused(refusal) => of_refusal(refusal),
+    }
+}
+
+pub(crate) fn tell(told: Told, answer: &mut [u64; 4]) -> u32
+    ensures { λ r. ⌜ (r ≡ told .number) × (now (answer .exit) ≡ told .answer) ⌝ }
+{
+    let cells = told.answer;
+    *answer = cells;
+    told.number
+}

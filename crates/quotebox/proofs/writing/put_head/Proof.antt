@@ -1,0 +1,47 @@
+-- The bytes one behind the other.
+use native.Mathlib.Omega.{arith}
+use Prim.Native.Nat.{ℕ}
+use mathlib.Core.Path.{_≡_, ap, _∙_}
+use mathlib.Core.List.{List}
+use lib.ListN.{length, length-set}
+use lib.Seq.{sets, length-sets}
+use Rattle.wire.specs.Number.{bytesOf}
+use Rattle.quotebox.specs.Writer.{headBytes}
+use borrow.Author.Needs.{needs}
+use Rattle.quotebox.proofs.writing.put_head.Statement.{statement}
+use Rattle.quotebox.proofs.writing.put_head.Tie as tie
+
+put : (c : tie.After-slice-known3) → let a = c .before .before .before .before .before .before .before .before .before .args in
+    c .before .before .put-u32 .last .0 ≡ sets (a .out .now) 0 (headBytes (a .code) (a .whole) (a .number))
+put c =
+    let a = c .before .before .before .before .before .before .before .before .before .args in
+    c .before .before .put-u32 .ensures ∙ ap (λ (s : List ℕ). sets s 4 (bytesOf 4 (a .number))) (c .before .before .before .before .before .before .put-u16 .ensures)
+
+slice-write-out : tie.Need-slice-write-out
+slice-write-out c = search needs
+
+slice-write-out-2 : tie.Need-slice-write-out-2
+slice-write-out-2 c = simp length-set (omega arith)
+
+put-u16-requires : tie.Need-put-u16-requires
+put-u16-requires c κs = search needs
+
+put-u32-requires : tie.Need-put-u32-requires
+put-u32-requires c κs = search needs
+
+same-length : tie.Need-same-length
+same-length c = let a = c .before .before .before .before .before .before .before .before .before .args in ap length (put c) ∙ length-sets (a .out .now) 0 (headBytes (a .code) (a .whole) (a .number))
+
+returns : tie.Need-returns
+returns c = put c
+
+pub put-head-spec : {M : Type 1} → statement M
+put-head-spec =
+    tie.close
+    (tie.spec
+    slice-write-out
+    slice-write-out-2
+    put-u16-requires
+    put-u32-requires
+    same-length
+    returns)

@@ -1,0 +1,239 @@
+-- Laws of writing a message: each check in its turn, and the message laid over the front of the lent bytes.
+use Prim.Native.Nat.{ℕ, suc, _+_, _-_, _≤_, _<_}
+use mathlib.Core.Path.{_≡_, refl, ap, sym, _∙_}
+use mathlib.Core.Bool.{true, false}
+use mathlib.Core.List.{List, [], _∷_, _++_, append-assoc}
+use mathlib.Core.Option.{Option, none, some}
+use native.Mathlib.Omega.{arith}
+use borrow.Author.Tests.{le-leb, lt-leb}
+use borrow.Rule.Slice.PartMut.{midOf, putMid, post-is, mid-len}
+use lib.ListN.{length, getD, set, take, drop, length-append, length-drop}
+use lib.Seq.{sets, sets-eq, take-nil, take-all, take-at, drop-append-add, drop-drop}
+use Rattle.laws.specs.Rules.{firstBroken}
+use Rattle.laws.specs.RulesLaws.{front-holds, none-hold, front-broken}
+use Rattle.layout.specs.declared.quote.Quote.{Quote}
+use Rattle.layout.specs.declared.read.Verdict.{Verdict}
+use Rattle.layout.specs.declared.read.Verdict.the-variants as verdict
+use Rattle.layout.specs.declared.rows.Level.{Level}
+use Rattle.layout.specs.Rows.{dataLength, rowsOf}
+use Rattle.layout.specs.RowsLaws.{data-fits}
+use Rattle.layout.specs.Quote.{cellsOf}
+use Rattle.layout.specs.Write.{Laid, laid, whereGood, WritesUpdate, writeRows}
+use Rattle.layout.specs.WriteLaws.{good-length}
+use Rattle.layout.specs.PutLaws.{laid-whole}
+use Rattle.message.specs.declared.codes.Kind.{Kind}
+use Rattle.message.specs.declared.codes.Kind.the-variants.{Heartbeat, Update, PassedOver}
+use Rattle.message.specs.Codes.{kindOf, bareLength}
+use Rattle.message.specs.Head.{takesNumber}
+use Rattle.quotebox.specs.declared.answers.Written.{Written}
+use Rattle.quotebox.specs.declared.refusal.Refusal.{Refusal}
+use Rattle.quotebox.specs.declared.refusal.Refusal.the-variants.{Code as CodeOver, Numbering, Memory}
+use Rattle.quotebox.specs.declared.state.Checked.{Checked}
+use Rattle.quotebox.specs.declared.state.Checked.the-variants as checked
+use Rattle.quotebox.specs.declared.writing.Code.{Code}
+use Rattle.quotebox.specs.Calls.{answered, leftBy}
+use Rattle.quotebox.specs.Refusals.{Rule}
+use Rattle.quotebox.specs.State.{checkedRefusal}
+use Rattle.quotebox.specs.Writer.{inTable, codeRules, rowsWritten, dataWritten, rowsRules, roomRules, lengthWritten, writeRules, headBytes, sumWritten, endByte, beforeTrailer, messageBytes, messagePut, LaysRows, PutsMessage}
+use Rattle.quotebox.specs.WriterPromises.{WroteMessage}
+
+-- ---- the code
+
+module _ (code : Code) (number : ℕ) where
+  pub other-code : inTable code ≡ false → firstBroken (codeRules code number) ≡ some (CodeOver 0)
+  other-code e = rw e
+
+  module _ (e : inTable code ≡ true) where
+    pub other-number : takesNumber (kindOf (code .1)) number ≡ false → firstBroken (codeRules code number) ≡ some (Numbering 0)
+    other-number f = rw (e, f)
+
+    pub code-holds : takesNumber (kindOf (code .1)) number ≡ true → firstBroken (codeRules code number) ≡ none
+    code-holds f = rw (e, f)
+
+-- ---- the rows
+
+-- where there is no row nothing is laid
+pub no-rows : (kind : Kind) (level : Level) (key : List ℕ) (quote : Quote) (before : List ℕ) → rowsWritten kind level ≡ []
+    → LaysRows (dataWritten kind level key quote) before checked.Good before
+unfolding dataWritten
+no-rows kind level key quote before e = rw e (record { answers = refl; leaves = sym (rw (take-nil (length before))) })
+
+-- an update's rows
+pub update-rows : (kind : Kind) (level : Level) (key : List ℕ) (quote : Quote) {before after : List ℕ} {v : Verdict} {answer : Checked} → kind ≡ Update
+    → WritesUpdate (writeRows 0 (rowsOf level) key (cellsOf level quote)) before v after → checkedRefusal answer ≡ firstBroken (rowsRules v)
+    → LaysRows (dataWritten kind level key quote) before answer after
+unfolding dataWritten
+update-rows kind level key quote e wrote told =
+    rw e (record { answers = told ∙ ap (λ v. firstBroken (rowsRules v)) (wrote .answers); leaves = wrote .leaves })
+
+pub rows-pass : (v : Verdict) → firstBroken (rowsRules v) ≡ none → v ≡ verdict.Good
+rows-pass verdict.Good e = refl
+rows-pass (verdict.Field row) e = cc
+rows-pass (verdict.Range row) e = cc
+
+pub data-small : (kind : Kind) (level : Level) → dataLength (rowsWritten kind level) ≤ 494
+data-small Heartbeat level = omega arith
+data-small Update level = data-fits level
+data-small PassedOver level = omega arith
+
+-- good rows are as long as they are wide
+pub long-data : (code : Code) (level : Level) (key : List ℕ) (quote : Quote) → dataWritten (kindOf (code .1)) level key quote .verdict ≡ verdict.Good
+    → length (dataWritten (kindOf (code .1)) level key quote .bytes) ≡ dataLength (rowsWritten (kindOf (code .1)) level)
+unfolding dataWritten
+long-data code level key quote good = good-length 0 (rowsWritten (kindOf (code .1)) level) key (cellsOf level quote) good
+
+-- ---- the message in front
+
+pub sum-two : (kind : Kind) (bytes : List ℕ) → length (sumWritten kind bytes) ≡ 2
+sum-two Heartbeat bytes = refl
+sum-two Update bytes = refl
+sum-two PassedOver bytes = refl
+
+-- "The length counts the whole message"
+pub message-long : (code : Code) (number : ℕ) (bytes : List ℕ) → length (messageBytes code number bytes) ≡ length bytes + bareLength
+unfolding messageBytes
+message-long code number bytes =
+    let two = sum-two (kindOf (code .1)) (beforeTrailer code number bytes) in
+    simp (length-append, two) (omega arith)
+
+-- what is stored behind what stands in front already
+stored-behind : (front bytes out : List ℕ) (n : ℕ) → length front ≡ n → n + length bytes ≤ length out
+    → sets (front ++ drop n out) n bytes ≡ (front ++ bytes) ++ drop (n + length bytes) out
+stored-behind front bytes out n e room =
+    let s : List ℕ = front ++ drop n out in
+    let there : n + length bytes ≤ length s = simp (length-append, length-drop) (omega arith) in
+    let rest : drop (n + length bytes) s ≡ drop (n + length bytes) out =
+    ap (λ (k : ℕ). drop (k + length bytes) s) (sym e) ∙ drop-append-add front (drop n out) (length bytes) ∙ drop-drop (length bytes) n out in
+    sets-eq bytes s n there ∙ rw (take-at front (drop n out) n e, rest)
+
+-- two bytes and one behind them
+pub stored-three : (two out : List ℕ) (at last : ℕ) → length two ≡ 2
+    → set (set (set out at (getD two 0 0)) (at + 1) (getD two 1 0)) (at + 2) last ≡ sets out at (two ++ (last ∷ []))
+stored-three [] out at last e = absurd (omega arith)
+stored-three (a ∷ []) out at last e = absurd (omega arith)
+stored-three (a ∷ b ∷ []) out at last e =
+    let one : at + 1 ≡ suc at = omega arith in
+    let more : at + 2 ≡ suc (suc at) = omega arith in
+    rw (one, more)
+stored-three (a ∷ b ∷ c ∷ rest) out at last e = absurd (omega arith)
+
+-- bytes put into their part
+pub part-put : (bytes out : List ℕ) (n : ℕ) → n ≡ length bytes → 8 + n ≤ length out
+    → putMid 8 (8 + n - 8) out (laid bytes (midOf 8 (8 + n - 8) out)) ≡ sets out 8 bytes
+part-put bytes out n e room =
+    let part : length bytes ≡ length (midOf 8 (8 + n - 8) out) = sym (mid-len 8 (8 + n) out room ∙ omega arith) in
+    rw (laid-whole bytes (midOf 8 (8 + n - 8) out) part, post-is 8 (8 + n) out (omega arith), e)
+    (sym (append-assoc (take 8 out) bytes (drop (8 + length bytes) out)) ∙ sym (sets-eq bytes out 8 (omega arith)))
+
+module _ (code : Code) (number : ℕ) (bytes out : List ℕ) (room : length bytes + bareLength ≤ length out) where
+  abbrev whole : ℕ
+  whole = length bytes + bareLength
+
+  abbrev before : List ℕ
+  before = beforeTrailer code number bytes
+
+  before-long : length before ≡ 8 + length bytes
+  before-long = length-append (headBytes code whole number) bytes
+
+  -- head and data
+  begins : sets (sets out 0 (headBytes code whole number)) 8 bytes ≡ before ++ drop (8 + length bytes) out
+  begins =
+      let head : List ℕ = headBytes code whole number in
+      let first : sets out 0 head ≡ head ++ drop 8 out = sets-eq head out 0 (omega arith) in
+      ap (λ (s : List ℕ). sets s 8 bytes) first ∙ stored-behind head bytes out 8 refl (omega arith)
+
+  -- and the trailer behind them
+  all-put : sets (sets (sets out 0 (headBytes code whole number)) 8 bytes) (8 + length bytes)
+      (sumWritten (kindOf (code .1)) (take (8 + length bytes) (sets (sets out 0 (headBytes code whole number)) 8 bytes)) ++ (endByte ∷ []))
+      ≡ messagePut code number bytes out
+  unfolding messageBytes messagePut
+  all-put =
+      let end : ℕ = 8 + length bytes in
+      let trailer : List ℕ = sumWritten (kindOf (code .1)) before ++ (endByte ∷ []) in
+      let two = sum-two (kindOf (code .1)) before in
+      let three : length trailer ≡ 3 = length-append (sumWritten (kindOf (code .1)) before) (endByte ∷ []) ∙ omega arith in
+      let last : end + length trailer ≡ whole = omega arith in
+      ap (λ (s : List ℕ). sets s end (sumWritten (kindOf (code .1)) (take end s) ++ (endByte ∷ []))) begins
+      ∙ ap (λ (s : List ℕ). sets (before ++ drop end out) end (sumWritten (kindOf (code .1)) s ++ (endByte ∷ []))) (take-at before (drop end out) end before-long)
+      ∙ stored-behind before trailer out end before-long (omega arith)
+      ∙ ap (λ (n : ℕ). (before ++ trailer) ++ drop n out) last
+
+  puts : {out′ : List ℕ} → out′ ≡ messagePut code number bytes out → PutsMessage code number bytes out (Written.Message whole) out′
+  puts e = let t = le-leb whole (length out) room in record { answers = rw t; leaves = rw t e }
+
+-- head, data and trailer as they are stored
+pub message-put : (code : Code) (number : ℕ) (bytes out : List ℕ) (n : ℕ) → length bytes ≡ n → n + bareLength ≤ length out → (kind : Kind) {headed filled out′ : List ℕ}
+    → headed ≡ sets out 0 (headBytes code (n + bareLength) number) → filled ≡ sets headed 8 bytes → kind ≡ kindOf (code .1)
+    → out′ ≡ sets filled (8 + n) (sumWritten kind (take (8 + n) filled) ++ (endByte ∷ [])) → PutsMessage code number bytes out (Written.Message (n + bareLength)) out′
+message-put code number bytes out n e room kind {headed} {filled} first second is third =
+    let trailed : List ℕ → Kind → List ℕ = λ (s : List ℕ) (k : Kind). sets s (8 + length bytes) (sumWritten k (take (8 + length bytes) s) ++ (endByte ∷ [])) in
+    let head : headed ≡ sets out 0 (headBytes code (length bytes + bareLength) number) = rw (← e) at first in
+    let data-in : filled ≡ sets (sets out 0 (headBytes code (length bytes + bareLength) number)) 8 bytes = second ∙ ap (λ (s : List ℕ). sets s 8 bytes) head in
+    rw (← e)
+    (puts code number bytes out (rw (← e) at room)
+    ((rw (← e) at third) ∙ ap (trailed filled) is ∙ ap (λ (s : List ℕ). trailed s (kindOf (code .1))) data-in ∙ all-put code number bytes out (rw (← e) at room)))
+
+pub no-room : (code : Code) (number : ℕ) (bytes out : List ℕ) (n : ℕ) → n ≡ length bytes + bareLength → length out < n
+    → PutsMessage code number bytes out (Written.Refused (Memory n)) out
+no-room code number bytes out n e h =
+    let t : _ = lt-leb (length bytes + bareLength) (length out) (omega arith) in
+    rw e (record { answers = rw t; leaves = rw t })
+
+-- ---- the checks in their order
+
+module _ (code : Code) (level : Level) (number : ℕ) (key : List ℕ) (quote : Quote) (out : List ℕ) where
+  abbrev rows : Laid
+  rows = dataWritten (kindOf (code .1)) level key quote
+
+  abbrev broken : Option Refusal
+  broken = firstBroken (writeRules code level number key quote (length out))
+
+  refuses : (r : Refusal) → broken ≡ some r → WroteMessage code level number key quote out (Written.Refused r) out
+  refuses r e =
+      record {
+        answers = sym (ap (λ (o : Option Refusal). answered o (lengthWritten code level ∷ [])) e);
+        out-left = sym (ap (λ (o : Option Refusal). leftBy o out (messagePut code number (rows .bytes) out)) e);
+      }
+
+  abbrev behind : List Rule
+  behind = roomRules (lengthWritten code level) (length out)
+
+  pub code-refused : (r : Refusal) → firstBroken (codeRules code number) ≡ some r → WroteMessage code level number key quote out (Written.Refused r) out
+  unfolding writeRules
+  code-refused r e = refuses r (front-broken (codeRules code number) (rowsRules (rows .verdict) ++ behind) r e)
+
+  module _ (coded : firstBroken (codeRules code number) ≡ none) where
+    pub rows-refused : (r : Refusal) → firstBroken (rowsRules (rows .verdict)) ≡ some r → WroteMessage code level number key quote out (Written.Refused r) out
+    unfolding writeRules
+    rows-refused r e =
+        refuses r (front-holds (codeRules code number) (rowsRules (rows .verdict) ++ behind) (none-hold (codeRules code number) coded) ∙ front-broken (rowsRules (rows .verdict)) behind r e)
+
+    module _ (good : firstBroken (rowsRules (rows .verdict)) ≡ none) where
+      pub long-rows : length (rows .bytes) ≡ dataLength (rowsWritten (kindOf (code .1)) level)
+      long-rows = long-data code level key quote (rows-pass (rows .verdict) good)
+
+      -- the rows as they lie on scratch memory
+      pub laid-rows : {before after : List ℕ} → length (rows .bytes) ≤ length before → LaysRows rows before checked.Good after
+          → take (dataLength (rowsWritten (kindOf (code .1)) level)) after ≡ rows .bytes
+      laid-rows {before} room l =
+          let n : ℕ = dataLength (rowsWritten (kindOf (code .1)) level) in
+          let front : laid (rows .bytes) before ≡ rows .bytes ++ drop (length (rows .bytes)) before =
+          ap (λ (b : List ℕ). b ++ drop (length (rows .bytes)) before) (take-all (length before) (rows .bytes) room) in
+          ap (take n)
+          (l .leaves ∙ ap (λ v. whereGood v (laid (rows .bytes) before) before) (rows-pass (rows .verdict) good) ∙ front)
+          ∙ take-at (rows .bytes) (drop (length (rows .bytes)) before) n long-rows
+
+      pub sent : {answer : Written} {out′ : List ℕ} → PutsMessage code number (rows .bytes) out answer out′ → WroteMessage code level number key quote out answer out′
+      unfolding writeRules lengthWritten
+      sent p =
+          let decides = front-holds (codeRules code number) (rowsRules (rows .verdict) ++ behind) (none-hold (codeRules code number) coded) ∙ front-holds (rowsRules (rows .verdict)) behind (none-hold (rowsRules (rows .verdict)) good) in
+          let same : length (rows .bytes) + bareLength ≡ lengthWritten code level = ap (λ (n : ℕ). n + bareLength) long-rows in
+          let put : List ℕ = messagePut code number (rows .bytes) out in
+          record {
+            answers =
+                p .answers ∙ ap (λ (n : ℕ). answered (firstBroken (roomRules n (length out))) (n ∷ [])) same
+                ∙ sym (ap (λ (o : Option Refusal). answered o (lengthWritten code level ∷ [])) decides);
+            out-left =
+                p .leaves ∙ ap (λ (n : ℕ). leftBy (firstBroken (roomRules n (length out))) out put) same
+                ∙ sym (ap (λ (o : Option Refusal). leftBy o out put) decides);
+          }

@@ -1,0 +1,98 @@
+// Makes the feed of the demonstration with the box's own writer, asked through the program `calls`.
+//   make FOLDER PROGRAM...      writes FOLDER/contracts and FOLDER/feed
+#[path = "../tests/asks.rs"]
+mod asks;
+#[path = "../tests/feed.rs"]
+mod feed;
+#[allow(dead_code)] // feed needs it
+#[path = "../tests/random.rs"]
+mod random;
+#[path = "../tests/reference.rs"]
+mod reference;
+
+use asks::Ask;
+use feed::{Book, Key};
+use reference::NONE;
+use std::fs;
+use std::io::Write;
+use std::path::Path;
+use std::process::{Command, Stdio};
+
+const EURO: Key = *b"FUTCUREURINR    27MAR2026            XX";
+const DOLLAR: Key = *b"FUTCURUSDINR    27MAR2026            XX";
+const DOLLAR_CALL: Key = *b"OPTCURUSDINR    27MAR2026     84.2500CE";
+const CRUDE: Key = *b"FUTCOMCRUDEOIL  19MAR2026            XX";
+const GOLD: Key = *b"FUTCOMGOLD      05APR2026            XX";
+
+fn price(whole: u64, ten_thousandths: u64) -> u64 {
+    whole * 10_000_000 + ten_thousandths * 1_000
+}
+
+// An update whose orders stand a step apart behind the best of each side.
+fn update(code: &[u8; 2], level: usize, number: u32, key: Key, (buy, sell, step): (u64, u64, u64), orders: u64) -> Ask {
+    let depth = if level == 1 { 1 } else { 5 };
+    let side = |k: u64, price: u64| if k < orders { [price, 100 + 25 * k] } else { [NONE, NONE] };
+    let mut values = vec![b'N' as u64];
+    values.extend((0..depth).flat_map(|k| side(k, buy - step * k)));
+    values.extend((0..depth).flat_map(|k| side(k, sell + step * k)));
+    values.extend([buy, 1_200 + number as u64, b' ' as u64, buy, sell, buy - step, sell, NONE]);
+    if level == 2 {
+        values.extend([5_400, 4_950]);
+    }
+    values.push(NONE);
+    Ask::Write { code: *code, level, number, key, room: 505, values }
+}
+
+fn heartbeat(code: &[u8; 2]) -> Ask {
+    Ask::Write { code: *code, level: 1, number: 0, key: EURO, room: 11, values: vec![NONE; 14] }
+}
+
+// A day's beginning on a bad line: number 4 of D comes late and 6 to 8 never, T starts at 3, and one batch is damaged.
+fn batches() -> Vec<Vec<Ask>> {
+    let euro = (price(90, 2_525), price(90, 2_550), price(0, 25));
+    let dollar = (price(83, 5_000), price(83, 5_025), price(0, 25));
+    let call = (price(0, 3_100), price(0, 3_350), price(0, 50));
+    let crude = (price(5_812, 0), price(5_814, 0), price(1, 0));
+    let gold = (price(61_234, 0), price(61_240, 0), price(5, 0));
+    vec![
+        vec![heartbeat(b"DH"), update(b"DN", 1, 1, EURO, euro, 1), update(b"DN", 2, 2, DOLLAR, dollar, 5), update(b"DN", 2, 3, DOLLAR_CALL, call, 2)],
+        vec![heartbeat(b"TH"), update(b"TN", 2, 3, GOLD, gold, 4), update(b"TN", 1, 4, CRUDE, crude, 1)],
+        vec![update(b"DN", 2, 5, DOLLAR, (price(83, 5_100), price(83, 5_125), price(0, 25)), 5), update(b"DN", 2, 4, DOLLAR, dollar, 1)],
+        vec![update(b"TN", 2, 5, GOLD, (price(61_200, 0), price(61_201, 0), price(1, 0)), 5)],
+        vec![update(b"DN", 2, 9, EURO, (price(90, 2_475), price(90, 2_500), price(0, 25)), 3), heartbeat(b"DH")],
+        vec![update(b"TN", 2, 6, CRUDE, crude, 5)],
+    ]
+}
+
+const DAMAGED: usize = 3;
+
+fn asked(program: &[String], input: &[u8]) -> String {
+    let mut ran = Command::new(&program[0]).args(&program[1..]).stdin(Stdio::piped()).stdout(Stdio::piped()).spawn().expect("the program runs");
+    ran.stdin.take().unwrap().write_all(input).unwrap();
+    String::from_utf8(ran.wait_with_output().unwrap().stdout).expect("lines of text")
+}
+
+fn message(line: &str) -> Vec<u8> {
+    let hex = line.strip_prefix("write ok ").and_then(|rest| rest.split(' ').nth(1)).unwrap_or_else(|| panic!("not written: {line}"));
+    (0..hex.len() / 2).map(|i| u8::from_str_radix(&hex[2 * i..2 * i + 2], 16).unwrap()).collect()
+}
+
+fn main() {
+    let words: Vec<String> = std::env::args().skip(1).collect();
+    let (folder, program) = (Path::new(&words[0]), &words[1..]);
+    let book = Book { segments: vec![(b'D', vec![EURO, DOLLAR, DOLLAR_CALL]), (b'T', vec![CRUDE, GOLD])] };
+    fs::write(folder.join("contracts"), book.bytes()).unwrap();
+    let input: Vec<u8> = batches().iter().flatten().flat_map(|ask| ask.bytes()).collect();
+    let said = asked(program, &input);
+    let mut lines = said.lines();
+    let mut feed = vec![];
+    for (k, asks) in batches().iter().enumerate() {
+        let messages: Vec<Vec<u8>> = asks.iter().map(|_| message(lines.next().expect("a line for each message"))).collect();
+        let mut batch = feed::batch(&messages);
+        if k == DAMAGED {
+            batch[100] ^= 1;
+        }
+        feed.extend(batch);
+    }
+    fs::write(folder.join("feed"), feed).unwrap();
+}

@@ -1,0 +1,142 @@
+/* Writes a small feed with the library's own writer, two segments and three contracts, as a bad line would bring it: a number missing,
+ * one late, a damaged batch and a batch cut short.
+ *   feed CONTRACTS BATCHES */
+#include "quotebox.h"
+
+#include <stdio.h>
+#include <stdlib.h>
+
+#define FRONT 5
+#define MOST_DATA 32767
+
+/* Instrument, symbol, expiry, strike, option type. */
+static const char EURO[] = "FUTCUREURINR    27MAR2026            XX";
+static const char DOLLAR[] = "FUTCURUSDINR    27MAR2026            XX";
+static const char GOLD[] = "FUTCOMGOLD      05APR2026            XX";
+
+/* Ten-millionths. */
+#define PRICE(whole, part) ((uint64_t)(whole) * 10000000 + (part))
+
+static FILE *file;
+
+static void fail(const char *what) {
+    fprintf(stderr, "feed: %s\n", what);
+    exit(1);
+}
+
+static void begin_file(const char *path) {
+    file = fopen(path, "wb");
+    if (file == NULL) fail(path);
+}
+
+static void put(const void *bytes, size_t length) {
+    if (fwrite(bytes, 1, length, file) != length) fail("can't write");
+}
+
+static void end_file(void) {
+    if (fclose(file) != 0) fail("can't write");
+}
+
+static void put_number(size_t number, int width) {
+    while (0 < width--) {
+        uint8_t byte = (uint8_t)(number >> 8 * width);
+        put(&byte, 1);
+    }
+}
+
+/* The contents first: for each segment its letter, a zero byte, its count and where its keys begin. */
+static void write_contracts(void) {
+    put_number(2, 2);
+    put("D", 2);
+    put_number(2, 2);
+    put_number(18, 4);
+    put("T", 2);
+    put_number(1, 2);
+    put_number(18 + 2 * QUOTEBOX_KEY, 4);
+    put(EURO, QUOTEBOX_KEY);
+    put(DOLLAR, QUOTEBOX_KEY);
+    put(GOLD, QUOTEBOX_KEY);
+}
+
+/* A batch that is being written, its messages one behind the other. */
+struct batch {
+    uint8_t data[MOST_DATA];
+    size_t length;
+    size_t count;
+};
+
+static void written(struct batch *batch, uint32_t refused, const uint64_t answer[4]) {
+    if (refused != 0) fail("the writer refused");
+    batch->length += answer[0];
+    batch->count++;
+}
+
+static void add_heartbeat(struct batch *batch, const char *code) {
+    static const uint8_t no_key[QUOTEBOX_KEY];
+    static const uint64_t no_values[QUOTEBOX_VALUES];
+    uint64_t answer[4];
+    written(batch,
+            quotebox_write_level1((const uint8_t *)code, 0, no_key, no_values, batch->data + batch->length,
+                                  MOST_DATA - batch->length, answer),
+            answer);
+}
+
+/* An update with the best order of a side and `depth` more behind it, a step apart. */
+static void add_update(struct batch *batch, const char *code, uint32_t number, const char *key, uint64_t buy, uint64_t sell,
+                       uint64_t step, int depth) {
+    uint64_t values[QUOTEBOX_VALUES], answer[4];
+    for (int i = 0; i < QUOTEBOX_VALUES; i++) values[i] = QUOTEBOX_NONE;
+    values[QUOTEBOX_MARKET_TYPE] = 'N';
+    for (int level = 0; level <= depth; level++) {
+        values[QUOTEBOX2_BUY + 2 * level] = buy - step * (uint64_t)level;
+        values[QUOTEBOX2_BUY + 2 * level + 1] = 100 + 7 * (uint64_t)level;
+        values[QUOTEBOX2_SELL + 2 * level] = sell + step * (uint64_t)level;
+        values[QUOTEBOX2_SELL + 2 * level + 1] = 5 + 40 * (uint64_t)level;
+    }
+    values[QUOTEBOX2_LAST_PRICE] = buy;
+    values[QUOTEBOX2_STATUS] = ' ';
+    values[QUOTEBOX2_CLOSE] = sell;
+    written(batch,
+            quotebox_write_level2((const uint8_t *)code, number, (const uint8_t *)key, values, batch->data + batch->length,
+                                  MOST_DATA - batch->length, answer),
+            answer);
+}
+
+/* Flag, size, number of messages, data; the batch begins anew. */
+static void end_batch(struct batch *batch) {
+    put_number(1, 1);
+    put_number(batch->length, 2);
+    put_number(batch->count, 2);
+    put(batch->data, batch->length);
+    batch->length = 0;
+    batch->count = 0;
+}
+
+static void write_batches(void) {
+    static struct batch batch;
+    add_heartbeat(&batch, "DH");
+    add_update(&batch, "DN", 1, EURO, PRICE(90, 2525000), PRICE(90, 2550000), 25000, 4);
+    add_update(&batch, "DN", 2, DOLLAR, PRICE(83, 5000000), PRICE(83, 5100000), 100000, 1);
+    end_batch(&batch);
+    add_update(&batch, "DN", 5, DOLLAR, PRICE(83, 4999999), PRICE(84, 0), 1, 2);
+    add_update(&batch, "DN", 4, DOLLAR, PRICE(1, 0), PRICE(2, 0), 0, 0);
+    end_batch(&batch);
+    add_update(&batch, "TN", 1, GOLD, PRICE(61234, 0), PRICE(61235, 0), 0, 0);
+    batch.data[100] ^= 1;
+    end_batch(&batch);
+    add_update(&batch, "TN", 3, GOLD, PRICE(61234, 5000000), PRICE(61236, 0), 5000000, 3);
+    end_batch(&batch);
+    put_number(1, 1);
+    put_number(505, 2);
+}
+
+int main(int count, char **words) {
+    if (count != 3) fail("feed CONTRACTS BATCHES");
+    begin_file(words[1]);
+    write_contracts();
+    end_file();
+    begin_file(words[2]);
+    write_batches();
+    end_file();
+    return 0;
+}

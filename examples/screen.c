@@ -1,0 +1,171 @@
+/* A small host: starts a box, takes a file of batches, one behind the other, and prints each listed contract's five prices a side.
+ *   screen CONTRACTS BATCHES */
+#include "quotebox.h"
+
+#include <inttypes.h>
+#include <stdio.h>
+#include <stdlib.h>
+
+/* The bytes of a batch in front of its data. */
+#define FRONT 5
+
+struct bytes {
+    uint8_t *at;
+    size_t length;
+};
+
+struct box {
+    struct bytes list;
+    uint32_t *rows;
+    size_t rows_length;
+    uint64_t *records;
+    size_t records_length;
+};
+
+static void fail(const char *what) {
+    fprintf(stderr, "screen: %s\n", what);
+    exit(1);
+}
+
+static void *lend(size_t cells, size_t each) {
+    void *memory = calloc(cells, each);
+    if (memory == NULL) fail("no memory");
+    return memory;
+}
+
+static struct bytes read_file(const char *path) {
+    FILE *file = fopen(path, "rb");
+    if (file == NULL || fseek(file, 0, SEEK_END) != 0) fail(path);
+    long length = ftell(file);
+    if (length < 0 || fseek(file, 0, SEEK_SET) != 0) fail(path);
+    struct bytes all = {lend((size_t)length + 1, 1), (size_t)length};
+    if (fread(all.at, 1, all.length, file) != all.length) fail(path);
+    fclose(file);
+    return all;
+}
+
+static size_t u16_at(const uint8_t *bytes) { return (size_t)bytes[0] << 8 | bytes[1]; }
+
+static size_t u32_at(const uint8_t *bytes) { return u16_at(bytes) << 16 | u16_at(bytes + 2); }
+
+/* A start that is lent too little says what it wants: the gap rows first, then the records. */
+static uint32_t start(struct box *box) {
+    const uint32_t starts[2] = {1, 1};
+    uint64_t answer[4];
+    uint32_t refused = quotebox_start(box->list.at, box->list.length, starts, 2, NULL, 0, NULL, 0, answer);
+    if (refused == QUOTEBOX_MEMORY) {
+        box->rows_length = answer[2];
+        box->rows = lend(box->rows_length, sizeof *box->rows);
+        refused = quotebox_start(box->list.at, box->list.length, starts, 2, box->rows, box->rows_length, NULL, 0, answer);
+    }
+    if (refused == QUOTEBOX_MEMORY) {
+        box->records_length = answer[2];
+        box->records = lend(box->records_length, sizeof *box->records);
+        refused = quotebox_start(box->list.at, box->list.length, starts, 2, box->rows, box->rows_length, box->records,
+                                 box->records_length, answer);
+    }
+    return refused;
+}
+
+/* Each batch says how long it is; what is left at the end is handed over as it is, and refused. */
+static void take_all(struct box *box, struct bytes batches) {
+    size_t at = 0;
+    for (size_t batch = 0; at < batches.length; batch++) {
+        size_t left = batches.length - at;
+        size_t length = left < FRONT ? left : FRONT + u16_at(batches.at + at + 1);
+        if (left < length) length = left;
+        uint64_t answer[4];
+        uint32_t refused = quotebox_take(box->list.at, box->list.length, box->rows, box->rows_length, box->records,
+                                         box->records_length, batches.at + at, length, answer);
+        if (refused != 0) printf("batch %zu refused %" PRIu32 " message %" PRIu64 "\n", batch, refused, answer[0]);
+        at += length;
+    }
+}
+
+/* A price as a decimal without needless zeros; blank for none. */
+static const char *price(uint64_t units, char text[32]) {
+    int length = 0;
+    if (units != QUOTEBOX_NONE) {
+        length = sprintf(text, "%" PRIu64 ".%07" PRIu64, units / 10000000, units % 10000000);
+        while (text[length - 1] == '0') length--;
+        if (text[length - 1] == '.') length--;
+    }
+    text[length] = 0;
+    return text;
+}
+
+static const char *quantity(uint64_t units, char text[32]) {
+    text[0] = 0;
+    if (units != QUOTEBOX_NONE) sprintf(text, "%" PRIu64, units);
+    return text;
+}
+
+/* The five parts of a key, those that are blank left out. */
+static void show_key(uint8_t letter, const uint8_t *key) {
+    static const int widths[5] = {6, 10, 11, 10, 2};
+    printf("%c", letter);
+    for (int part = 0; part < 5; part++) {
+        int length = widths[part];
+        while (0 < length && key[length - 1] == ' ') length--;
+        if (0 < length) printf(" %.*s", length, (const char *)key);
+        key += widths[part];
+    }
+    printf("\n");
+}
+
+static void show_line(const char *bought, const char *buy, const char *sell, const char *sold) {
+    printf("| %12s %17s | %17s %12s |\n", bought, buy, sell, sold);
+}
+
+static void show_contract(const struct box *box, uint8_t letter, const uint8_t *key) {
+    uint64_t values[QUOTEBOX_VALUES], answer[4];
+    show_key(letter, key);
+    if (quotebox_read_level2(box->list.at, box->list.length, box->rows, box->rows_length, box->records, box->records_length,
+                             letter, key, values, answer) != 0)
+        fail("a listed contract is refused");
+    if (answer[0] == 0) {
+        printf("| no record\n");
+        return;
+    }
+    show_line("quantity", "buy", "sell", "quantity");
+    for (int level = 0; level < 5; level++) {
+        const uint64_t *buy = values + QUOTEBOX2_BUY + 2 * level, *sell = values + QUOTEBOX2_SELL + 2 * level;
+        char texts[4][32];
+        show_line(quantity(buy[1], texts[0]), price(buy[0], texts[1]), price(sell[0], texts[2]), quantity(sell[1], texts[3]));
+    }
+}
+
+/* How far the segment has come, and what is missing. */
+static void show_gaps(const struct box *box, uint8_t letter) {
+    uint32_t cells[2 * QUOTEBOX_MOST_RUNS];
+    uint64_t answer[4];
+    if (quotebox_list_gaps(box->list.at, box->list.length, box->rows, box->rows_length, box->records, box->records_length,
+                           letter, cells, 2 * QUOTEBOX_MOST_RUNS, answer) != 0)
+        fail("a listed segment is refused");
+    printf("%c highest %" PRIu64 " missing", letter, answer[0]);
+    for (uint64_t run = 0; run < answer[1]; run++) printf(" %" PRIu32 "-%" PRIu32, cells[2 * run], cells[2 * run + 1]);
+    printf("\n");
+}
+
+int main(int count, char **words) {
+    if (count != 3) fail("screen CONTRACTS BATCHES");
+    struct box box = {.list = read_file(words[1])};
+    struct bytes batches = read_file(words[2]);
+    uint32_t refused = start(&box);
+    if (refused != 0) {
+        printf("start refused %" PRIu32 "\n", refused);
+        return 1;
+    }
+    take_all(&box, batches);
+    for (size_t segment = 0; segment < u16_at(box.list.at); segment++) {
+        const uint8_t *entry = box.list.at + 2 + 8 * segment;
+        const uint8_t *keys = box.list.at + u32_at(entry + 4);
+        show_gaps(&box, entry[0]);
+        for (size_t i = 0; i < u16_at(entry + 2); i++) show_contract(&box, entry[0], keys + QUOTEBOX_KEY * i);
+    }
+    free(box.rows);
+    free(box.records);
+    free(box.list.at);
+    free(batches.at);
+    return 0;
+}

@@ -1,0 +1,185 @@
+/* The quote box for hosts in C and C++: libhost.a, written by `rt staticlib host`.
+ *
+ * The box has no memory of its own. A host lends each call what it works on:
+ *
+ *   list      the contract list, a file's bytes; the same at every call.
+ *   rows      the gap rows, QUOTEBOX_ROW_CELLS numbers for each listed segment, in list order.
+ *   records   the records, QUOTEBOX_RECORD_CELLS numbers for each listed contract, in list order.
+ *
+ * quotebox_start fills rows and records; every later call is handed them as the last call left them. Any other contents
+ * are refused or read as something, but never make a call read or write outside what is lent.
+ *
+ * Every function returns 0 where the call is accepted, and otherwise the number of the refusal. `answer`, four numbers that the
+ * function always writes, then holds:
+ *
+ *   accepted   what the function says below, and 0 in the numbers that it doesn't name.
+ *   refused    answer[0] the message, counted from 0 (0 where the refusal has none)
+ *              answer[1] the row of the message's data, counted from 0 (QUOTEBOX_FIELD, QUOTEBOX_RANGE)
+ *              answer[2] the cells wanted (QUOTEBOX_MEMORY)
+ *              answer[3] 0
+ *
+ * A refused call leaves everything lent as it was, `answer` apart. No call writes past its answer.
+ *
+ * A length counts elements, not bytes. Where it is 0 the pointer may be NULL; every other pointer points to as many
+ * elements as are said, aligned for their type. What a call writes overlaps nothing else that it is handed. Calls
+ * that share no memory which one of them writes may run at the same time.
+ */
+#ifndef QUOTEBOX_H
+#define QUOTEBOX_H
+
+#include <stddef.h>
+#include <stdint.h>
+
+#ifdef __cplusplus
+extern "C" {
+#endif
+
+/* The cells of a segment's gap row: start, highest, number of runs, 0, then 64 runs of first and last. */
+#define QUOTEBOX_ROW_CELLS 132
+
+/* The cells of a contract's two records. */
+#define QUOTEBOX_RECORD_CELLS 48
+
+/* The bytes of a contract's key: instrument 6, symbol 10, expiry 11, strike 10, option type 2. */
+#define QUOTEBOX_KEY 39
+
+/* A segment has at most so many gaps; two cells each. */
+#define QUOTEBOX_MOST_RUNS 64
+
+/* What a value or a cell holds for "none", which is not 0. */
+#define QUOTEBOX_NONE UINT64_MAX
+
+/* The refusals. */
+enum {
+    QUOTEBOX_SIZE = 1,       /* the batch is under 5 bytes, its size is over 32,767, or it is not size + 5 bytes long */
+    QUOTEBOX_PACKED = 2,     /* its flag is 0: it is to be unpacked first */
+    QUOTEBOX_FLAG = 3,       /* its flag is above 1 */
+    QUOTEBOX_COUNT = 4,      /* it has no messages, or bytes after the last */
+    QUOTEBOX_FRAME = 5,      /* message: under 8 bytes left, its length under 11 or over what is left */
+    QUOTEBOX_CODE = 6,       /* message: a letter that is not listed or not the first message's, or no letter A to Z behind it;
+                                of a call without a batch: the letter asked for is not listed, or the code is not one to be written */
+    QUOTEBOX_TRAILER = 7,    /* message: its last byte is not 13 */
+    QUOTEBOX_LENGTH = 8,     /* message: a known code with none of its lengths */
+    QUOTEBOX_CHECKSUM = 9,   /* message: its checksum is wrong */
+    QUOTEBOX_NUMBERING = 10, /* message: its sequence number is 0 where it may not be, or a heartbeat's is not 0;
+                                at start: a listed segment's start number is 0 or missing */
+    QUOTEBOX_FIELD = 11,     /* message, row: a number's text, market type, status or written key is malformed */
+    QUOTEBOX_RANGE = 12,     /* message, row: a number is too large or too fine, or no text of the field's width holds it */
+    QUOTEBOX_CONTRACT = 13,  /* message: its contract is not listed; or the key asked for is not */
+    QUOTEBOX_GAPS = 14,      /* message: more than 64 gaps would stand in its segment */
+    QUOTEBOX_MEMORY = 15,    /* cells wanted: too few are lent. First the gap rows, then the records, then the call's own */
+    QUOTEBOX_LIST = 16,      /* the contract list is malformed; after start only its contents, counts, offsets and size are looked at */
+    QUOTEBOX_NO_GAP = 17,    /* a write-off where the segment has no gap */
+    QUOTEBOX_STATE = 18      /* a gap row that is handed back is none that a call left */
+};
+
+/* Starts the box: each listed segment, in list order, at its start number, 1 or more. Every gap row and record is cleared.
+ * starts: one number for each listed segment; those beyond are not looked at.
+ * rows, records: written. With too few of either lent the answer says how many are wanted, so a host may ask first.
+ * Refused: QUOTEBOX_LIST, QUOTEBOX_NUMBERING, QUOTEBOX_MEMORY (first for rows, then for records), in this order. */
+uint32_t quotebox_start(const uint8_t *list, size_t list_length, const uint32_t *starts, size_t starts_length, uint32_t *rows,
+                        size_t rows_length, uint64_t *records, size_t records_length, uint64_t answer[4]);
+
+/* Every call below but the writers first refuses QUOTEBOX_LIST, QUOTEBOX_MEMORY (for rows, then for records) and QUOTEBOX_STATE, in this order; what
+ * it says under "Refused" comes after these. */
+
+/* Judges an unpacked batch and changes nothing: returns and answers what quotebox_take would.
+ * Accepted: messages taken, messages old, heartbeats.
+ * Refused: QUOTEBOX_SIZE to QUOTEBOX_GAPS. */
+uint32_t quotebox_judge(const uint8_t *list, size_t list_length, const uint32_t *rows, size_t rows_length, const uint64_t *records,
+                        size_t records_length, const uint8_t *batch, size_t batch_length, uint64_t answer[4]);
+
+/* Takes an unpacked batch whole, or refuses it and changes nothing.
+ * rows, records: written where it is accepted.
+ * Accepted: messages taken, messages old, heartbeats.
+ * Refused: QUOTEBOX_SIZE to QUOTEBOX_GAPS. */
+uint32_t quotebox_take(const uint8_t *list, size_t list_length, uint32_t *rows, size_t rows_length, uint64_t *records,
+                       size_t records_length, const uint8_t *batch, size_t batch_length, uint64_t answer[4]);
+
+/* Lists the gaps of the segment of a letter: puts first and last missing number of each run into cells, ascending.
+ * cells: written, two for each run; 2 * QUOTEBOX_MOST_RUNS are always enough.
+ * Accepted: the highest number, the number of runs.
+ * Refused: QUOTEBOX_CODE (the letter is not listed), QUOTEBOX_MEMORY (cells). */
+uint32_t quotebox_list_gaps(const uint8_t *list, size_t list_length, const uint32_t *rows, size_t rows_length,
+                            const uint64_t *records, size_t records_length, uint8_t letter, uint32_t *cells, size_t cells_length,
+                            uint64_t answer[4]);
+
+/* Writes off the lowest run of gaps of the segment of a letter: its numbers are no longer missing, and old if they arrive.
+ * rows: written where it is accepted.
+ * Accepted: first and last number of the run.
+ * Refused: QUOTEBOX_CODE (the letter is not listed), QUOTEBOX_NO_GAP. */
+uint32_t quotebox_write_off(const uint8_t *list, size_t list_length, uint32_t *rows, size_t rows_length, const uint64_t *records,
+                            size_t records_length, uint8_t letter, uint64_t answer[4]);
+
+/* The values of an update: its sequence number, then one value a row from the market type on, QUOTEBOX_NONE for none. A price
+ * counts ten-millionths, a quantity contracts or units, turnover hundredths; market type and status are a character. */
+#define QUOTEBOX_VALUES 33
+
+/* Where each value stands: at level 1, the first 15 alone, */
+enum {
+    QUOTEBOX_NUMBER = 0,
+    QUOTEBOX_MARKET_TYPE = 1,
+    QUOTEBOX1_BUY_PRICE = 2,
+    QUOTEBOX1_BUY_QUANTITY = 3,
+    QUOTEBOX1_SELL_PRICE = 4,
+    QUOTEBOX1_SELL_QUANTITY = 5,
+    QUOTEBOX1_LAST_PRICE = 6,
+    QUOTEBOX1_TRADED_QUANTITY = 7,
+    QUOTEBOX1_STATUS = 8,
+    QUOTEBOX1_OPENING = 9,
+    QUOTEBOX1_HIGH = 10,
+    QUOTEBOX1_LOW = 11,
+    QUOTEBOX1_CLOSE = 12,
+    QUOTEBOX1_AVERAGE = 13,
+    QUOTEBOX1_TURNOVER = 14
+};
+
+/* and at level 2, where the best of a side is level 0 and the fifth level 4. */
+enum {
+    QUOTEBOX2_BUY = 2,   /* QUOTEBOX2_BUY + 2 * level: its price; one behind: its quantity */
+    QUOTEBOX2_SELL = 12, /* the same for the sellers */
+    QUOTEBOX2_LAST_PRICE = 22,
+    QUOTEBOX2_TRADED_QUANTITY = 23,
+    QUOTEBOX2_STATUS = 24,
+    QUOTEBOX2_OPENING = 25,
+    QUOTEBOX2_HIGH = 26,
+    QUOTEBOX2_LOW = 27,
+    QUOTEBOX2_CLOSE = 28,
+    QUOTEBOX2_AVERAGE = 29,
+    QUOTEBOX2_ALL_BUYERS = 30,
+    QUOTEBOX2_ALL_SELLERS = 31,
+    QUOTEBOX2_TURNOVER = 32
+};
+
+/* Reads a contract's record of level 1 or 2: the highest-numbered update taken.
+ * key: QUOTEBOX_KEY bytes.
+ * values: written where there is a record, the first 15 at level 1 and all 33 at level 2.
+ * Accepted: 1 where there is a record, 0 where no update was taken.
+ * Refused: QUOTEBOX_CODE (the letter is not listed), QUOTEBOX_CONTRACT (the key is not). */
+uint32_t quotebox_read_level1(const uint8_t *list, size_t list_length, const uint32_t *rows, size_t rows_length,
+                              const uint64_t *records, size_t records_length, uint8_t letter, const uint8_t key[QUOTEBOX_KEY],
+                              uint64_t values[QUOTEBOX_VALUES], uint64_t answer[4]);
+
+uint32_t quotebox_read_level2(const uint8_t *list, size_t list_length, const uint32_t *rows, size_t rows_length,
+                              const uint64_t *records, size_t records_length, uint8_t letter, const uint8_t key[QUOTEBOX_KEY],
+                              uint64_t values[QUOTEBOX_VALUES], uint64_t answer[4]);
+
+/* Writes a message for a test bench, an update of level 1 or 2 or a heartbeat, into out, from its first byte on.
+ * code: "DN" or "TN" for an update, "DH" or "TH" for a heartbeat.
+ * number: the sequence number, 1 or more; of a heartbeat 0.
+ * key, values: as quotebox_read_level1 and 2 have them; values[QUOTEBOX_NUMBER] is not looked at, and of a heartbeat nothing is.
+ * out: written where it is accepted, one byte for each of the message's; 505 are always enough.
+ * Accepted: the message's length.
+ * Refused: QUOTEBOX_CODE, QUOTEBOX_NUMBERING, QUOTEBOX_FIELD and QUOTEBOX_RANGE by row, QUOTEBOX_MEMORY (the bytes of out), in this order.
+ * Rows count from 0 with the key's five first, so values[i] is row i + 4. */
+uint32_t quotebox_write_level1(const uint8_t code[2], uint32_t number, const uint8_t key[QUOTEBOX_KEY],
+                               const uint64_t values[QUOTEBOX_VALUES], uint8_t *out, size_t out_length, uint64_t answer[4]);
+
+uint32_t quotebox_write_level2(const uint8_t code[2], uint32_t number, const uint8_t key[QUOTEBOX_KEY],
+                               const uint64_t values[QUOTEBOX_VALUES], uint8_t *out, size_t out_length, uint64_t answer[4]);
+
+#ifdef __cplusplus
+}
+#endif
+
+#endif

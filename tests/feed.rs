@@ -1,0 +1,568 @@
+// Lists, texts, messages and batches that look random: sound ones, and ones in which one thing or two are wrong.
+#![allow(dead_code)] // each test uses a part
+
+use crate::random::Random;
+use crate::reference::{self, Kind, Row, KEY, LENGTHS, MARKET_TYPE_ROW, NONE, PRICE, QUANTITY, RUNS};
+
+pub type Key = [u8; KEY];
+
+// ---- contract lists
+
+#[derive(Clone)]
+pub struct Book {
+    pub segments: Vec<(u8, Vec<Key>)>,
+}
+
+impl Book {
+    pub fn bytes(&self) -> Vec<u8> {
+        let mut list = (self.segments.len() as u16).to_be_bytes().to_vec();
+        let mut offset = list.len() + 8 * self.segments.len();
+        for (letter, keys) in &self.segments {
+            list.extend([*letter, 0]);
+            list.extend((keys.len() as u16).to_be_bytes());
+            list.extend((offset as u32).to_be_bytes());
+            offset += KEY * keys.len();
+        }
+        list.extend(self.segments.iter().flat_map(|(_, keys)| keys.concat()));
+        list
+    }
+
+    pub fn letters(&self) -> Vec<u8> {
+        self.segments.iter().map(|s| s.0).collect()
+    }
+
+    pub fn contracts(&self) -> usize {
+        self.segments.iter().map(|s| s.1.len()).sum()
+    }
+
+    pub fn a_key(&self, r: &mut Random, letter: u8) -> Key {
+        match self.segments.iter().find(|s| s.0 == letter) {
+            Some((_, keys)) => r.pick(keys),
+            None => a_key(r),
+        }
+    }
+}
+
+// Many keys begin alike, so that the last bytes count.
+pub fn a_key(r: &mut Random) -> Key {
+    let mut key = *b"FUTCURUSDINR    27-MAR-2026          XX";
+    match r.below(4) {
+        0 => key[16..18].copy_from_slice(format!("{:02}", 1 + r.below(28)).as_bytes()),
+        1 => key[27..37].copy_from_slice(format!("{:>10}", r.below(100_000)).as_bytes()),
+        2 => key.iter_mut().for_each(|b| *b = r.pick(b" A~")),
+        _ => key[30..].iter_mut().for_each(|b| *b = 32 + r.below(95) as u8),
+    }
+    key
+}
+
+pub fn keys(r: &mut Random, number: usize) -> Vec<Key> {
+    let mut keys = vec![];
+    while keys.len() < number {
+        keys.push(a_key(r));
+        if r.one_in(8) {
+            let mut beside = keys[keys.len() - 1];
+            beside[KEY - 1] = if beside[KEY - 1] < 126 { beside[KEY - 1] + 1 } else { 32 };
+            keys.push(beside);
+        }
+        keys.sort();
+        keys.dedup();
+    }
+    keys.truncate(number);
+    keys
+}
+
+// At most `most` contracts a segment.
+pub fn a_book(r: &mut Random, most: u64) -> Book {
+    let letters: &[u8] = r.pick(&[b"DT".as_slice(), b"DT", b"D", b"T"]);
+    let segments = letters.iter().map(|&letter| {
+        let number = if r.one_in(3) { 1 + r.below(3).min(most - 1) } else { 1 + r.below(most) };
+        (letter, keys(r, number as usize))
+    });
+    Book { segments: segments.collect() }
+}
+
+// One thing wrong: the contents, a body, the size, the order of two keys.
+pub fn damaged_list(r: &mut Random, list: &[u8]) -> Vec<u8> {
+    let mut list = list.to_vec();
+    let contents = if list[1] == 2 { 18 } else { 10 };
+    let keys = (list.len() - contents) / KEY;
+    match r.below(8) {
+        0 => list.push(r.next() as u8),
+        1 => {
+            list.pop();
+        }
+        2 | 3 => {
+            let at = r.below(contents as u64) as usize;
+            list[at] = list[at].wrapping_add(r.pick(&[1, 255, 16, 128]));
+        }
+        4 => {
+            let at = contents + r.below((list.len() - contents) as u64) as usize;
+            list[at] = r.pick(&[0, 31, 127, 255]);
+        }
+        5 if keys > 1 => {
+            let at = contents + KEY * r.below(keys as u64 - 1) as usize;
+            let (a, b) = list[at..at + 2 * KEY].split_at_mut(KEY);
+            if r.one_in(2) { a.swap_with_slice(b) } else { b.copy_from_slice(a) }
+        }
+        6 => list = list[..r.below(contents as u64 + 1) as usize].to_vec(),
+        _ => {
+            let at = r.below(contents as u64) as usize;
+            list[at] = r.pick(b"\x00\x01\x02\x03DFTZ\x10\xff");
+        }
+    }
+    list
+}
+
+// The bodies in another order: the header still passes, and lookup goes by halving all the same.
+pub fn shuffled_list(r: &mut Random, list: &[u8]) -> Vec<u8> {
+    let contents = if list[1] == 2 { 18 } else { 10 };
+    let mut bodies: Vec<&[u8]> = list[contents..].chunks(KEY).collect();
+    for i in (1..bodies.len()).rev() {
+        bodies.swap(i, r.below(i as u64 + 1) as usize);
+    }
+    [&list[..contents], &bodies.concat()].concat()
+}
+
+// ---- texts
+
+fn digits(r: &mut Random, number: u64) -> String {
+    (0..number).map(|_| char::from(b'0' + if r.one_in(5) { 0 } else { r.below(10) as u8 })).collect()
+}
+
+// A text that denotes an amount in range, not always the shortest one.
+pub fn a_text(r: &mut Random, kind: Kind, width: usize) -> Vec<u8> {
+    let edges: &[&str] = match kind {
+        PRICE => &["99999999999.99999", "0", "0.0000001", "0000000.0000001", "99999999999", "123456789.1234567", "00000099999999999"],
+        QUANTITY => &["999999999999", "0", "000000000001", "1"],
+        _ => &["9999999999999999.99", "0", "0.01", "0000009999999999999999.99", "0.00", "9999999999999999", "0000000000000000000000.10"],
+    };
+    let mut text = match r.below(12) {
+        0 => String::new(),
+        1 => r.pick(edges).to_string(),
+        _ => {
+            let most = if kind == PRICE { 11 } else { 12 };
+            let whole = 1 + r.below(most);
+            let mut text = digits(r, whole);
+            if kind.places > 0 && r.below(3) > 0 {
+                let room = (width - text.len()).saturating_sub(1).min(kind.places) as u64;
+                if room > 0 {
+                    let places = 1 + r.below(room);
+                    text = format!("{text}.{}", digits(r, places));
+                }
+            }
+            text
+        }
+    };
+    let behind = if r.one_in(6) { r.below((width - text.len()) as u64 + 1) as usize } else { 0 };
+    text.push_str(&" ".repeat(behind));
+    format!("{text:>width$}").into_bytes()
+}
+
+// No number of any kind.
+const SHAPES: [&str; 19] =
+    ["100.", ".5", "-1", "+1", "1 2", "1. 5", "1 .5", "1..5", "1.5.5", "1,5", ".", "1e5", "x", "\u{0}", "5\u{0}", "\u{b}1", "1\u{9}", "/", ":"];
+
+// Too large or too fine for the kind, and some of these malformed besides.
+const PRICES: [&str; 10] = [
+    "100000000000", "1.00000000", "0.00000000", "99999999999999999", "100000000000.0", "00000000.00000000", "100000000000.0x", "1.00000000x",
+    "1.00000000 1", "1.00000000.",
+];
+const QUANTITIES: [&str; 4] = ["1.0", "1.", "0.5", "12345678901."];
+const TURNOVERS: [&str; 9] = [
+    "10000000000000000", "1.000", "0.001", "9999999999999999999999999", "10000000000000000.00", "18446744073709551616", "184467440737095516.16",
+    "1.000x", "1.000 1",
+];
+
+// A text that is no number of its kind, or none in its range.
+pub fn a_wrong_text(r: &mut Random, kind: Kind, width: usize) -> Vec<u8> {
+    let of_kind: &[&str] = match kind {
+        PRICE => &PRICES,
+        QUANTITY => &QUANTITIES,
+        _ => &TURNOVERS,
+    };
+    let text = if r.one_in(2) { r.pick(of_kind) } else { r.pick(&SHAPES) };
+    let mut text = format!("{text:>width$}").into_bytes();
+    let spaces = text.iter().take_while(|&&b| b == b' ').count();
+    if r.one_in(3) {
+        text.rotate_left(r.below(spaces as u64 + 1) as usize);
+    }
+    if r.one_in(8) {
+        let at = r.below(width as u64) as usize;
+        text[at] = r.pick(b" .-\x00\x80\xff");
+    }
+    text
+}
+
+fn a_field(r: &mut Random, row: Row, width: usize) -> Vec<u8> {
+    match row {
+        Row::Text => vec![],
+        Row::MarketType => vec![b'N'],
+        Row::Status => vec![r.pick(b"S ")],
+        Row::Number(kind) => a_text(r, kind, width),
+    }
+}
+
+// ---- messages
+
+pub fn sealed(code: [u8; 2], number: u32, data: &[u8]) -> Vec<u8> {
+    let mut message = code.to_vec();
+    message.extend((data.len() as u16 + 11).to_be_bytes());
+    message.extend(number.to_be_bytes());
+    message.extend(data);
+    message.extend([0, 0, 13]);
+    if code[1] != b'H' {
+        seal(&mut message);
+    }
+    message
+}
+
+fn seal(message: &mut [u8]) {
+    let end = message.len() - 3;
+    let sum = reference::sum_by_bits(&message[..end]);
+    message[end..end + 2].copy_from_slice(&sum);
+}
+
+pub fn an_update(r: &mut Random, letter: u8, level: usize, number: u32, key: &Key) -> Vec<u8> {
+    let mut data = key.to_vec();
+    for &(row, width) in reference::layout(level) {
+        data.extend(a_field(r, row, width));
+    }
+    sealed([letter, b'N'], number, &data)
+}
+
+fn passed_over(r: &mut Random, letter: u8, number: u32) -> Vec<u8> {
+    let code = r.pick(b"ABCDEFGIJKLMOPQRSTUVWXYZ");
+    let length = if r.one_in(6) { LENGTHS[r.below(2) as usize] as u64 - 11 } else { r.below(60) };
+    let data: Vec<u8> = (0..length).map(|_| r.next() as u8).collect();
+    let mut message = sealed([letter, code], number, &data);
+    if r.one_in(3) {
+        let end = message.len() - 3;
+        message[end..end + 2].fill(0);
+    }
+    message
+}
+
+// A sound message. A heartbeat looks at no number.
+pub fn a_message(r: &mut Random, book: &Book, letter: u8, number: u32) -> Vec<u8> {
+    match r.below(8) {
+        0 => sealed([letter, b'H'], 0, &[]),
+        1 | 2 => passed_over(r, letter, number),
+        kind => {
+            let key = book.a_key(r, letter);
+            an_update(r, letter, if kind < 6 { 1 } else { 2 }, number, &key)
+        }
+    }
+}
+
+fn field_of(level: usize, row: usize) -> (usize, usize) {
+    let before: usize = reference::layout(level)[..row].iter().map(|&(_, width)| width).sum();
+    (8 + before, reference::layout(level)[row].1)
+}
+
+// Makes a wrong row in an update, so that 11 or 12 is due.
+fn damage_row(r: &mut Random, level: usize, message: &mut [u8]) {
+    let rows = reference::layout(level).len() as u64;
+    let status = if level == 1 { 12 } else { 28 };
+    let row = match r.below(8) {
+        0 => MARKET_TYPE_ROW,
+        1 => status,
+        2 => rows as usize - 1,
+        _ => MARKET_TYPE_ROW + r.below(rows - MARKET_TYPE_ROW as u64) as usize,
+    };
+    let (at, width) = field_of(level, row);
+    match reference::layout(level)[row].0 {
+        Row::Number(kind) => message[at..at + width].copy_from_slice(&a_wrong_text(r, kind, width)),
+        _ => message[at] = r.pick(b"nOSA `s\x00\xff"),
+    }
+}
+
+// A sum that a careless box would take: not lowered, high byte first, zero, one bit off.
+fn damage_sum(r: &mut Random, message: &mut [u8]) {
+    let end = message.len() - 3;
+    let mut plain = 0u16;
+    for &byte in &message[..end] {
+        plain ^= (byte as u16) << 8;
+        for _ in 0..8 {
+            plain = (plain << 1) ^ if plain & 0x8000 != 0 { 0x1021 } else { 0 };
+        }
+    }
+    match r.below(5) {
+        0 => message[end..end + 2].copy_from_slice(&plain.to_le_bytes()),
+        1 => message.swap(end, end + 1),
+        2 => message[end..end + 2].fill(0),
+        3 => message[end] ^= 1 << r.below(8),
+        _ => message[end + 1] ^= 1 << r.below(8),
+    }
+}
+
+// An update whose sum has a byte that is lowered, made by trying contents.
+fn a_lowered_update(r: &mut Random, book: &Book, letter: u8, number: u32) -> Vec<u8> {
+    let key = book.a_key(r, letter);
+    loop {
+        let message = an_update(r, letter, 1, number, &key);
+        let sum = &message[message.len() - 3..message.len() - 1];
+        if sum.iter().any(|b| matches!(b, 9 | 12 | 16 | 18)) {
+            return message;
+        }
+    }
+}
+
+// The level of an update that stands; anything else is made into one first.
+fn as_update(r: &mut Random, book: &Book, letter: u8, number: u32, message: &mut Vec<u8>) -> usize {
+    if message[1] == b'N' {
+        if let Some(k) = LENGTHS.iter().position(|&length| length == message.len()) {
+            return k + 1;
+        }
+    }
+    let (level, key) = (1 + r.below(2) as usize, book.a_key(r, letter));
+    *message = an_update(r, letter, level, number, &key);
+    level
+}
+
+// With the right sum again, as a rule: now and then it stays the old one, and a second rule is broken.
+fn reseal(r: &mut Random, message: &mut [u8]) {
+    if !r.one_in(5) {
+        seal(message);
+    }
+}
+
+// Damages a message so that a rule 5 to 13 is broken; `number` is what a number of it may be.
+pub fn damage(r: &mut Random, rule: u8, book: &Book, letter: u8, number: u32, message: &mut Vec<u8>) {
+    match rule {
+        5 => {
+            let length = message.len() as u16;
+            let length = r.pick(&[0, 1, 8, 10, length + 1, length - 1, 32_767, 32_768, 65_535, length + 600]);
+            message[2..4].copy_from_slice(&length.to_be_bytes());
+        }
+        6 => {
+            let at = r.below(2) as usize;
+            message[at] = if at == 0 { r.pick(b"DTFdt\x00\xff") } else { r.pick(b"@[an`{\x00\xff1 h") };
+            reseal(r, message);
+        }
+        7 => *message.last_mut().unwrap() = r.pick(&[0, 10, 12, 14, 141, 255]),
+        8 => damage_length(r, book, letter, number, message),
+        9 => {
+            match r.below(6) {
+                0 => *message = sealed([letter, b'H'], 0, &[]),
+                1 => *message = a_lowered_update(r, book, letter, number),
+                _ => {}
+            }
+            damage_sum(r, message);
+        }
+        10 if message[1] == b'H' || r.one_in(8) => *message = sealed([letter, b'H'], 1 + r.below(9) as u32, &[]),
+        10 => {
+            message[4..8].fill(0);
+            reseal(r, message);
+        }
+        11 | 12 => {
+            let level = as_update(r, book, letter, number, message);
+            (0..1 + r.below(3)).for_each(|_| damage_row(r, level, message));
+            reseal(r, message);
+        }
+        _ => {
+            as_update(r, book, letter, number, message);
+            message[8 + r.below(KEY as u64) as usize] = r.pick(b"\x00\x1f!~\x7f\xff Z");
+            reseal(r, message);
+        }
+    }
+}
+
+// A length that is none of its code's, with all else as it should be.
+fn damage_length(r: &mut Random, book: &Book, letter: u8, number: u32, message: &mut Vec<u8>) {
+    as_update(r, book, letter, number, message);
+    if r.one_in(4) {
+        message[1] = b'H';
+    }
+    let length = r.pick(&[11, 12, 248, 250, 504, 506, 260]);
+    message.resize(length, b' ');
+    message[2..4].copy_from_slice(&(length as u16).to_be_bytes());
+    *message.last_mut().unwrap() = 13;
+    reseal(r, message);
+}
+
+// ---- batches
+
+pub fn batch(messages: &[Vec<u8>]) -> Vec<u8> {
+    let data = messages.concat();
+    let mut batch = vec![1];
+    batch.extend((data.len() as u16).to_be_bytes());
+    batch.extend((messages.len() as u16).to_be_bytes());
+    batch.extend(data);
+    batch
+}
+
+// Breaks a rule of the batch itself: 1 to 4, or 5 by its count.
+pub fn damage_batch(r: &mut Random, batch: &mut Vec<u8>) {
+    let two = |batch: &[u8], at: usize| u16::from_be_bytes([batch[at], batch[at + 1]]);
+    let (size, count) = (two(batch, 1), two(batch, 3));
+    match r.below(10) {
+        0 => batch[0] = 0,
+        1 => batch[0] = r.pick(&[2, 49, 255]),
+        2 => batch.truncate(r.below(6) as usize),
+        3 => batch.truncate(r.below(batch.len() as u64) as usize),
+        4 => batch.push(r.pick(&[0, 13, 68])),
+        5 => batch[1..3].copy_from_slice(&r.pick(&[0, size + 1, size.wrapping_sub(1), 32_767, 32_768, 65_535]).to_be_bytes()),
+        6 => {
+            let (a, b) = (size.to_be_bytes(), count.to_be_bytes());
+            batch[1..5].copy_from_slice(&[b[0], b[1], a[0], a[1]]);
+        }
+        7 => {
+            let extra = r.pick(&[1, 7, 8, 10, 11, 30]) as usize;
+            batch.extend(vec![13; extra]);
+            let size = (batch.len() - 5) as u16;
+            batch[1..3].copy_from_slice(&size.to_be_bytes());
+        }
+        8 => batch[3..5].copy_from_slice(&r.pick(&[0, count - 1, count + 1, 65_535]).to_be_bytes()),
+        _ => {
+            let cut = 1 + r.below((batch.len() - 5) as u64) as usize;
+            batch.truncate(batch.len() - cut);
+            let size = (batch.len() - 5) as u16;
+            batch[1..3].copy_from_slice(&size.to_be_bytes());
+        }
+    }
+}
+
+// How the numbers of a feed come.
+#[derive(Clone, Copy, PartialEq)]
+pub enum Pace {
+    Smooth,
+    Mixed,
+    Holes,
+    Far,
+}
+
+// The next number after what a gap row holds; any number where the row is not sound.
+pub fn a_number(r: &mut Random, pace: Pace, row: &[u32]) -> u32 {
+    if !reference::row_sound(row) {
+        return 1 + r.below(10) as u32;
+    }
+    let (start, highest) = (row[0] as u64, row[1] as u64);
+    let runs = reference::runs(row);
+    let next = highest + 1;
+    let hole = next + 1 + r.below(3);
+    let old = start.saturating_sub(2) + r.below(highest + 3 - start.min(highest + 2));
+    let missing = match runs.len() as u64 {
+        0 => next,
+        n => {
+            let (first, last) = runs[r.below(n) as usize];
+            let within = first as u64 + r.below((last - first) as u64 + 1);
+            r.pick(&[first as u64, last as u64, within])
+        }
+    };
+    let last = u32::MAX as u64;
+    let far = match r.below(3) {
+        0 => next + r.below(last),
+        1 => last - r.below(130),
+        _ => last,
+    };
+    let number = match (pace, r.below(16)) {
+        (Pace::Smooth, 0..=12) => next,
+        (Pace::Holes, 0..=11) => next + 1,
+        (Pace::Mixed, 0..=6) => next,
+        (Pace::Mixed, 7..=10) => hole,
+        (Pace::Far, 0..=3) => next,
+        (Pace::Far, 4..=7) => far,
+        (_, 13) => old,
+        (_, 14) => hole,
+        _ => missing,
+    };
+    number.clamp(1, u32::MAX as u64) as u32
+}
+
+pub fn a_sound_batch(r: &mut Random, book: &Book, letter: u8, pace: Pace, row: &[u32]) -> Vec<Vec<u8>> {
+    let number = match r.below(12) {
+        0 => 20 + r.below(60),
+        1..=3 => 1,
+        _ => 1 + r.below(6),
+    };
+    let mut row = row.to_vec();
+    let mut messages: Vec<Vec<u8>> = vec![];
+    let mut size = 0;
+    for _ in 0..number {
+        let number = a_number(r, pace, &row);
+        let message = a_message(r, book, letter, number);
+        size += message.len();
+        if size > 32_767 {
+            break;
+        }
+        if message[1] != b'H' && reference::row_sound(&row) {
+            reference::take_number(&mut row, number);
+        }
+        messages.push(message);
+    }
+    messages
+}
+
+// A batch for a segment, sound or with up to two things wrong, each at the first, a middle or the last message.
+pub fn a_batch(r: &mut Random, book: &Book, letter: u8, pace: Pace, row: &[u32]) -> Vec<u8> {
+    let mut messages = a_sound_batch(r, book, letter, pace, row);
+    let wrong = r.pick(&[0, 0, 0, 1, 1, 2, 2]);
+    // The last rules first, since one message may be damaged twice.
+    let mut rules: Vec<u8> = (0..wrong).map(|_| 5 + r.below(9) as u8).collect();
+    rules.sort_by(|a, b| b.cmp(a));
+    let mut at = 0;
+    for (k, rule) in rules.into_iter().enumerate() {
+        if k == 0 || r.one_in(2) {
+            at = match r.below(3) {
+                0 => 0,
+                1 => messages.len() - 1,
+                _ => r.below(messages.len() as u64) as usize,
+            };
+        }
+        let number = a_number(r, pace, row);
+        damage(r, rule, book, letter, number, &mut messages[at]);
+    }
+    if messages.concat().len() > 32_767 {
+        messages.truncate(40);
+    }
+    let mut batch = batch(&messages);
+    if r.one_in(9) {
+        damage_batch(r, &mut batch);
+    }
+    batch
+}
+
+// ---- quotes for the writer: the rows from the market type on
+
+// An amount whose shortest text fits the width.
+pub fn an_amount(r: &mut Random, kind: Kind, width: usize) -> u64 {
+    loop {
+        let amount = match r.below(8) {
+            0 => r.below(10),
+            1 => kind.largest - r.below(3),
+            2 => 10u64.pow(r.below(18) as u32) * (1 + r.below(9)),
+            3 => 10u64.pow(r.below(18) as u32) - 1,
+            4 => r.below(kind.largest) / 10u64.pow(r.below(9) as u32) * 10u64.pow(r.below(8) as u32),
+            _ => r.below(kind.largest) / 10u64.pow(r.below(18) as u32),
+        };
+        if reference::write_number(kind, amount, width).is_some() {
+            return amount;
+        }
+    }
+}
+
+pub fn a_quote(r: &mut Random, level: usize) -> Vec<u64> {
+    let rows = &reference::layout(level)[MARKET_TYPE_ROW..];
+    let values = rows.iter().map(|&(row, width)| match row {
+        Row::MarketType => b'N' as u64,
+        Row::Status => r.pick(b"S ") as u64,
+        Row::Number(_) if r.one_in(5) => NONE,
+        Row::Number(kind) => an_amount(r, kind, width),
+        Row::Text => unreachable!("texts stand before the market type"),
+    });
+    values.collect()
+}
+
+pub fn damage_quote(r: &mut Random, values: &mut [u64]) {
+    let at = r.below(values.len() as u64 + 6);
+    let at = if at < values.len() as u64 { at as usize } else { r.pick(&[0, 7, 23]).min(values.len() - 1) };
+    values[at] = r.pick(&[
+        0, 32, 78, 83, 255, 256, 78 + 256, 83 + 256, 999_999_999_999, 1_000_000_000_000, 99_999_999_999_999_999, 999_999_999_999_999_999,
+        1_000_000_000_000_000_000, NONE - 1, NONE, 999_999_999_999_999_990, 999_999_999_999_999_900, 1_234_567_891_234_567, 12_345_678_912_345_678,
+        123_456_789_123_456_789,
+    ]);
+}
+
+pub fn live_cells(row: &[u32]) -> usize {
+    RUNS + 2 * (row[2] as usize).min(reference::MOST_RUNS)
+}

@@ -1,5 +1,7 @@
 pub mod FlatLaws
 pub mod FrontLaws
+pub mod Histories
+pub mod HistoriesLaws
 pub mod LentLaws
 pub mod Promises
 pub mod PromisesLaws

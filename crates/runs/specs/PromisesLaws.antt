@@ -25,10 +25,10 @@ use Rattle.quotebox.specs.Answers.{startedNumbers, judgedNumbers, listedNumbers
 use Rattle.quotebox.specs.Batch.{batchRules, batchActs, refused, actedNumbers}
 use Rattle.quotebox.specs.AnswersLaws.{started-told, judged-told, listed-told, written-off-told, recorded-told, refused-by}
 use Rattle.quotebox.specs.Calls.{answered, gapsOfLetter, listRules, listValues, writeOffRules, runValues, lowestRun}
-use Rattle.quotebox.specs.CallPromises.{StartedBox, WroteOffRun}
+use Rattle.quotebox.specs.CallPromises.{StartedBox, ListedRuns, WroteOffRun, ReadRecord}
 use Rattle.quotebox.specs.CallPromisesLaws.{one-started, one-listed, one-written-off, one-reading, start-refusal, off-refusal}
 use Rattle.quotebox.specs.Memory.{rowsWanted, stateRules}
-use Rattle.quotebox.specs.Promises.{TookBatch}
+use Rattle.quotebox.specs.Promises.{JudgedBatch, TookBatch}
 use Rattle.quotebox.specs.Record.{recordRules, recordOfKey, recordNumber, recordValues}
 use Rattle.quotebox.specs.Refusals.{Rule, refusalNumbers}
 use Rattle.quotebox.specs.State.{segmentRules}
@@ -94,9 +94,23 @@ module _ (list : List ℕ) (rows : List Run) (enough : runsWanted list ≤ lengt
   told-enough : {told numbers : List ℕ} → told ≡ inRuns list (length rows) numbers → told ≡ numbers
   told-enough {told} {numbers} e = e ∙ in-runs-enough list (length rows) numbers enough
 
+  pub judged-enough : {records batch : List ℕ} (answer : Judged) → JudgedRuns list rows records batch answer → JudgedBatch list (flat rows) records batch answer
+  judged-enough {records} {batch} answer p =
+      subst (JudgedBatch list (flat rows) records batch) (sym (judged-told answer (p .core) (told-enough (p .answers)))) (p .judged)
+
   pub took-enough : {records batch records′ : List ℕ} {rows′ : List Run} (answer : Judged) → TookRuns list rows records batch answer rows′ records′ → TookBatch list (flat rows) records batch answer (flat rows′) records′
   took-enough {records} {batch} {records′} {rows′} answer p =
       subst (λ (c : Judged). TookBatch list (flat rows) records batch c (flat rows′) records′) (sym (judged-told answer (p .core) (told-enough (p .answers)))) (p .took)
+
+  pub listed-enough : {records cells cells′ : List ℕ} {letter : ℕ} (answer : Listed) → ListedGaps list rows records letter cells answer cells′ → ListedRuns list (flat rows) records letter cells answer cells′
+  listed-enough {records} {cells} {cells′} {letter} answer p =
+      subst (λ (c : Listed). ListedRuns list (flat rows) records letter cells c cells′) (sym (listed-told answer (p .core) (told-enough (p .answers)))) (p .listed)
+
+  pub read-enough : {records key : List ℕ} {letter : ℕ} {level : Level} (reading : Reading) → ReadRuns list rows records letter key level reading → ReadRecord list (flat rows) records letter key level reading
+  read-enough {records} {key} {letter} {level} reading p =
+      let answer = recorded-told (reading .answer) (p .core .answer) (told-enough (p .answers)) in
+      let same : reading ≡ p .core = λ i. record { answer = answer i; quote = p .quotes i } in
+      subst (ReadRecord list (flat rows) records letter key level) (sym same) (p .read)
 
   pub wrote-off-enough : {records : List ℕ} {letter : ℕ} {rows′ : List Run} (answer : WrittenOff) → WroteOffRuns list rows records letter answer rows′ → WroteOffRun list (flat rows) records letter answer (flat rows′)
   wrote-off-enough {records} {letter} {rows′} answer p =

@@ -1,12 +1,9 @@
 -- A history of calls over a lent row of runs is one of calls over numbers, so that demand 3 holds of it too.
 use Prim.Native.Nat.{ℕ, _≤_}
-use mathlib.Core.Path.{_≡_, refl, ap, sym, _∙_, subst}
+use mathlib.Core.Path.{sym, subst}
 use mathlib.Core.List.{List}
 use native.Mathlib.Omega.{arith}
 use lib.ListN.{length}
-use Rattle.quotebox.specs.declared.refusal.Refusal.{Refusal}
-use Rattle.quotebox.specs.declared.answers.Started.{Started}
-use Rattle.quotebox.specs.CallPromises.{StartedBox}
 use Rattle.quotebox.specs.GoodState.{GoodState}
 use Rattle.history.specs.Past.{Event}
 use Rattle.history.specs.Histories as numbers
@@ -17,7 +14,6 @@ use Rattle.history.specs.DemandsLaws.{after-calls, two-agree}
 use Rattle.runs.specs.declared.run.Run.{Run}
 use Rattle.runs.specs.Rows.{flat, runsWanted}
 use Rattle.runs.specs.FlatLaws.{length-flat}
-use Rattle.runs.specs.Promises.{StartedRuns}
 use Rattle.runs.specs.PromisesLaws.{judged-enough, took-enough, listed-enough, wrote-off-enough, read-enough, started-core, started-refused}
 use Rattle.runs.specs.Histories.{ReachedRuns, begun, refusedStart, judge, take, listGaps, writeOff, readRecord, writeMessage, AsNumbers, AgreeRuns}
 

@@ -1,3 +1,4 @@
+-- The runs lent, as numbers, are what reading over numbers looks at; the quote goes on as it is.
 use borrow.Author.Needs.{needs}
 use mathlib.Core.Path.{_≡_, ap, sym, _∙_, refl}
 use Prim.Native.Nat.{ℕ}

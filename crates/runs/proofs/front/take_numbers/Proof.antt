@@ -1,3 +1,4 @@
+-- What is lent on comes back in front of what was not.
 use borrow.Author.Needs.{needs}
 use native.Mathlib.Omega.{arith}
 use lib.ListN.{length, drop, length-take}

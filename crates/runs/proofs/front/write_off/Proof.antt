@@ -1,3 +1,4 @@
+-- The runs lent, as numbers, are what the write-off over numbers is lent and leaves.
 use borrow.Author.Needs.{needs}
 use mathlib.Core.Path.{_≡_, ap, sym, _∙_}
 use Prim.Native.Nat.{ℕ}

@@ -15,7 +15,7 @@ use mir.Syntax.{Ty, named, mut, w64, tyInt, tyBool, tyPtr, tyUnit, tyRef}
 use mir.Val.{Val, vunit, vbool, vint, vptr}
 use mathlib.Core.Bool.{Bool}
 use borrow.Author.Tests.{lt-ltb, le-ltb}
-use base.Logic.{SProp, ent, emp, via, fst∗}
+use base.Logic.{SProp, ent}
 use base.Fml.{Lft, GName, Share, ftrue, fat, froom, fdies, flft, fobs, fauth, fbor, fobor}
 use prog.Memory.{Memory}
 use prog.Routine.{Routine}
@@ -27,7 +27,7 @@ use types.Kit.{Given, Item, ‵, runs, anyQ, atRet, Sq, _⊛_, ⋆, _$_, _∵_, 
 use types.Run.{look, store, init, forget, stop, fld, from, load, lit, unit-lit, of-opd, bin, addr, and-then, no-more, assigns, assigns-last, first, stays, leaves-loop, blocks, land, returns, enter, alloc1, alloc0, params1, pass1, pass0, free1, free0, exec, Below, again, loops}
 use types.Part.{whole, sub, look-in}
 use types.Share.{arr-parts}
-use sound.WpLaws.{fmOf, WpFn-mono}
+use sound.WpLaws.{fmOf}
 use denote.RattleType.{owns}
 use denote.Shadow.{pureI}
 use denote.Laws.{Is}
@@ -42,7 +42,7 @@ use denote.Triple.Statement.{Triple}
 use denote.Triple.Entry.{onEntry}
 use denote.Triple.Spec.{Meets, tripleOf}
 use denote.Triple.Table.{entered, cited}
-use denote.Triple.Walked.{says, Stays, stay-dropped, stay-slice, walkOf, goes-dropped, goes-slice, Walks, ends-at, walked, walk-meets}
+use denote.Triple.Walked.{says, Stays, stay-dropped, stay-slice, walkOf, goes-dropped, goes-slice, ends-at}
 use denote.Exit.{yes}
 use Rattle.laws.specs.Lists.{copy-next}
 use Rattle.laws.specs.Order.{order}
@@ -51,6 +51,7 @@ use Rattle.runs.specs.declared.run.Run.{Run}
 use Rattle.runs.specs.Rows.{blank, over}
 use Rattle.runs.specs.RowsLaws.{over-is}
 use Rattle.runs.proofs.Callees.{AtMost, limits}
+use Rattle.runs.proofs.Meets.{meets-by}
 use Rattle.runs.proofs.Memory.{R, Runs, run-mir, runs-mir, run-typed, runs-val, runs-tells, runs-typed, slot-in, slot-out, at-place, within, Upto, Nearer, Nearer-wf}
 use Rattle.runs.proofs.Steps.{reads-run, stores-run}
 use Rattle.runs.proofs.run.at_most.Symbol as at-most-def
@@ -204,12 +205,10 @@ module _ {M : Type 1} (𝓤 : URA M) (H : Heap 𝓤) (A : Atoms 𝓤) (W : Given
         few = omega arith
 
 module _ {M : Type 1} (𝓤 : URA M) (H : Heap 𝓤) (A : Atoms 𝓤) (W : Given 𝓤 H A) (mem : Memory → SProp 𝓤) (run : Routine → Fun 𝓤) (𝓣 : Tables 𝓤 H) (known-limit : Triple 𝓤 (𝓣 .C #runs·run·at-most) (AtMost 𝓤 H A mem run)) where
-  back-walks : Walks 𝓤 H A back.ended stayed (WpFn 𝓤 H (𝓣 .C) (𝓣 .Λ) code.function) (back.clauses 𝓤 H A mem run)
-  back-walks = walked 𝓤 H A back.ended stayed (back.clauses 𝓤 H A mem run) (WpFn 𝓤 H (𝓣 .C) (𝓣 .Λ) code.function) (λ κs. ((λ xs. runs-val xs ∷ []), (slice-vals, tt))) (λ κs. (runs-tells, (mut-slice-tells (named 0) (κs .0) R, tt)))
-      (λ κs qs bounds a g are. via 𝓤 _ (fst∗ 𝓤 _ (emp 𝓤)) (walk 𝓤 H A W mem run (κs .0) (qs .0) (a .0) (a .1 .0 .ptr .0) (a .1 .0 .ptr .1) (a .1 .0 .name) (a .1 .0 .now) (are .0 .1 .0 .1) (are .1 .0 .0 .1) 𝓣 known-limit (are .0)))
-
   back-meets : Meets 𝓤 H A back.signature (WpFn 𝓤 H (𝓣 .C) (𝓣 .Λ) code.function) (back.spec 𝓤 H A mem run)
-  back-meets = walk-meets 𝓤 H A back.ended stayed W (goes-dropped 𝓤 H A W 1 (plain (λ _. Runs)) yes (λ κs x f. refl), (goes-slice 𝓤 H A W 1 0 tt (plain (λ _. R)), tt)) (back.clauses 𝓤 H A mem run) (WpFn 𝓤 H (𝓣 .C) (𝓣 .Λ) code.function) (WpFn-mono 𝓤 H (W .laws) 𝓣 code.function) back-walks
+  back-meets =
+      meets-by 𝓤 H A W back.ended stayed (goes-dropped 𝓤 H A W 1 (plain (λ _. Runs)) yes (λ κs x f. refl), (goes-slice 𝓤 H A W 1 0 tt (plain (λ _. R)), tt)) (back.clauses 𝓤 H A mem run) code.function 𝓣 (λ κs. ((λ xs. runs-val xs ∷ []), (slice-vals, tt))) (λ κs. (runs-tells, (mut-slice-tells (named 0) (κs .0) R, tt)))
+      (λ κs qs bounds a g are. walk 𝓤 H A W mem run (κs .0) (qs .0) (a .0) (a .1 .0 .ptr .0) (a .1 .0 .ptr .1) (a .1 .0 .name) (a .1 .0 .now) (are .0 .1 .0 .1) (are .1 .0 .0 .1) 𝓣 known-limit (are .0))
 
 pub back-spec : {M : Type 1} → stated.statement M
 unfolding code.routine tablesOf

@@ -15,7 +15,7 @@ use mir.Syntax.{Ty, named, imm, w64, tyInt, tyBool, tyPtr, tyRef}
 use mir.Val.{Val, vbool, vint, vptr}
 use mathlib.Core.Bool.{Bool}
 use borrow.Author.Tests.{lt-ltb, le-ltb}
-use base.Logic.{SProp, ent, emp, via, fst∗, snd∗, exE, id⊢}
+use base.Logic.{SProp, ent, emp, snd∗, exE, id⊢}
 use base.Fml.{Lft, GName, Share, ftrue, fat, froom, fdies, flft, fres, fobor, fshr-bor}
 use prog.Memory.{Memory}
 use prog.Routine.{Routine}
@@ -27,7 +27,7 @@ use types.Kit.{Given, Item, ‵, raw, runs, anyQ, atRet, Sq, _⊛_, some, later,
 use types.Run.{look, store, init, forget, stop, fld, from, load, lit, of-opd, bin, addr, and-then, no-more, assigns, assigns-last, first, stays, leaves-loop, blocks, land, returns, enter, alloc1, alloc0, params1, pass1, pass0, free1, free0, exec, Below, again, loops}
 use types.Part.{whole, sub, look-in}
 use types.Share.{arr-parts}
-use sound.WpLaws.{FmC, fmOf, WpFn-mono}
+use sound.WpLaws.{FmC, fmOf}
 use denote.RattleType.{owns}
 use denote.Shadow.{pureI}
 use denote.Laws.{Is, shows}
@@ -44,7 +44,7 @@ use denote.Triple.Entry.{onEntry}
 use denote.Triple.Spec.{Meets, tripleOf}
 use denote.Triple.Table.{entered, cited}
 use denote.Triple.Clauses.{ensured, lasts}
-use denote.Triple.Walked.{says, Stays, stay-none-slice, walkOf, goes-none-slice, Walks, ends-at, walked, walk-meets}
+use denote.Triple.Walked.{says, Stays, stay-none-slice, walkOf, goes-none-slice, ends-at}
 use denote.Exit.{yes}
 use Rattle.laws.specs.Lists.{copy-next}
 use Rattle.laws.specs.Order.{order}
@@ -55,6 +55,7 @@ use Rattle.runs.specs.RowsLaws.{over-is}
 use Rattle.runs.proofs.run.Run as T
 use Rattle.runs.proofs.run.Run.Laws as T′
 use Rattle.runs.proofs.Callees.{AtMost, limits}
+use Rattle.runs.proofs.Meets.{meets-by}
 use Rattle.runs.proofs.Memory.{R, Runs, run-mir, runs-mir, run-vals, run-tells, run-typed, runs-val, runs-typed, slot-in, slot-out, at-place, within, Upto, Nearer, Nearer-wf}
 use Rattle.runs.proofs.Steps.{reads-run, stores-run}
 use Rattle.runs.proofs.run.at_most.Symbol as at-most-def
@@ -235,12 +236,10 @@ module _ {M : Type 1} (𝓤 : URA M) (H : Heap 𝓤) (A : Atoms 𝓤) (W : Given
         few = omega arith
 
 module _ {M : Type 1} (𝓤 : URA M) (H : Heap 𝓤) (A : Atoms 𝓤) (W : Given 𝓤 H A) (mem : Memory → SProp 𝓤) (run : Routine → Fun 𝓤) (𝓣 : Tables 𝓤 H) (known-limit : Triple 𝓤 (𝓣 .C #runs·run·at-most) (AtMost 𝓤 H A mem run)) (known-blanks : Triple 𝓤 (𝓣 .C #runs·run·blanks) (Blanks 𝓤 H A mem run)) where
-  out-walks : Walks 𝓤 H A out.ended stayed (WpFn 𝓤 H (𝓣 .C) (𝓣 .Λ) code.function) (out.clauses 𝓤 H A mem run)
-  out-walks = walked 𝓤 H A out.ended stayed (out.clauses 𝓤 H A mem run) (WpFn 𝓤 H (𝓣 .C) (𝓣 .Λ) code.function) (λ κs. (slice-vals, tt)) (λ κs. (shr-slice-tells (named 0) (κs .0) R, tt))
-      (λ κs qs bounds a g are. via 𝓤 _ (fst∗ 𝓤 _ (emp 𝓤)) (walk 𝓤 H A W mem run (κs .0) (qs .0) (a .0 .ptr .0) (a .0 .ptr .1) (a .0 .name) (a .0 .now) (are .0 .0 .1) 𝓣 known-limit known-blanks))
-
   out-meets : Meets 𝓤 H A out.signature (WpFn 𝓤 H (𝓣 .C) (𝓣 .Λ) code.function) (out.spec 𝓤 H A mem run)
-  out-meets = walk-meets 𝓤 H A out.ended stayed W (goes-none-slice 𝓤 H A W 1 (0 ∷ []) tt (plain (λ _. R)) yes, tt) (out.clauses 𝓤 H A mem run) (WpFn 𝓤 H (𝓣 .C) (𝓣 .Λ) code.function) (WpFn-mono 𝓤 H (W .laws) 𝓣 code.function) out-walks
+  out-meets =
+      meets-by 𝓤 H A W out.ended stayed (goes-none-slice 𝓤 H A W 1 (0 ∷ []) tt (plain (λ _. R)) yes, tt) (out.clauses 𝓤 H A mem run) code.function 𝓣 (λ κs. (slice-vals, tt)) (λ κs. (shr-slice-tells (named 0) (κs .0) R, tt))
+      (λ κs qs bounds a g are. walk 𝓤 H A W mem run (κs .0) (qs .0) (a .0 .ptr .0) (a .0 .ptr .1) (a .0 .name) (a .0 .now) (are .0 .0 .1) 𝓣 known-limit known-blanks)
 
 pub out-spec : {M : Type 1} → stated.statement M
 unfolding code.routine tablesOf

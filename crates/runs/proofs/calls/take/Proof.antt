@@ -77,16 +77,6 @@ Front 𝓤 H A mem run = tripleOf 𝓤 H A front.signature (front.spec 𝓤 H A 
 abbrev Numbers : Type 0
 Numbers = RefT (List ℕ)
 
--- the answer of what `front::take` answers, as a machine value; and the facts of it and of the runs beside it
-abbrev answer-val : Took → Val
-answer-val r = J′.the-field-laws .val (J.the-type .to (r .answer))
-
-answer-is : (r : Took) (vs : List Val) → Is T.the-row r vs → Is J.the-row (r .answer) (answer-val r ∷ [])
-answer-is r vs is = LL.owed T.the-type T′.the-laws r vs is .0
-
-left-is : (r : Took) (vs : List Val) → Is T.the-row r vs → Is Runs (r .runs) (field-val (r .runs) ∷ [])
-left-is r vs is = field-runs (r .runs) (field-val (r .runs)) (LL.owed T.the-type T′.the-laws r vs is .1 .0)
-
 module _ {M : Type 1} (𝓤 : URA M) (H : Heap 𝓤) (A : Atoms 𝓤) (W : Given 𝓤 H A) (mem : Memory → SProp 𝓤) (run : Routine → Fun 𝓤) (κ₀ κ₁ κ₂ κ₃ : Lft) (q₀ q₁ q₂ q₃ : Share) (list : Numbers) (rows : RefT (List Run)) (records batch : Numbers) where
   abbrev x : Numbers × (RefT (List Run) × (Numbers × (Numbers × Unit {0})))
   x = (list, (rows, (records, (batch, tt))))
@@ -157,16 +147,16 @@ module _ {M : Type 1} (𝓤 : URA M) (H : Heap 𝓤) (A : Atoms 𝓤) (W : Given
         (and-then ! (load ! (from ! (stop !)) (look ! 29 refl)) (and-then ! (load ! (from ! (stop !)) (look ! 21 refl)) (and-then ! (load ! (from ! (stop !)) (look ! 13 refl)) (and-then ! (load ! (from ! (stop !)) (look ! 9 refl)) (and-then ! (load ! (from ! (stop !)) (look ! 23 refl)) (no-more !)))))) (λ w r zs did.
         fsplit ! $ toss ! $ fsplit ! $ toss ! $ fsplit ! $ toss ! $ fsplit ! $ fsplit ! $ move ! (1 ∷ []) $ feqL ! (λ long. move ! (1 ∷ []) $ toss ! $
         -- [the last records; the tokens; the result; the token of rows; what rows owns; _14; …]
-        move ! (2 ∷ []) $ facts ! T.the-row (Is T.the-row) (shows 𝓤 H A T.the-row) r (w ∷ []) (λ has.
+        move ! (2 ∷ []) $ facts ! T.the-row (Is T.the-row) (shows 𝓤 H A T.the-row) r (w ∷ []) (λ has. let had = LL.owed T.the-type T′.the-laws r (w ∷ []) has in let left = field-runs (r .runs) (field-val (r .runs)) (had .1 .0) in
         move ! (2 ∷ 3 ∷ []) $ land ! (from ! (stop !)) (init ! 20 refl (LL.lawful T.the-type T′.the-laws 𝓤 H A W .typed r _ has .0)) $
         rewrite ! 20 (λ (t : Val). ‵ (fat fullShare T′.mir l₆ 0 t)) (ap only (LL.tells T.the-type T′.the-laws r (w ∷ []) has)) refl $
-        leaves mem run fm κ₁ q₁ (ptr rows .0) (ptr rows .1) (name rows) (now rows) ! known-back (r .runs) (field-val (r .runs)) (left-is r (w ∷ []) has) refl refl refl refl
+        leaves mem run fm κ₁ q₁ (ptr rows .0) (ptr rows .1) (name rows) (now rows) ! known-back (r .runs) (field-val (r .runs)) left refl refl refl refl
         (look-in ! 28 (sub ! 0 refl (whole !))) (init ! 6 refl (tt, tt)) (look ! 6 refl) (look-in ! 28 (sub ! 1 refl (whole !))) (init ! 4 refl (tt, (tt, (record { fits = g₁ .0 }, tt))))
-        (look-in ! 19 (sub ! 1 refl (whole !))) (look ! 3 refl) (init ! 8 refl (tt, tt)) (look-in ! 20 (sub ! 0 refl (whole !))) (init ! 32 refl (EL.lawful J.the-type J′.the-laws 𝓤 H A W tt .typed (r .answer) _ (answer-is r (w ∷ []) has) .0)) (look ! 32 refl) (λ long′.
+        (look-in ! 19 (sub ! 1 refl (whole !))) (look ! 3 refl) (init ! 8 refl (tt, tt)) (look-in ! 20 (sub ! 0 refl (whole !))) (init ! 32 refl (EL.lawful J.the-type J′.the-laws 𝓤 H A W tt .typed (r .answer) _ (had .0) .0)) (look ! 32 refl) (λ long′.
         -- [the token of rows; its last runs; the last records; the tokens; _14; …; _0; …]
         move ! (32 ∷ 33 ∷ 30 ∷ 31 ∷ 28 ∷ 29 ∷ 26 ∷ 27 ∷ 24 ∷ 25 ∷ 22 ∷ 23 ∷ 20 ∷ 21 ∷ 18 ∷ 19 ∷ 16 ∷ 17 ∷ 14 ∷ 15 ∷ 12 ∷ 13 ∷ 10 ∷ 11 ∷ 8 ∷ 9 ∷ 6 ∷ 7 ∷ 4 ∷ 5 ∷ []) $ dies ! $ dies ! $ dies ! $ dies ! $ dies ! $ dies ! $ dies ! $ dies ! $ dies ! $ dies ! $ dies ! $ dies ! $ dies ! $ dies ! $ dies ! $ free0 ! $
         move ! (3 ∷ []) $ use1 W (‵ (flft κ₀ q₀) ⊛ (‵ (flft κ₂ q₂) ⊛ (‵ (flft κ₃ q₃) ⊛ ‵ ftrue))) (id⊢ 𝓤 _) $ split ! $ move ! (1 ∷ []) $ split ! $ move ! (1 ∷ []) $ split ! $ keep ! (3 ∷ 4 ∷ 2 ∷ 0 ∷ 5 ∷ 6 ∷ []) $
-        by ! (exits (r .answer) (answer-val r) (over (r .runs) (now rows)) (zs .1 .1 .1 .0) (answer-is r (w ∷ []) has) long′ long (took-runs (now list) (now rows) (now records) (now batch) (r .answer) (r .runs) (zs .1 .1 .1 .0) (left-is r (w ∷ []) has .1 .0 .1) did))))))))))))))))))))))
+        by ! (exits (r .answer) _ (over (r .runs) (now rows)) (zs .1 .1 .1 .0) (had .0) long′ long (took-runs (now list) (now rows) (now records) (now batch) (r .answer) (r .runs) (zs .1 .1 .1 .0) (left .1 .0 .1) did))))))))))))))))))))))
       where
         Did : Took → List ℕ → Type 0
         Did r records′ = TookRuns (now list) (lent (now rows) (array (now rows))) (now records) (now batch) (r .answer) (lent (now rows) (r .runs)) records′

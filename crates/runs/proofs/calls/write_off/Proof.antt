@@ -77,16 +77,6 @@ Front 𝓤 H A mem run = tripleOf 𝓤 H A front.signature (front.spec 𝓤 H A 
 abbrev Numbers : Type 0
 Numbers = RefT (List ℕ)
 
--- the answer of what `front::write_off` answers, as a machine value; and the facts of it and of the runs beside it
-abbrev answer-val : WroteOff → Val
-answer-val r = J′.the-field-laws .val (J.the-type .to (r .answer))
-
-answer-is : (r : WroteOff) (vs : List Val) → Is T.the-row r vs → Is J.the-row (r .answer) (answer-val r ∷ [])
-answer-is r vs is = LL.owed T.the-type T′.the-laws r vs is .0
-
-left-is : (r : WroteOff) (vs : List Val) → Is T.the-row r vs → Is Runs (r .runs) (field-val (r .runs) ∷ [])
-left-is r vs is = field-runs (r .runs) (field-val (r .runs)) (LL.owed T.the-type T′.the-laws r vs is .1 .0)
-
 module _ {M : Type 1} (𝓤 : URA M) (H : Heap 𝓤) (A : Atoms 𝓤) (W : Given 𝓤 H A) (mem : Memory → SProp 𝓤) (run : Routine → Fun 𝓤) (κ₀ κ₁ κ₂ : Lft) (q₀ q₁ q₂ : Share) (list : Numbers) (rows : RefT (List Run)) (records : Numbers) (letter : ℕ) where
   abbrev x : Numbers × (RefT (List Run) × (Numbers × (ℕ × Unit {0})))
   x = (list, (rows, (records, (letter, tt))))
@@ -147,17 +137,17 @@ module _ {M : Type 1} (𝓤 : URA M) (H : Heap 𝓤) (A : Atoms 𝓤) (W : Given
         -- the call over numbers: [what it is handed; the token of rows; what rows owns; _12; …]
         move ! (28 ∷ 29 ∷ 30 ∷ 31 ∷ []) $ cut handed (raw (Front 𝓤 H A mem run .pre (to-front u)) ∷ []) _ (asks-front u is (g₁ .0) small) $
         answers-as ! fm front.ended (front.clauses 𝓤 H A mem run) known-front (to-front u .0) tt (λ r zs. Did r) (λ r zs. id⊢ 𝓤 _) (and-then ! (load ! (from ! (stop !)) (look ! 25 refl)) (and-then ! (load ! (from ! (stop !)) (look ! 17 refl)) (and-then ! (load ! (from ! (stop !)) (look ! 9 refl)) (and-then ! (load ! (from ! (stop !)) (look ! 21 refl)) (and-then ! (load ! (from ! (stop !)) (look ! 19 refl)) (no-more !)))))) (λ w r zs did. toss ! $
-        move ! (1 ∷ []) $ facts ! T.the-row (Is T.the-row) (shows 𝓤 H A T.the-row) r (w ∷ []) (λ has.
+        move ! (1 ∷ []) $ facts ! T.the-row (Is T.the-row) (shows 𝓤 H A T.the-row) r (w ∷ []) (λ has. let had = LL.owed T.the-type T′.the-laws r (w ∷ []) has in let left = field-runs (r .runs) (field-val (r .runs)) (had .1 .0) in
         -- [the token of rows; what rows owns; the tokens; _12; …]
         move ! (1 ∷ 2 ∷ []) $ land ! (from ! (stop !)) (init ! 15 refl (LL.lawful T.the-type T′.the-laws 𝓤 H A W .typed r _ has .0)) $
         rewrite ! 15 (λ (t : Val). ‵ (fat fullShare T′.mir l₆ 0 t)) (ap only (LL.tells T.the-type T′.the-laws r (w ∷ []) has)) refl $
-        leaves mem run fm κ₁ q₁ (ptr rows .0) (ptr rows .1) (name rows) (now rows) ! known-back (r .runs) (field-val (r .runs)) (left-is r (w ∷ []) has) refl refl refl refl
+        leaves mem run fm κ₁ q₁ (ptr rows .0) (ptr rows .1) (name rows) (now rows) ! known-back (r .runs) (field-val (r .runs)) left refl refl refl refl
         (look-in ! 23 (sub ! 0 refl (whole !))) (init ! 5 refl (tt, tt)) (look ! 5 refl) (look-in ! 23 (sub ! 1 refl (whole !))) (init ! 3 refl (tt, (tt, (record { fits = g₁ .0 }, tt))))
-        (look-in ! 14 (sub ! 1 refl (whole !))) (look ! 2 refl) (init ! 7 refl (tt, tt)) (look-in ! 15 (sub ! 0 refl (whole !))) (init ! 27 refl (EL.lawful J.the-type J′.the-laws 𝓤 H A W tt .typed (r .answer) _ (answer-is r (w ∷ []) has) .0)) (look ! 27 refl) (λ long.
+        (look-in ! 14 (sub ! 1 refl (whole !))) (look ! 2 refl) (init ! 7 refl (tt, tt)) (look-in ! 15 (sub ! 0 refl (whole !))) (init ! 27 refl (EL.lawful J.the-type J′.the-laws 𝓤 H A W tt .typed (r .answer) _ (had .0) .0)) (look ! 27 refl) (λ long.
         -- [the token of rows; its last runs; the tokens; _12; …; _0; …]
         move ! (27 ∷ 28 ∷ 25 ∷ 26 ∷ 23 ∷ 24 ∷ 21 ∷ 22 ∷ 19 ∷ 20 ∷ 17 ∷ 18 ∷ 15 ∷ 16 ∷ 13 ∷ 14 ∷ 11 ∷ 12 ∷ 9 ∷ 10 ∷ 7 ∷ 8 ∷ 5 ∷ 6 ∷ 3 ∷ 4 ∷ []) $ dies ! $ dies ! $ dies ! $ dies ! $ dies ! $ dies ! $ dies ! $ dies ! $ dies ! $ dies ! $ dies ! $ dies ! $ dies ! $ free0 ! $
         move ! (2 ∷ []) $ use1 W (‵ (flft κ₀ q₀) ⊛ (‵ (flft κ₂ q₂) ⊛ ‵ ftrue)) (id⊢ 𝓤 _) $ split ! $ move ! (1 ∷ []) $ split ! $ keep ! (2 ∷ 3 ∷ 0 ∷ 4 ∷ []) $
-        by ! (exits (r .answer) (answer-val r) (over (r .runs) (now rows)) (answer-is r (w ∷ []) has) long (wrote-off-runs (now list) (now rows) (now records) letter (r .answer) (r .runs) (left-is r (w ∷ []) has .1 .0 .1) did)))))))))))))))))))
+        by ! (exits (r .answer) _ (over (r .runs) (now rows)) (had .0) long (wrote-off-runs (now list) (now rows) (now records) letter (r .answer) (r .runs) (left .1 .0 .1) did)))))))))))))))))))
       where
         Did : WroteOff → Type 0
         Did r = WroteOffRuns (now list) (lent (now rows) (array (now rows))) (now records) letter (r .answer) (lent (now rows) (r .runs))

@@ -1,0 +1,41 @@
+-- What is lent on comes back in front of what was not.
+use borrow.Author.Needs.{needs}
+use native.Mathlib.Omega.{arith}
+use lib.ListN.{length, drop, length-take}
+use lib.Seq.{take-at, length-take-le}
+use mathlib.Core.Path.{_≡_, _∙_}
+use Rattle.runs.proofs.front.take_numbers.Statement.{statement}
+use Rattle.runs.proofs.front.take_numbers.Tie as tie
+
+slice-relend-prefix-take : tie.Need-slice-relend-prefix-take
+slice-relend-prefix-take c = search needs
+
+slice-aggregate-take : tie.Need-slice-aggregate-take
+slice-aggregate-take c = simp length-take (omega arith)
+
+take-requires : tie.Need-take-requires
+take-requires c κs = search needs
+
+same-length : tie.Need-same-length
+same-length c = search needs
+
+same-length-2 : tie.Need-same-length-2
+same-length-2 c = search needs
+
+returns : tie.Need-returns
+returns c =
+    let s = c .before .before .before .before .before .before .before .before .before .before .before in
+    let t = c .before .before .before .before .take in
+    let long : length (t .last .1 .0) ≡ s .args .lent = c .before .before .before .numbers .given .0 ∙ length-take-le (s .args .lent) (s .args .numbers .now) (s .pre) in
+    rw (take-at (t .last .1 .0) (drop (s .args .lent) (s .args .numbers .now)) (s .args .lent) long) (t .ensures)
+
+pub take-numbers-spec : {M : Type 1} → statement M
+take-numbers-spec =
+    tie.close
+    (tie.spec
+    slice-relend-prefix-take
+    slice-aggregate-take
+    take-requires
+    same-length
+    same-length-2
+    returns)

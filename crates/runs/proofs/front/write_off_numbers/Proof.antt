@@ -1,0 +1,37 @@
+-- What is lent on comes back in front of what was not.
+use borrow.Author.Needs.{needs}
+use mathlib.Core.Path.{_≡_, _∙_}
+use native.Mathlib.Omega.{arith}
+use lib.ListN.{length, drop, length-take}
+use lib.Seq.{take-at, length-take-le}
+use Rattle.runs.proofs.front.write_off_numbers.Statement.{statement}
+use Rattle.runs.proofs.front.write_off_numbers.Tie as tie
+
+slice-relend-prefix-write-off : tie.Need-slice-relend-prefix-write-off
+slice-relend-prefix-write-off c = search needs
+
+slice-aggregate-write-off : tie.Need-slice-aggregate-write-off
+slice-aggregate-write-off c = simp length-take (omega arith)
+
+write-off-requires : tie.Need-write-off-requires
+write-off-requires c κs = search needs
+
+same-length : tie.Need-same-length
+same-length c = search needs
+
+returns : tie.Need-returns
+returns c =
+    let s = c .before .before .before .before .before .before .before in
+    let t = c .before .before .write-off in
+    let long : length (t .last .1 .0) ≡ s .args .lent = c .before .numbers .given .0 ∙ length-take-le (s .args .lent) (s .args .numbers .now) (s .pre) in
+    rw (take-at (t .last .1 .0) (drop (s .args .lent) (s .args .numbers .now)) (s .args .lent) long) (t .ensures)
+
+pub write-off-numbers-spec : {M : Type 1} → statement M
+write-off-numbers-spec =
+    tie.close
+    (tie.spec
+    slice-relend-prefix-write-off
+    slice-aggregate-write-off
+    write-off-requires
+    same-length
+    returns)

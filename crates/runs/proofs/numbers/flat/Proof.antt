@@ -1,0 +1,100 @@
+-- The loop's invariant: the first i runs are stored as numbers.
+use Prim.Native.Nat.{ℕ, _+_, _-_, _*_, _≤_}
+use mathlib.Core.Path.{_≡_, refl, ap, _∙_}
+use mathlib.Core.List.{List, _++_, append-nil}
+use native.Mathlib.Omega.{arith}
+use lib.ListN.{length, getD, set, take, drop, replicate, length-set}
+use lib.Seq.{take-all}
+use Rattle.runs.specs.declared.run.Run.{Run}
+use Rattle.runs.specs.Rows.{flat, blank}
+use Rattle.runs.specs.FlatLaws.{flat-more}
+use Rattle.runs.proofs.numbers.flat.Statement.{statement}
+use Rattle.runs.proofs.numbers.flat.Tie as tie
+
+abbrev Inv-loop : tie.InvT-loop
+Inv-loop runs numbers₀ i₀ numbers i = (i ≤ 132) × (length numbers ≡ 264) × (numbers ≡ flat (take i runs) ++ drop (2 * i) numbers₀)
+
+abbrev μ-loop : tie.MeasureT-loop
+μ-loop runs numbers₀ i₀ numbers i = 132 - i
+
+loop-holds : tie.Need-loop-holds Inv-loop μ-loop
+loop-holds c = (omega arith, refl, refl)
+
+mul-run : tie.Need-mul-run Inv-loop μ-loop
+mul-run c = omega arith
+
+array-copy-out-run : tie.Need-array-copy-out-run Inv-loop μ-loop
+array-copy-out-run c = omega arith
+
+mul-numbers : tie.Need-mul-numbers Inv-loop μ-loop
+mul-numbers c = omega arith
+
+mul-numbers-2 : tie.Need-mul-numbers-2 Inv-loop μ-loop
+mul-numbers-2 c = omega arith
+
+array-write-numbers : tie.Need-array-write-numbers Inv-loop μ-loop
+array-write-numbers c = omega arith
+
+mul-numbers-3 : tie.Need-mul-numbers-3 Inv-loop μ-loop
+mul-numbers-3 c = omega arith
+
+add-numbers : tie.Need-add-numbers Inv-loop μ-loop
+add-numbers c = omega arith
+
+mul-numbers-4 : tie.Need-mul-numbers-4 Inv-loop μ-loop
+mul-numbers-4 c = omega arith
+
+array-write-numbers-2 : tie.Need-array-write-numbers-2 Inv-loop μ-loop
+array-write-numbers-2 c = omega arith
+
+add-i : tie.Need-add-i Inv-loop μ-loop
+add-i c = omega arith
+
+loop-less : tie.Need-loop-less Inv-loop μ-loop
+loop-less c = omega arith
+
+loop-again : tie.Need-loop-again Inv-loop μ-loop
+loop-again c =
+    let l = c .before .before .loop in
+    let s = c .before .before .before in
+    let runs : List Run = s .args .t1 in
+    let run : Run = getD runs (l .i) blank in
+    let long : length runs ≡ 132 = s .good .0 .1 .0 .1 in (
+      omega arith,
+      length-set (set (l .numbers) (2 * l .i) (run .first)) (2 * l .i + 1) (run .last) ∙ length-set (l .numbers) (2 * l .i) (run .first) ∙ l .inv .1,
+      ap (λ (ns : List ℕ). set (set ns (2 * l .i) (run .first)) (2 * l .i + 1) (run .last)) (l .inv .2)
+          ∙ flat-more runs (replicate 264 0) (l .i) (omega arith) (omega arith),
+    )
+
+returns : tie.Need-returns Inv-loop μ-loop
+returns c =
+    let l = c .before .loop in
+    let s = c .before .before in
+    let runs : List Run = s .args .t1 in
+    let long : length runs ≡ 132 = s .good .0 .1 .0 .1 in
+    let all : l .i ≡ 132 = omega arith in
+    l .inv .2
+    ∙ ap (λ (k : ℕ). flat (take k runs) ++ drop (2 * k) (replicate 264 0)) all
+    ∙ append-nil (flat (take 132 runs))
+    ∙ ap flat (take-all 132 runs (omega arith))
+
+pub flat-spec : {M : Type 1} → statement M
+flat-spec =
+    tie.close
+    (tie.spec
+    Inv-loop
+    μ-loop
+    loop-holds
+    mul-run
+    array-copy-out-run
+    mul-numbers
+    mul-numbers-2
+    array-write-numbers
+    mul-numbers-3
+    add-numbers
+    mul-numbers-4
+    array-write-numbers-2
+    add-i
+    loop-less
+    loop-again
+    returns)

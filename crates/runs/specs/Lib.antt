@@ -1,0 +1,10 @@
+pub mod FlatLaws
+pub mod FrontLaws
+pub mod Histories
+pub mod HistoriesLaws
+pub mod LentLaws
+pub mod Promises
+pub mod PromisesLaws
+pub mod Rows
+pub mod RowsLaws
+pub mod WholeLaws

@@ -1,0 +1,48 @@
+-- What each call over a lent row of runs promises: what the call over numbers promises of the row seen as numbers, with 15 for gap
+-- rows in runs.
+use Prim.Native.Nat.{ℕ}
+use mathlib.Core.Path.{_≡_}
+use mathlib.Core.List.{List}
+use lib.ListN.{length}
+use Rattle.layout.specs.declared.rows.Level.{Level}
+use Rattle.quotebox.specs.declared.answers.Started.{Started}
+use Rattle.quotebox.specs.declared.answers.Judged.{Judged}
+use Rattle.quotebox.specs.declared.answers.Listed.{Listed}
+use Rattle.quotebox.specs.declared.answers.WrittenOff.{WrittenOff}
+use Rattle.quotebox.specs.declared.answers.Reading.{Reading}
+use Rattle.quotebox.specs.Answers.{startedNumbers, judgedNumbers, listedNumbers, writtenOffNumbers, readingNumbers}
+use Rattle.quotebox.specs.Promises.{JudgedBatch, TookBatch}
+use Rattle.quotebox.specs.CallPromises.{StartedBox, ListedRuns, WroteOffRun, ReadRecord}
+use Rattle.runs.specs.declared.run.Run.{Run}
+use Rattle.runs.specs.Rows.{flat, inRuns}
+
+pub record StartedRuns (list starts : List ℕ) (rows : List Run) (records : List ℕ) (answer : Started) (rows′ : List Run) (records′ : List ℕ) : Type 0 where
+  pub core : Started
+  pub started : StartedBox list starts (flat rows) records core (flat rows′) records′
+  pub answers : startedNumbers answer ≡ inRuns list (length rows) (startedNumbers core)
+
+pub record JudgedRuns (list : List ℕ) (rows : List Run) (records batch : List ℕ) (answer : Judged) : Type 0 where
+  pub core : Judged
+  pub judged : JudgedBatch list (flat rows) records batch core
+  pub answers : judgedNumbers answer ≡ inRuns list (length rows) (judgedNumbers core)
+
+pub record TookRuns (list : List ℕ) (rows : List Run) (records batch : List ℕ) (answer : Judged) (rows′ : List Run) (records′ : List ℕ) : Type 0 where
+  pub core : Judged
+  pub took : TookBatch list (flat rows) records batch core (flat rows′) records′
+  pub answers : judgedNumbers answer ≡ inRuns list (length rows) (judgedNumbers core)
+
+pub record ListedGaps (list : List ℕ) (rows : List Run) (records : List ℕ) (letter : ℕ) (cells : List ℕ) (answer : Listed) (cells′ : List ℕ) : Type 0 where
+  pub core : Listed
+  pub listed : ListedRuns list (flat rows) records letter cells core cells′
+  pub answers : listedNumbers answer ≡ inRuns list (length rows) (listedNumbers core)
+
+pub record WroteOffRuns (list : List ℕ) (rows : List Run) (records : List ℕ) (letter : ℕ) (answer : WrittenOff) (rows′ : List Run) : Type 0 where
+  pub core : WrittenOff
+  pub wrote-off : WroteOffRun list (flat rows) records letter core (flat rows′)
+  pub answers : writtenOffNumbers answer ≡ inRuns list (length rows) (writtenOffNumbers core)
+
+pub record ReadRuns (list : List ℕ) (rows : List Run) (records : List ℕ) (letter : ℕ) (key : List ℕ) (level : Level) (reading : Reading) : Type 0 where
+  pub core : Reading
+  pub read : ReadRecord list (flat rows) records letter key level core
+  pub answers : readingNumbers reading ≡ inRuns list (length rows) (readingNumbers core)
+  pub quotes : reading .quote ≡ core .quote

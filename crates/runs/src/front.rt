@@ -1,0 +1,214 @@
+// The calls over numbers, on an array of runs of which so many are lent.
+ghost use mathlib.Core.Path.{_≡_};
+ghost use Prim.Native.Nat.{_≤_};
+ghost use lib.ListN.{length, take};
+ghost use Rattle.quotebox.specs.Promises.{JudgedBatch, TookBatch};
+ghost use Rattle.quotebox.specs.CallPromises.{StartedBox, ListedRuns, WroteOffRun, ReadRecord};
+ghost use Rattle.runs.specs.Promises.{StartedRuns, JudgedRuns, TookRuns, ListedGaps, WroteOffRuns, ReadRuns};
+use crate::numbers;
+use crate::refusal;
+use crate::run;
+use crate::run::Run;
+use layout::Level;
+use quotebox::Judged;
+use quotebox::Listed;
+use quotebox::Reading;
+use quotebox::Started;
+use quotebox::WrittenOff;
+
+pub(crate) struct Began {
+    pub answer: Started,
+    pub runs: [Run; run::MOST],
+}
+
+pub(crate) struct Took {
+    pub answer: Judged,
+    pub runs: [Run; run::MOST],
+}
+
+pub(crate) struct WroteOff {
+    pub answer: WrittenOff,
+    pub runs: [Run; run::MOST],
+}
+
+fn start_numbers(
+    list: &[u8],
+    starts: &[u32],
+    numbers: &mut [u32],
+    lent: usize,
+    records: &mut [u64],
+) -> Started
+    requires { ⌜ lent ≤ length (now numbers) ⌝ }
+    ensures { λ r. ⌜ StartedBox (now (list .entry)) (now (starts .entry)) (take lent (now (numbers .entry))) (now (records .entry)) r (take lent (now (numbers .exit))) (now (records .exit)) ⌝ }
+{
+    quotebox::start(list, starts, &mut numbers[..lent], records)
+}
+
+pub(crate) fn start(
+    list: &[u8],
+    starts: &[u32],
+    runs: [Run; run::MOST],
+    lent: usize,
+    records: &mut [u64],
+) -> Began
+    ensures { λ r. ⌜ StartedRuns (now (list .entry)) (now (starts .entry)) (take lent runs) (now (records .entry)) (r .answer) (take lent (r .runs)) (now (records .exit)) ⌝ }
+{
+    let count = run::at_most(lent);
+    let mut numbers = numbers::flat(runs);
+    let answer = start_numbers(list, starts, &mut numbers, 2 * count, records);
+    Began {
+        answer: refusal::started(list, count, answer),
+        runs: numbers::paired(numbers),
+    }
+}
+
+fn judge_numbers(list: &[u8], numbers: &[u32], lent: usize, records: &[u64], batch: &[u8]) -> Judged
+    requires { ⌜ lent ≤ length (now numbers) ⌝ }
+    ensures { λ r. ⌜ JudgedBatch (now (list .entry)) (take lent (now (numbers .entry))) (now (records .entry)) (now (batch .entry)) r ⌝ }
+{
+    quotebox::judge(list, &numbers[..lent], records, batch)
+}
+
+pub(crate) fn judge(
+    list: &[u8],
+    runs: [Run; run::MOST],
+    lent: usize,
+    records: &[u64],
+    batch: &[u8],
+) -> Judged
+    ensures { λ r. ⌜ JudgedRuns (now (list .entry)) (take lent runs) (now (records .entry)) (now (batch .entry)) r ⌝ }
+{
+    let count = run::at_most(lent);
+    let numbers = numbers::flat(runs);
+    let answer = judge_numbers(list, &numbers, 2 * count, records, batch);
+    refusal::judged(list, count, answer)
+}
+
+fn take_numbers(
+    list: &[u8],
+    numbers: &mut [u32],
+    lent: usize,
+    records: &mut [u64],
+    batch: &[u8],
+) -> Judged
+    requires { ⌜ lent ≤ length (now numbers) ⌝ }
+    ensures { λ r. ⌜ TookBatch (now (list .entry)) (take lent (now (numbers .entry))) (now (records .entry)) (now (batch .entry)) r (take lent (now (numbers .exit))) (now (records .exit)) ⌝ }
+{
+    quotebox::take(list, &mut numbers[..lent], records, batch)
+}
+
+pub(crate) fn take(
+    list: &[u8],
+    runs: [Run; run::MOST],
+    lent: usize,
+    records: &mut [u64],
+    batch: &[u8],
+) -> Took
+    ensures { λ r. ⌜ TookRuns (now (list .entry)) (take lent runs) (now (records .entry)) (now (batch .entry)) (r .answer) (take lent (r .runs)) (now (records .exit)) ⌝ }
+{
+    let count = run::at_most(lent);
+    let mut numbers = numbers::flat(runs);
+    let answer = take_numbers(list, &mut numbers, 2 * count, records, batch);
+    Took {
+        answer: refusal::judged(list, count, answer),
+        runs: numbers::paired(numbers),
+    }
+}
+
+fn list_numbers(
+    list: &[u8],
+    numbers: &[u32],
+    lent: usize,
+    records: &[u64],
+    letter: u8,
+    cells: &mut [u32],
+) -> Listed
+    requires { ⌜ lent ≤ length (now numbers) ⌝ }
+    ensures { λ r. ⌜ ListedRuns (now (list .entry)) (take lent (now (numbers .entry))) (now (records .entry)) letter (now (cells .entry)) r (now (cells .exit)) ⌝ }
+{
+    quotebox::list_gaps(list, &numbers[..lent], records, letter, cells)
+}
+
+pub(crate) fn list_gaps(
+    list: &[u8],
+    runs: [Run; run::MOST],
+    lent: usize,
+    records: &[u64],
+    letter: u8,
+    cells: &mut [u32],
+) -> Listed
+    ensures { λ r. ⌜ ListedGaps (now (list .entry)) (take lent runs) (now (records .entry)) letter (now (cells .entry)) r (now (cells .exit)) ⌝ }
+{
+    let count = run::at_most(lent);
+    let numbers = numbers::flat(runs);
+    let answer = list_numbers(list, &numbers, 2 * count, records, letter, cells);
+    refusal::listed(list, count, answer)
+}
+
+fn write_off_numbers(
+    list: &[u8],
+    numbers: &mut [u32],
+    lent: usize,
+    records: &[u64],
+    letter: u8,
+) -> WrittenOff
+    requires { ⌜ lent ≤ length (now numbers) ⌝ }
+    ensures { λ r. ⌜ WroteOffRun (now (list .entry)) (take lent (now (numbers .entry))) (now (records .entry)) letter r (take lent (now (numbers .exit))) ⌝ }
+{
+    quotebox::write_off(list, &mut numbers[..lent], records, letter)
+}
+
+pub(crate) fn write_off(
+    list: &[u8],
+    runs: [Run; run::MOST],
+    lent: usize,
+    records: &[u64],
+    letter: u8,
+) -> WroteOff
+    ensures { λ r. ⌜ WroteOffRuns (now (list .entry)) (take lent runs) (now (records .entry)) letter (r .answer) (take lent (r .runs)) ⌝ }
+{
+    let count = run::at_most(lent);
+    let mut numbers = numbers::flat(runs);
+    let answer = write_off_numbers(list, &mut numbers, 2 * count, records, letter);
+    WroteOff {
+        answer: refusal::written_off(list, count, answer),
+        runs: numbers::paired(numbers),
+    }
+}
+
+fn read_numbers(
+    list: &[u8],
+    numbers: &[u32],
+    lent: usize,
+    records: &[u64],
+    letter: u8,
+    key: &[u8; 39],
+    level: Level,
+) -> Reading
+    requires { ⌜ lent ≤ length (now numbers) ⌝ }
+    ensures { λ r. ⌜ ReadRecord (now (list .entry)) (take lent (now (numbers .entry))) (now (records .entry)) letter (now (key .entry)) level r ⌝ }
+{
+    quotebox::read_record(list, &numbers[..lent], records, letter, key, level)
+}
+
+pub(crate) fn read_record(
+    list: &[u8],
+    runs: [Run; run::MOST],
+    lent: usize,
+    records: &[u64],
+    letter: u8,
+    key: &[u8; 39],
+    level: Level,
+) -> Reading
+    ensures { λ r. ⌜ ReadRuns (now (list .entry)) (take lent runs) (now (records .entry)) letter (now (key .entry)) level r ⌝ }
+{
+    let count = run::at_most(lent);
+    let numbers = numbers::flat(runs);
+    let reading = read_numbers(list, &numbers, 2 * count, records, letter, key, level);
+    let answer = reading.answer;
+    let quote = reading.quote;
+    Reading {
+        answer: refusal::recorded(list, count, answer),
+        quote,
+    }
+}

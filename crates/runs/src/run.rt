@@ -1,0 +1,27 @@
+// A run of missing numbers, and how many of them a call looks at.
+ghost use mathlib.Core.Path.{_≡_};
+ghost use Prim.Native.Nat.{min};
+ghost use Rattle.runs.specs.Rows.{blanks};
+
+pub struct Run {
+    pub first: u32,
+    pub last: u32,
+}
+
+// The runs of the gap rows of two segments, which a list has at most.
+pub(crate) const MOST: usize = 132;
+
+pub(crate) fn at_most(lent: usize) -> usize
+    ensures { λ r. ⌜ r ≡ min lent 132 ⌝ }
+{
+    if lent < MOST {
+        return lent;
+    }
+    MOST
+}
+
+pub(crate) fn blanks() -> [Run; MOST]
+    ensures { λ r. ⌜ r ≡ blanks ⌝ }
+{
+    [Run { first: 0, last: 0 }; MOST]
+}

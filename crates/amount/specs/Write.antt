@@ -19,6 +19,7 @@ unfoldable pub sizeIn : ℕ → ℕ → ℕ
 sizeIn zero n = 1
 sizeIn (suc steps) n = let more = suc (sizeIn steps (n / 10)) in cond (ltb n 10) 1 more
 
+-- how many digits a number has
 unfoldable pub size : ℕ → ℕ
 unfolding sizeIn
 size n = sizeIn n n
@@ -47,7 +48,7 @@ pub data Written : Type 0 where
   filled : List ℕ → Written
   refused : Written
 
--- 01, the table of refusals: RANGE
+-- 01, the table's row 12: RANGE
 abbrev pub range : ℕ
 range = 12
 
@@ -55,11 +56,12 @@ range = 12
 abbrev pub spaced : ℕ → List ℕ → List ℕ
 spaced width text = replicate (width - length text) space ++ text
 
--- a text in a field of that width; 12 where it doesn't fit
+-- 01, the table's row 12: a text in a field of that width; 12 where it doesn't fit
 abbrev pub inField : ℕ → List ℕ → Written
 inField width text = cond (leb (length text) width) (filled (spaced width text)) refused
 
--- n units in a field of that width; 12 where they are over the largest amount, or their text doesn't fit
+-- 01, the table's row 12: n units in a field of that width; 12 where they are over the largest amount, or their text doesn't
+-- fit
 abbrev pub written : ℕ → ℕ → ℕ → ℕ → Written
 written places max width n = cond (leb n max) (inField width (textOf places n)) refused
 
@@ -67,11 +69,12 @@ written places max width n = cond (leb n max) (inField width (textOf places n)) 
 abbrev pub blankText : ℕ → List ℕ
 blankText width = replicate width space
 
--- the number of a refusal, 0 where there is none: of what is to be written, and of the answer
+-- 01, the table's row 12: the number of a refusal, 0 where there is none, by what is to be written
 abbrev pub refusal : Written → ℕ
 refusal (filled text) = 0
 refusal refused = range
 
+-- 01, the table's row 12: the number of the writer's answer
 abbrev pub putNumber : Put → ℕ
 putNumber Fits = 0
 putNumber OutOfRange = range

@@ -39,5 +39,6 @@ digitsIn zero n = 0
 digitsIn (suc turns) zero = 0
 digitsIn (suc turns) (suc m) = digitsIn turns (suc m / 2) + 1
 
+-- M-102: the binary digits of n
 abbrev pub digits : ℕ → ℕ
 digits n = digitsIn n n

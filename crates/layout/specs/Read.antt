@@ -21,7 +21,7 @@ use Rattle.amount.specs.Kinds.{Kind, price, quantity, turnover}
 use Rattle.layout.specs.Rows.{widthOf}
 use Rattle.layout.specs.Cells.{cellOf, filled}
 
--- a number's cell, where the text is one
+-- 01, the table's rows 11 and 12: a number's cell, where the text is one
 abbrev pub ofNumber : Number → RowRead
 ofNumber None = Cell (cellOf Nothing)
 ofNumber (Amount units) = Cell (cellOf (Units units))
@@ -40,10 +40,11 @@ isStatus byte = eqb byte 83 || eqb byte 32
 abbrev pub letterCell : (ℕ → Bool) → ℕ → RowRead
 letterCell taken byte = cond (taken byte) (Cell byte) Field
 
+-- 01 "Numbers in text": a field as a number of its kind
 abbrev pub numberCell : Kind → List ℕ → RowRead
 numberCell kind field = ofNumber (readText (kind .places) (kind .most) field)
 
--- one row's field; a key's text is only looked up, and its cell is 0
+-- 01 "The message": one row's field; a key's text is only looked up, and its cell is 0
 unfoldable pub readRow : Row → List ℕ → RowRead
 readRow (Text width) field = Cell 0
 readRow MarketType field = letterCell isMarketType (numberAt 1 field 0)

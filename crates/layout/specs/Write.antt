@@ -25,6 +25,7 @@ use Rattle.layout.specs.Read.{isMarketType, isStatus}
 abbrev pub printable : ℕ → Bool
 printable byte = leb 32 byte && leb byte 126
 
+-- 01, the table's row 11: no byte of a written key is outside 32 to 126
 abbrev pub allPrintable : List ℕ → Bool
 allPrintable [] = true
 allPrintable (b ∷ bs) = printable b && allPrintable bs
@@ -43,6 +44,7 @@ keyText width key = cond (leb width (length key) && allPrintable (take width key
 abbrev pub letterText : (ℕ → Bool) → ℕ → RowText
 letterText taken letter = cond (taken letter) (text (letter ∷ [])) malformed
 
+-- 01, the table's row 12: too large, or no text fits
 abbrev pub ofWritten : Written → RowText
 ofWritten (filled characters) = text characters
 ofWritten refused = out-of-range
@@ -87,12 +89,13 @@ writeRows i [] key cells = record { bytes = []; verdict = Good }
 writeRows i (row ∷ rows) key cells =
     textThen (rowText row key (getD cells 0 0)) i (writeRows (suc i) rows (drop (keyUsed row) key) (drop 1 cells))
 
--- the answer for one row, and its field: a refusal leaves it as it was
+-- 01, the table's rows 11 and 12: the answer for one row
 abbrev pub putOf : RowText → RowPut
 putOf (text characters) = Fits
 putOf malformed = Field
 putOf out-of-range = Range
 
+-- 01 "What may be asked": a refusal leaves the field as it was
 abbrev pub fieldAfter : RowText → List ℕ → List ℕ
 fieldAfter (text characters) before = characters
 fieldAfter malformed before = before
@@ -103,6 +106,7 @@ abbrev pub ofPut : Put → RowPut
 ofPut amount.Fits = Fits
 ofPut amount.OutOfRange = Range
 
+-- what the writer of one row promises: its answer, and the field afterwards
 pub record PutsRow (t : RowText) (before : List ℕ) (answer : RowPut) (after : List ℕ) : Type 0 where
   pub answers : answer ≡ putOf t
   pub leaves : after ≡ fieldAfter t before

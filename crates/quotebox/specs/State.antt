@@ -15,6 +15,7 @@ use Rattle.quotebox.specs.declared.state.Asked.the-variants as asked
 use Rattle.quotebox.specs.Refusals.{Rule}
 use Rattle.quotebox.specs.Memory.{stateRules}
 
+-- 01, the table of refusals: the refusal that a check answers, where there is one
 abbrev pub checkedRefusal : Checked → Option Refusal
 checkedRefusal checked.Good = none
 checkedRefusal (checked.Refused refusal) = some refusal

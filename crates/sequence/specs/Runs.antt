@@ -6,11 +6,12 @@ use lib.Dec.{leb, ltb, eqb}
 use lib.ListN.{getD}
 
 infix 68 _to_
--- "runs, each a first and a last number"
+-- 01 "Sequence and gaps": "runs, each a first and a last number"
 pub record Run : Type 0 where
   pub first : ℕ
   pub last : ℕ
 
+-- a run by its first and its last number
 abbrev pub _to_ : ℕ → ℕ → Run
 a to b = record { first = a; last = b }
 

@@ -12,7 +12,7 @@ space = 32
 abbrev pub point : ℕ
 point = 46
 
--- the character of a digit: '0' and so many above it
+-- 01 "Numbers in text": the character of a digit: '0' and so many above it
 abbrev pub digitChar : ℕ → ℕ
 digitChar d = 48 + d
 
@@ -21,7 +21,7 @@ abbrev pub value : List ℕ → ℕ
 value [] = 0
 value (d ∷ ds) = d * 10 ^ length ds + value ds
 
--- each is a decimal digit
+-- 01 "Numbers in text": each is a decimal digit
 abbrev pub Digits : List ℕ → Type 0
 Digits [] = Unit {0}
 Digits (d ∷ ds) = (d < 10) × Digits ds

@@ -9,7 +9,7 @@ use Rattle.amount.specs.declared.Number.the-variants.{None, Amount, Malf
 use Rattle.amount.specs.declared.read.State.{State}
 use Rattle.amount.specs.declared.read.State.the-variants.{Before, Whole, Pointed, Fraction, Behind, Bad}
 
--- the characters '0' to '9'
+-- 01 "Numbers in text": the characters '0' to '9'
 abbrev pub isDigit : ℕ → Bool
 isDigit c = cond (leb (digitChar 0) c) (leb c (digitChar 9)) false
 
@@ -59,7 +59,7 @@ inRange max n = cond (leb n max) (Amount n) OutOfRange
 abbrev pub ranged : ℕ → ℕ → ℕ → ℕ → Number
 ranged places max n k = cond (leb k places) (inRange max (n * 10 ^ (places - k))) OutOfRange
 
--- what the text is, by what was read when it ends
+-- 01 "Numbers in text": what the text is, by what was read when it ends
 abbrev pub answer : ℕ → ℕ → State → Number
 answer places max Before = None
 answer places max (Whole n) = ranged places max n 0

@@ -5,7 +5,7 @@ use mathlib.Core.Bool.{cond}
 use mathlib.Core.List.{List, [], _∷_, _++_, map}
 use lib.Dec.{leb, ltb}
 use lib.ListN.{length, replicate}
-use Rattle.amount.specs.Denotes.{space, digitChar, pointed}
+use Rattle.amount.specs.Denotes.{space, digitChar, pointed, Denotes}
 use Rattle.amount.specs.declared.write.Put.{Put}
 use Rattle.amount.specs.declared.write.Put.the-variants.{Fits, OutOfRange}
 
@@ -24,7 +24,7 @@ unfoldable pub size : ℕ → ℕ
 unfolding sizeIn
 size n = sizeIn n n
 
--- a number's digits, with no needless zero in front
+-- 01 "Numbers in text": a number's digits, with no needless zero in front
 abbrev pub digits : ℕ → List ℕ
 digits n = lastDigits (size n) n
 
@@ -34,7 +34,7 @@ kept zero [] = []
 kept (suc d) [] = suc d ∷ []
 kept d (e ∷ es) = d ∷ e ∷ es
 
--- digits with no needless zero at the end
+-- 01 "Numbers in text": digits with no needless zero at the end
 abbrev pub trimmed : List ℕ → List ℕ
 trimmed [] = []
 trimmed (d ∷ ds) = kept d (trimmed ds)
@@ -43,7 +43,7 @@ trimmed (d ∷ ds) = kept d (trimmed ds)
 unfoldable pub textOf : ℕ → ℕ → List ℕ
 textOf places n = map digitChar (digits (n / 10 ^ places)) ++ pointed (trimmed (lastDigits places n))
 
--- what becomes of a field: the characters that fill it, or a refusal
+-- 01 "Numbers in text": what becomes of a field: the characters that fill it, or a refusal
 pub data Written : Type 0 where
   filled : List ℕ → Written
   refused : Written
@@ -69,6 +69,10 @@ written places max width n = cond (leb n max) (inField width (textOf places n)) 
 abbrev pub blankText : ℕ → List ℕ
 blankText width = replicate width space
 
+-- 01, the table's row 12, "in the writer also no text fits": no text of that width denotes n units
+abbrev pub NoText : ℕ → ℕ → ℕ → Type 0
+NoText places width n = (text : List ℕ) → length text ≡ width → Denotes places text n → ⊥
+
 -- 01, the table's row 12: the number of a refusal, 0 where there is none, by what is to be written
 abbrev pub refusal : Written → ℕ
 refusal (filled text) = 0
@@ -79,7 +83,7 @@ abbrev pub putNumber : Put → ℕ
 putNumber Fits = 0
 putNumber OutOfRange = range
 
--- the field afterwards: a refusal leaves it as it was
+-- 01 "What may be asked": the field afterwards: a refusal leaves it as it was
 abbrev pub fieldAfter : Written → List ℕ → List ℕ
 fieldAfter (filled text) field = text
 fieldAfter refused field = field

@@ -13,7 +13,7 @@ use Rattle.contracts.specs.Keys.{orderOf}
 unfoldable pub segmentOf : List ℕ → ℕ → Option ℕ
 segmentOf list letter = firstBelow (segmentsOf list) (λ i. eqb (letterAt list i) letter)
 
--- how a key stands to key k of segment i
+-- 01 "The contract list": how a key stands to key k of segment i
 abbrev pub standsTo : List ℕ → ℕ → List ℕ → ℕ → Order
 standsTo list i key k = orderOf key (keyOf list i k)
 

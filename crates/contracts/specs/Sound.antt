@@ -95,11 +95,11 @@ abbrev pub keyAscends : List ℕ → ℕ → ℕ → Bool
 keyAscends list i zero = true
 keyAscends list i (suc k) = isBelow (orderOf (keyOf list i k) (keyOf list i (suc k)))
 
--- key k of segment i
+-- 01 "The contract list": key k of segment i
 unfoldable pub keySound : List ℕ → ℕ → ℕ → Bool
 keySound list i k = bytesSound (keyOf list i k) && keyAscends list i k
 
--- every key of segment i
+-- 01 "The contract list": every key of segment i
 unfoldable pub bodySound : List ℕ → ℕ → Bool
 bodySound list i = allBelow (countAt list i) (keySound list i)
 

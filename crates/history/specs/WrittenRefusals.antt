@@ -5,7 +5,7 @@ use mathlib.Core.Logic.{_⊎_}
 use mathlib.Core.List.{List, [], _∷_, _++_}
 use lib.ListN.{length, getD, take, drop, replicate}
 use Rattle.amount.specs.Kinds.{Kind, price, quantity, turnover}
-use Rattle.amount.specs.WriteLaws.{NoText}
+use Rattle.amount.specs.Write.{NoText}
 use Rattle.layout.specs.declared.cells.Held.{Held}
 use Rattle.layout.specs.declared.cells.Held.the-variants.{Nothing, Units}
 use Rattle.layout.specs.declared.quote.Order.{Order}
@@ -98,11 +98,11 @@ MalformedAt level key quote k = Malformed (rowAt (rowsOf level) k) (partAt level
 abbrev pub OutOfRangeAt : Level → Quote → ℕ → Type 0
 OutOfRangeAt level quote k = OutOfRange (rowAt (rowsOf level) k) (valueAt level quote k)
 
--- nothing is wrong with row k
+-- 01, the table's rows 11 and 12: nothing is wrong with row k
 abbrev pub Fine : Level → List ℕ → Quote → ℕ → Type 0
 Fine level key quote k = (MalformedAt level key quote k → ⊥) × (OutOfRangeAt level quote k → ⊥)
 
--- every row is fine
+-- 01, the table's rows 11 and 12: every row is fine
 abbrev pub AllFine : Level → List ℕ → Quote → Type 0
 AllFine level key quote = (k : ℕ) → k < length (rowsOf level) → Fine level key quote k
 

@@ -63,13 +63,13 @@ refusalRead rows bytes k = readRefusal (rowRead rows bytes k)
 abbrev pub refusalWritten : List Row → List ℕ → List ℕ → ℕ → ℕ
 refusalWritten rows key cells k = writeRefusal (rowWritten rows key cells k)
 
--- row i of so many is refused with this number, and no row in front of it is refused
+-- 01, the order of checks: row i of so many is refused with this number, and no row in front of it is refused
 pub record FirstAt (refusal : ℕ → ℕ) (count number i : ℕ) : Type 0 where
   pub within : i < count
   pub refused : refusal i ≡ number
   pub none-before : (k : ℕ) → k < i → refusal k ≡ 0
 
--- a verdict on so many rows, given each row's refusal
+-- 01, the order of checks: a verdict on so many rows, given each row's refusal
 abbrev pub FirstBad : (ℕ → ℕ) → ℕ → Verdict → Type 0
 FirstBad refusal count Good = (k : ℕ) → k < count → refusal k ≡ 0
 FirstBad refusal count (FieldAt i) = FirstAt refusal count field i

@@ -36,7 +36,7 @@ isMarketType byte = eqb byte 78
 abbrev pub isStatus : ℕ → Bool
 isStatus byte = eqb byte 83 || eqb byte 32
 
--- a letter's cell is its byte, where it is one that the row takes
+-- 01 "The message": a letter's cell is its byte, where it is one that the row takes
 abbrev pub letterCell : (ℕ → Bool) → ℕ → RowRead
 letterCell taken byte = cond (taken byte) (Cell byte) Field
 
@@ -64,7 +64,7 @@ rowThen (Cell cell) i rest = record { cells = cell ∷ rest .cells; verdict = re
 rowThen Field i rest = record { cells = []; verdict = FieldAt i }
 rowThen Range i rest = record { cells = []; verdict = RangeAt i }
 
--- the rows from row i on, in turn, each with the bytes behind those of the row before it
+-- 01, the order of checks: the rows from row i on, in turn, each with the bytes behind those of the row before it
 abbrev pub readRows : ℕ → List Row → List ℕ → Outcome
 readRows i [] bytes = record { cells = []; verdict = Good }
 readRows i (row ∷ rows) bytes =

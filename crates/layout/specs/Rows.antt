@@ -66,7 +66,7 @@ dataLength rows = total widthOf rows
 abbrev pub messageLength : List Row → ℕ
 messageLength rows = dataLength rows + 11
 
--- where row i begins in the data
+-- 01 "The message": where row i begins in the data
 abbrev pub offsetOf : List Row → ℕ → ℕ
 offsetOf rows i = dataLength (take i rows)
 

@@ -36,7 +36,7 @@ pub data RowText : Type 0 where
   malformed : RowText
   out-of-range : RowText
 
--- a part of the key, as it is
+-- 01 "The message": a part of the key, as it is
 abbrev pub keyText : ℕ → List ℕ → RowText
 keyText width key = cond (leb width (length key) && allPrintable (take width key)) (text (take width key)) malformed
 
@@ -49,12 +49,12 @@ abbrev pub ofWritten : Written → RowText
 ofWritten (filled characters) = text characters
 ofWritten refused = out-of-range
 
--- a number, as its kind is written: "none" is all spaces
+-- 01 "Numbers in text": a number, as its kind is written: "none" is all spaces
 abbrev pub heldText : Kind → ℕ → Held → RowText
 heldText kind width Nothing = text (blankText width)
 heldText kind width (Units n) = ofWritten (written (kind .places) (kind .most) width n)
 
--- the text of one row: from what is left of the key, or from the row's cell
+-- 01 "The message": the text of one row: from what is left of the key, or from the row's cell
 unfoldable pub rowText : Row → List ℕ → ℕ → RowText
 rowText (Text width) key cell = keyText width key
 rowText MarketType key cell = letterText isMarketType cell
@@ -83,7 +83,7 @@ textThen (text characters) i rest = record { bytes = characters ++ rest .bytes; 
 textThen malformed i rest = record { bytes = []; verdict = FieldAt i }
 textThen out-of-range i rest = record { bytes = []; verdict = RangeAt i }
 
--- the rows from row i on, in turn, a cell each
+-- 01, the order of checks: the rows from row i on, in turn, a cell each
 abbrev pub writeRows : ℕ → List Row → List ℕ → List ℕ → Laid
 writeRows i [] key cells = record { bytes = []; verdict = Good }
 writeRows i (row ∷ rows) key cells =
@@ -120,13 +120,14 @@ pub record WritesRows (rows : Laid) (answer : RowsWritten) : Type 0 where
   pub answers : answer .verdict ≡ rows .verdict
   pub in-front : take (length (rows .bytes)) (answer .bytes) ≡ rows .bytes
 
--- what a refusal leaves as it was
+-- 01 "What may be asked": what a refusal leaves as it was
 abbrev pub whereGood : Verdict → List ℕ → List ℕ → List ℕ
 whereGood Good written before = written
 whereGood (FieldAt i) written before = before
 whereGood (RangeAt i) written before = before
 
--- the answer of writing an update, and the lent data: good rows are laid over its front, a refusal changes no byte
+-- 01 "What may be asked": the answer of writing an update, and the lent data: good rows are laid over its front, a refusal
+-- changes no byte
 pub record WritesUpdate (rows : Laid) (before : List ℕ) (answer : Verdict) (after : List ℕ) : Type 0 where
   pub answers : answer ≡ rows .verdict
   pub leaves : after ≡ whereGood (rows .verdict) (laid (rows .bytes) before) before

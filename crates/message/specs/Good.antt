@@ -4,14 +4,14 @@ use mathlib.Core.Path.{_≡_}
 use mathlib.Core.Logic.{_⊎_}
 use mathlib.Core.List.{List}
 use mathlib.Core.Option.{Option, some}
-use lib.ListN.{length, getD, take, drop}
+use lib.ListN.{length}
 use Rattle.contracts.specs.File.{segmentsOf, letterAt}
 use Rattle.layout.specs.declared.read.RowRead.the-variants.{Cell}
 use Rattle.layout.specs.declared.rows.Level.{Level}
 use Rattle.layout.specs.declared.rows.Row.{Row}
-use Rattle.layout.specs.declared.rows.Row.the-variants.{Text}
+use Rattle.layout.specs.FirstBad.{rowAt, fieldAt}
 use Rattle.layout.specs.Read.{readRow}
-use Rattle.layout.specs.Rows.{rowsOf, widthOf, offsetOf, messageLength}
+use Rattle.layout.specs.Rows.{rowsOf, messageLength}
 use Rattle.message.specs.declared.codes.Kind.{Kind}
 use Rattle.message.specs.declared.codes.Kind.the-variants.{Heartbeat, Update, PassedOver}
 use Rattle.message.specs.Codes.{bareLength}
@@ -53,16 +53,9 @@ HasNumber Heartbeat number = number ≡ 0
 HasNumber Update number = 1 ≤ number
 HasNumber PassedOver number = 1 ≤ number
 
--- row i of a layout, and its bytes
-abbrev pub rowAt : List Row → ℕ → Row
-rowAt rows i = getD rows i (Text 0)
-
-abbrev pub fieldAt : List Row → ℕ → List ℕ → List ℕ
-fieldAt rows i bytes = take (widthOf (rowAt rows i)) (drop (offsetOf rows i) bytes)
-
 -- 01, the table's rows 11 and 12: every row is well formed and in range, so that it reads as a cell
 abbrev pub GoodRows : List Row → List ℕ → Type 0
-GoodRows rows bytes = (i : ℕ) → i < length rows → (cell : ℕ) × (readRow (rowAt rows i) (fieldAt rows i bytes) ≡ Cell cell)
+GoodRows rows bytes = (i : ℕ) → i < length rows → (cell : ℕ) × (readRow (rowAt rows i) (fieldAt rows bytes i) ≡ Cell cell)
 
 -- 01, the table's row 13: the key of an update is listed
 abbrev pub HasContract : Kind → Option ℕ → Type 0

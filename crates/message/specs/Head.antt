@@ -70,6 +70,6 @@ headRules list letter bytes =
     ∷ record { holds = takesNumber (kindIn bytes) (numberOf bytes); refusal = Numbering }
     ∷ []
 
--- the first broken one decides
+-- 01, the order of checks: the first broken one decides
 unfoldable pub headOf : List ℕ → ℕ → List ℕ → Head
 headOf list letter bytes = firstFault (headRules list letter bytes)

@@ -59,7 +59,7 @@ pub record Box : Type 0 where
   pub old : ℕ
   pub heartbeats : ℕ
 
--- a box after messages, or the refusal of one
+-- 01 "Sequence and gaps": a box after messages, or the refusal of one
 pub data Acted : Type 0 where
   acted : Box → Acted
   refused : Refusal → Acted
@@ -123,7 +123,7 @@ unfoldable pub messageActs : List ℕ → ℕ → Box → ℕ → List ℕ → A
 messageActs list letter box i bytes =
     whatActs list letter box i (messageOf list letter bytes .what) (messageOf list letter bytes .cells)
 
--- what comes next acts on the box, unless a refusal has come
+-- 01, the order of checks: what comes next acts on the box, unless a refusal has come
 abbrev pub next : Acted → (Box → Acted) → Acted
 next (refused refusal) more = refused refusal
 next (acted box) more = more box
@@ -157,7 +157,7 @@ withRowIn rows row (some segment) = withRow rows segment row
 abbrev pub withRowOfLetter : List ℕ → ℕ → List ℕ → List ℕ → List ℕ
 withRowOfLetter list letter rows row = withRowIn rows row (segmentOf list letter)
 
--- the box before the first message
+-- 01 "Sequence and gaps": the box before the first message
 abbrev pub boxOf : List ℕ → ℕ → List ℕ → List ℕ → Box
 boxOf list letter rows records = record { row = rowOfLetter list letter rows; records = records; taken = 0; old = 0; heartbeats = 0 }
 

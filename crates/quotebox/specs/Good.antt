@@ -30,7 +30,7 @@ arrived Heartbeat gaps number = gaps
 arrived Update gaps number = cond (takes gaps number) (after gaps number) gaps
 arrived PassedOver gaps number = cond (takes gaps number) (after gaps number) gaps
 
--- the gaps when a message has come
+-- 01 "Sequence and gaps": the gaps when a message has come
 abbrev pub gapsAfter : Gaps → List ℕ → Gaps
 gapsAfter gaps bytes = arrived (kindIn bytes) gaps (numberOf bytes)
 

@@ -25,7 +25,7 @@ unfoldable pub segmentRules : List ℕ → List ℕ → List ℕ → ℕ → Lis
 segmentRules list rows records letter =
     stateRules list rows records ++ (record { holds = isSome (segmentOf list letter); refusal = Code 0 } ∷ [])
 
--- the segment of the letter where no rule is broken, or the first broken rule's refusal
+-- 01, the order of checks: the segment of the letter where no rule is broken, or the first broken rule's refusal
 abbrev pub Asks : List ℕ → List ℕ → List ℕ → ℕ → Asked → Type 0
 Asks list rows records letter (asked.Segment segment) =
     (firstBroken (segmentRules list rows records letter) ≡ none) × (segmentOf list letter ≡ some segment)

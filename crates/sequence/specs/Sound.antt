@@ -17,7 +17,8 @@ pub record Sound (g : Gaps) : Type 0 where
   pub ascending : (i : ℕ) → suc i < length (g .runs) → run (g .runs) i .last + 1 < run (g .runs) (suc i) .first
   pub inside : (i : ℕ) → i < length (g .runs) → (g .start ≤ run (g .runs) i .first) × (run (g .runs) i .last ≤ g .highest)
 
--- the same as a test, which goes through the runs once: each may begin from a number on, two above the last before it
+-- 01, the table's row 18, its runs as a test, which goes through them once: each may begin from a number on, two above the last
+-- before it
 abbrev pub soundRuns : ℕ → List Run → ℕ → Bool
 soundRuns from [] highest = true
 soundRuns from (r ∷ rs) highest =

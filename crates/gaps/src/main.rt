@@ -1,10 +1,13 @@
 // Document 01's program: starts at 1 with the file `contracts`, takes batches from standard input, and lists the gaps.
+mod lent;
 mod report;
 mod take;
 
 ghost use Prim.Native.Nat.{_≤_};
 ghost use lib.ListN.{length};
+use lent::RUNS;
 use quotebox::Started;
+use runs::Run;
 
 // The most keys of a segment.
 const MOST_KEYS: usize = 64;
@@ -26,25 +29,29 @@ fn too_many(list: &[u8]) -> bool {
 }
 
 // Every batch of standard input, and then the list.
-fn run(list: &[u8], rows: &mut [u32], records: &mut [u64], page: &mut [u8]) -> usize
+fn run(list: &[u8], rows: [Run; RUNS], records: &mut [u64], page: &mut [u8]) -> usize
     ensures { λ r. ⌜ r ≤ length (now (page .entry)) ⌝ }
 {
-    let used = take::take_all(list, rows, records, &mut io::large_buffer(), page);
-    report::put_list(list, rows, records, page, used)
+    let taken = take::take_all(list, rows, records, &mut io::large_buffer(), page);
+    let rows = taken.rows;
+    report::put_list(list, rows, records, page, taken.used)
 }
 
 fn start(list: &[u8], page: &mut [u8]) -> usize
     ensures { λ r. ⌜ r ≤ length (now (page .entry)) ⌝ }
 {
-    let mut rows = [0u32; console::ROW_CELLS];
+    let blanks = [Run { first: 0, last: 0 }; RUNS];
     let mut records = [0u64; console::RECORD_CELLS];
-    match quotebox::start(list, &[1, 1], &mut rows, &mut records) {
+    let began = lent::start(list, &[1, 1], blanks, &mut records);
+    let answer = began.answer;
+    let rows = began.rows;
+    match answer {
         Started::Refused(refusal) => report::put_refused_start(page, refusal),
         Started::Started => {
             if too_many(list) {
                 return report::put_refused_number(page, MEMORY);
             }
-            run(list, &mut rows, &mut records, page)
+            run(list, rows, &mut records, page)
         }
     }
 }

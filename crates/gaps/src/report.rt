@@ -1,10 +1,12 @@
 // What the program says. Each line is put on the page behind what is used of it.
 ghost use Prim.Native.Nat.{_≤_};
 ghost use lib.ListN.{length};
+use crate::lent;
 use console::put;
 use console::put_with;
 use quotebox::Listed;
 use quotebox::Refusal;
+use runs::Run;
 
 // A start that is refused, by the refusal's number.
 pub fn put_refused_number(page: &mut [u8], number: u64) -> usize
@@ -66,7 +68,7 @@ fn put_segment(page: &mut [u8], used: usize, letter: u8, highest: u32, runs: &[u
 
 fn put_listed(
     list: &[u8],
-    rows: &[u32],
+    rows: [Run; lent::RUNS],
     records: &[u64],
     letter: u8,
     cells: &mut [u32],
@@ -76,13 +78,19 @@ fn put_listed(
     requires { ⌜ (used ≤ length (now page)) × (length (now cells) ≤ 128) ⌝ }
     ensures { λ r. ⌜ r ≤ length (now (page .entry)) ⌝ }
 {
-    match quotebox::list_gaps(list, rows, records, letter, cells) {
+    match lent::list_gaps(list, rows, records, letter, cells) {
         Listed::Runs(highest, runs) => put_segment(page, used, letter, highest, &cells[..2 * runs]),
         Listed::Refused(_) => used,
     }
 }
 
-fn put_segments(list: &[u8], rows: &[u32], records: &[u64], page: &mut [u8], used: usize) -> usize
+fn put_segments(
+    list: &[u8],
+    rows: [Run; lent::RUNS],
+    records: &[u64],
+    page: &mut [u8],
+    used: usize,
+) -> usize
     requires { ⌜ used ≤ length (now page) ⌝ }
     ensures { λ r. ⌜ r ≤ length (now (page .entry)) ⌝ }
 {
@@ -99,7 +107,13 @@ fn put_segments(list: &[u8], rows: &[u32], records: &[u64], page: &mut [u8], use
 }
 
 // The list: a heading, each segment in list order, and `end`.
-pub fn put_list(list: &[u8], rows: &[u32], records: &[u64], page: &mut [u8], used: usize) -> usize
+pub fn put_list(
+    list: &[u8],
+    rows: [Run; lent::RUNS],
+    records: &[u64],
+    page: &mut [u8],
+    used: usize,
+) -> usize
     requires { ⌜ used ≤ length (now page) ⌝ }
     ensures { λ r. ⌜ r ≤ length (now (page .entry)) ⌝ }
 {

@@ -2,9 +2,11 @@
 ghost use Prim.Native.Nat.{_+_, _≤_};
 ghost use lib.ListN.{length};
 ghost use Rattle.console.specs.Desk.{Fits};
+use crate::lent;
 use crate::report;
 use console::Desk;
 use quotebox::Judged;
+use runs::Run;
 
 // The bytes of flag, data size and number of messages.
 const FRONT: usize = 5;
@@ -15,6 +17,13 @@ const MOST_DATA: usize = 32767;
 struct Turn {
     desk: Desk,
     more: bool,
+    rows: [Run; lent::RUNS],
+}
+
+// The gap rows behind what was taken, and how much of the page is used.
+pub struct Taken {
+    pub rows: [Run; lent::RUNS],
+    pub used: usize,
 }
 
 // The bytes of the batch that begins here, by its front: of one that says it is too long, only those.
@@ -49,19 +58,25 @@ fn end_of(room: &[u8], at: usize, end: usize) -> usize
 // Batch number `batch`, and its line where it is refused.
 fn take_batch(
     list: &[u8],
-    rows: &mut [u32],
+    rows: [Run; lent::RUNS],
     records: &mut [u64],
     bytes: &[u8],
     batch: u64,
     page: &mut [u8],
     used: usize,
-) -> usize
+) -> Taken
     requires { ⌜ used ≤ length (now page) ⌝ }
-    ensures { λ r. ⌜ r ≤ length (now (page .entry)) ⌝ }
+    ensures { λ r. ⌜ r .used ≤ length (now (page .entry)) ⌝ }
 {
-    match quotebox::take(list, rows, records, bytes) {
-        Judged::Accepted(_, _, _) => used,
-        Judged::Refused(refusal) => report::put_refused(page, used, batch, refusal),
+    let took = lent::take(list, rows, records, bytes);
+    let answer = took.answer;
+    let rows = took.rows;
+    match answer {
+        Judged::Accepted(_, _, _) => Taken { rows, used },
+        Judged::Refused(refusal) => Taken {
+            rows,
+            used: report::put_refused(page, used, batch, refusal),
+        },
     }
 }
 
@@ -80,7 +95,7 @@ fn next(room: &mut [u8], page: &[u8], desk: Desk) -> Desk
 // One batch. The reading ends with the input, and behind a batch that is cut short or says it is too long.
 fn take_next(
     list: &[u8],
-    rows: &mut [u32],
+    rows: [Run; lent::RUNS],
     records: &mut [u64],
     room: &mut [u8],
     batch: u64,
@@ -95,44 +110,55 @@ fn take_next(
     let end = desk.end;
     let used = desk.used;
     if at == end {
-        return Turn { desk, more: false };
+        return Turn {
+            desk,
+            more: false,
+            rows,
+        };
     }
     let stop = end_of(room, at, end);
     let bytes = &room[at..stop];
-    let used = take_batch(list, rows, records, bytes, batch, page, used);
+    let taken = take_batch(list, rows, records, bytes, batch, page, used);
+    let rows = taken.rows;
     Turn {
         desk: Desk {
             at: stop,
             end,
-            used,
+            used: taken.used,
         },
         more: is_whole(bytes),
+        rows,
     }
 }
 
 // All batches, and how much of the page is used by their lines. The count of batches also bounds the loop, which has to end.
 pub fn take_all(
     list: &[u8],
-    rows: &mut [u32],
+    rows: [Run; lent::RUNS],
     records: &mut [u64],
     room: &mut [u8],
     page: &mut [u8],
-) -> usize
-    ensures { λ r. ⌜ r ≤ length (now (page .entry)) ⌝ }
+) -> Taken
+    ensures { λ r. ⌜ r .used ≤ length (now (page .entry)) ⌝ }
 {
     let mut desk = Desk {
         at: 0,
         end: 0,
         used: 0,
     };
+    let mut rows = rows;
     let mut batch: u64 = 0;
     while batch < u64::MAX {
         let turn = take_next(list, rows, records, room, batch, page, desk);
         desk = turn.desk;
+        rows = turn.rows;
         if !turn.more {
             break;
         }
         batch += 1;
     }
-    desk.used
+    Taken {
+        rows,
+        used: desk.used,
+    }
 }

@@ -1,8 +1,8 @@
 -- The runs lie in the cells that were lent.
 use borrow.Author.Needs.{needs}
 use native.Mathlib.Omega.{arith}
-use lib.ListN.{length-take}
-use Rattle.console.specs.ListedLaws.{listed-fits}
+use lib.ListN.{length, length-take}
+use Rattle.gaps.proofs.Fits.{gaps-fit}
 use Rattle.gaps.proofs.report.put_listed.Statement.{statement}
 use Rattle.gaps.proofs.report.put_listed.Tie as tie
 
@@ -13,16 +13,16 @@ enum-known-highest : tie.Need-enum-known-highest
 enum-known-highest c = search needs
 
 mul-put-segment : tie.Need-mul-put-segment
-mul-put-segment c = omega (arith, listed-fits (c .before .before .before .before .before .before .list-gaps .ensures) (c .before .before .highest .given .1))
+mul-put-segment c = omega (arith, gaps-fit (c .before .before .before .before .before .before .list-gaps .ensures) (c .before .before .highest .given .1))
 
 slice-reshare-prefix-put-segment : tie.Need-slice-reshare-prefix-put-segment
-slice-reshare-prefix-put-segment c = omega (arith, listed-fits (c .before .before .before .before .before .before .list-gaps .ensures) (c .before .before .highest .given .1))
+slice-reshare-prefix-put-segment c = omega (arith, gaps-fit (c .before .before .before .before .before .before .list-gaps .ensures) (c .before .before .highest .given .1))
 
 slice-aggregate-put-segment : tie.Need-slice-aggregate-put-segment
-slice-aggregate-put-segment c = simp length-take (omega (arith, listed-fits (c .before .before .before .before .before .before .before .list-gaps .ensures) (c .before .before .before .highest .given .1)))
+slice-aggregate-put-segment c = simp length-take (omega (arith, gaps-fit (c .before .before .before .before .before .before .before .list-gaps .ensures) (c .before .before .before .highest .given .1)))
 
 put-segment-requires : tie.Need-put-segment-requires
-put-segment-requires c κs = (search needs, simp length-take (omega (arith, listed-fits (c .before .before .before .before .before .before .before .list-gaps .ensures) (c .before .before .before .highest .given .1))))
+put-segment-requires c κs = (search needs, simp length-take (omega (arith, gaps-fit (c .before .before .before .before .before .before .before .list-gaps .ensures) (c .before .before .before .highest .given .1))))
 
 enum-told : tie.Need-enum-told
 enum-told c = search needs

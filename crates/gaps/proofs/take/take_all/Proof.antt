@@ -8,10 +8,10 @@ use Rattle.gaps.proofs.take.take_all.Statement.{statement}
 use Rattle.gaps.proofs.take.take_all.Tie as tie
 
 abbrev Inv-loop : tie.InvT-loop
-Inv-loop list rows₀ records₀ room₀ page₀ desk₀ batch₀ rows records room page desk batch = (batch ≤ 18446744073709551615) × (length rows ≡ length rows₀) × (length records ≡ length records₀) × (length room ≡ length room₀) × (length page ≡ length page₀) × Fits desk room page
+Inv-loop list records₀ room₀ page₀ desk₀ rows₀ batch₀ records room page desk rows batch = (batch ≤ 18446744073709551615) × (length records ≡ length records₀) × (length room ≡ length room₀) × (length page ≡ length page₀) × Fits desk room page
 
 abbrev μ-loop : tie.MeasureT-loop
-μ-loop list rows₀ records₀ room₀ page₀ desk₀ batch₀ rows records room page desk batch = 18446744073709551615 - batch
+μ-loop list records₀ room₀ page₀ desk₀ rows₀ batch₀ records room page desk rows batch = 18446744073709551615 - batch
 
 loop-holds : tie.Need-loop-holds Inv-loop μ-loop
 loop-holds c = search needs
@@ -37,23 +37,17 @@ same-length-2 c = search needs
 same-length-3 : tie.Need-same-length-3 Inv-loop μ-loop
 same-length-3 c = search needs
 
-same-length-4 : tie.Need-same-length-4 Inv-loop μ-loop
-same-length-4 c = search needs
-
 returns : tie.Need-returns Inv-loop μ-loop
 returns c = search needs
+
+same-length-4 : tie.Need-same-length-4 Inv-loop μ-loop
+same-length-4 c = search needs
 
 same-length-5 : tie.Need-same-length-5 Inv-loop μ-loop
 same-length-5 c = search needs
 
 same-length-6 : tie.Need-same-length-6 Inv-loop μ-loop
 same-length-6 c = search needs
-
-same-length-7 : tie.Need-same-length-7 Inv-loop μ-loop
-same-length-7 c = search needs
-
-same-length-8 : tie.Need-same-length-8 Inv-loop μ-loop
-same-length-8 c = search needs
 
 returns-2 : tie.Need-returns-2 Inv-loop μ-loop
 returns-2 c = search needs
@@ -72,10 +66,8 @@ take-all-spec =
     same-length
     same-length-2
     same-length-3
-    same-length-4
     returns
+    same-length-4
     same-length-5
     same-length-6
-    same-length-7
-    same-length-8
     returns-2)

@@ -6,18 +6,18 @@ use Rattle.amount.specs.Denotes.{Shape, units, FineEnough, Denotes, AllS
 use Rattle.amount.specs.declared.Number.{Number}
 use Rattle.amount.specs.declared.Number.the-variants.{None, Amount, Malformed, OutOfRange}
 
--- too fine or too large
+-- 01, the table's row 12: too fine or too large
 abbrev pub Beyond : (places max : ℕ) {text : List ℕ} → Shape places text → Type 0
 Beyond places max s = (FineEnough s → ⊥) ⊎ (max < units s)
 
--- what each answer says of the text
+-- demand 2: what each answer says of the text
 abbrev pub Says : ℕ → ℕ → List ℕ → Number → Type 0
 Says places max text None = AllSpaces text
 Says places max text (Amount n) = Denotes places text n × (n ≤ max)
 Says places max text Malformed = (AllSpaces text → ⊥) × (Shape places text → ⊥)
 Says places max text OutOfRange = (s : Shape places text) × Beyond places max s
 
--- the table's number of an answer, 0 where the text is accepted, and the amount
+-- 01, the table's rows 11 and 12: the number of an answer, 0 where the text is accepted, and the amount
 abbrev pub numberNumbers : Number → List ℕ
 numberNumbers None = 0 ∷ []
 numberNumbers (Amount n) = 0 ∷ n ∷ []

@@ -9,11 +9,11 @@ use Rattle.amount.specs.declared.Number.the-variants.{None, Amount, Malf
 use Rattle.amount.specs.declared.read.State.{State}
 use Rattle.amount.specs.declared.read.State.the-variants.{Before, Whole, Pointed, Fraction, Behind, Bad}
 
--- the characters '0' to '9'
+-- 01 "Numbers in text": the characters '0' to '9'
 abbrev pub isDigit : ℕ → Bool
 isDigit c = cond (leb (digitChar 0) c) (leb c (digitChar 9)) false
 
--- spaces stand before the first digit and behind the last
+-- 01 "Numbers in text": spaces stand before the first digit and behind the last
 abbrev pub onSpace : State → State
 onSpace Before = Before
 onSpace (Whole n) = Behind n 0
@@ -22,7 +22,7 @@ onSpace (Fraction n k) = Behind n k
 onSpace (Behind n k) = Behind n k
 onSpace Bad = Bad
 
--- a point stands behind the whole part, where the kind has places behind one
+-- 01 "Numbers in text": a point stands behind the whole part, where the kind has places behind one
 abbrev pub onPoint : ℕ → State → State
 onPoint places Before = Bad
 onPoint places (Whole n) = cond (eqb places 0) Bad (Pointed n)
@@ -31,7 +31,7 @@ onPoint places (Fraction n k) = Bad
 onPoint places (Behind n k) = Bad
 onPoint places Bad = Bad
 
--- a digit begins the whole part or the fraction, or is one more of it
+-- 01 "Numbers in text": a digit begins the whole part or the fraction, or is one more of it
 abbrev pub onDigit : State → ℕ → State
 onDigit Before d = Whole d
 onDigit (Whole n) d = Whole (n * 10 + d)
@@ -46,19 +46,20 @@ step places s c =
     cond (eqb c space) (onSpace s)
     (cond (eqb c point) (onPoint places s) (cond (isDigit c) (onDigit s (c - digitChar 0)) Bad))
 
+-- a text in turn, from what was read before it
 unfoldable pub walk : ℕ → State → List ℕ → State
 walk places s [] = s
 walk places s (c ∷ text) = walk places (step places s c) text
 
--- an amount of the unit, or over the largest
+-- 01, the table's row 12: an amount of the unit, or over the largest
 abbrev pub inRange : ℕ → ℕ → Number
 inRange max n = cond (leb n max) (Amount n) OutOfRange
 
--- n of the unit of the k-th place behind the point: so many of the kind's unit, or too fine
+-- 01, the table's row 12: n of the unit of the k-th place behind the point: so many of the kind's unit, or too fine
 abbrev pub ranged : ℕ → ℕ → ℕ → ℕ → Number
 ranged places max n k = cond (leb k places) (inRange max (n * 10 ^ (places - k))) OutOfRange
 
--- what the text is, by what was read when it ends
+-- 01 "Numbers in text": what the text is, by what was read when it ends
 abbrev pub answer : ℕ → ℕ → State → Number
 answer places max Before = None
 answer places max (Whole n) = ranged places max n 0

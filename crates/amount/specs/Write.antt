@@ -5,7 +5,7 @@ use mathlib.Core.Bool.{cond}
 use mathlib.Core.List.{List, [], _∷_, _++_, map}
 use lib.Dec.{leb, ltb}
 use lib.ListN.{length, replicate}
-use Rattle.amount.specs.Denotes.{space, digitChar, pointed}
+use Rattle.amount.specs.Denotes.{space, digitChar, pointed, Denotes}
 use Rattle.amount.specs.declared.write.Put.{Put}
 use Rattle.amount.specs.declared.write.Put.the-variants.{Fits, OutOfRange}
 
@@ -19,11 +19,12 @@ unfoldable pub sizeIn : ℕ → ℕ → ℕ
 sizeIn zero n = 1
 sizeIn (suc steps) n = let more = suc (sizeIn steps (n / 10)) in cond (ltb n 10) 1 more
 
+-- how many digits a number has
 unfoldable pub size : ℕ → ℕ
 unfolding sizeIn
 size n = sizeIn n n
 
--- a number's digits, with no needless zero in front
+-- 01 "Numbers in text": a number's digits, with no needless zero in front
 abbrev pub digits : ℕ → List ℕ
 digits n = lastDigits (size n) n
 
@@ -33,7 +34,7 @@ kept zero [] = []
 kept (suc d) [] = suc d ∷ []
 kept d (e ∷ es) = d ∷ e ∷ es
 
--- digits with no needless zero at the end
+-- 01 "Numbers in text": digits with no needless zero at the end
 abbrev pub trimmed : List ℕ → List ℕ
 trimmed [] = []
 trimmed (d ∷ ds) = kept d (trimmed ds)
@@ -42,12 +43,12 @@ trimmed (d ∷ ds) = kept d (trimmed ds)
 unfoldable pub textOf : ℕ → ℕ → List ℕ
 textOf places n = map digitChar (digits (n / 10 ^ places)) ++ pointed (trimmed (lastDigits places n))
 
--- what becomes of a field: the characters that fill it, or a refusal
+-- 01 "Numbers in text": what becomes of a field: the characters that fill it, or a refusal
 pub data Written : Type 0 where
   filled : List ℕ → Written
   refused : Written
 
--- 01, the table of refusals: RANGE
+-- 01, the table's row 12: RANGE
 abbrev pub range : ℕ
 range = 12
 
@@ -55,11 +56,12 @@ range = 12
 abbrev pub spaced : ℕ → List ℕ → List ℕ
 spaced width text = replicate (width - length text) space ++ text
 
--- a text in a field of that width; 12 where it doesn't fit
+-- 01, the table's row 12: a text in a field of that width; 12 where it doesn't fit
 abbrev pub inField : ℕ → List ℕ → Written
 inField width text = cond (leb (length text) width) (filled (spaced width text)) refused
 
--- n units in a field of that width; 12 where they are over the largest amount, or their text doesn't fit
+-- 01, the table's row 12: n units in a field of that width; 12 where they are over the largest amount, or their text doesn't
+-- fit
 abbrev pub written : ℕ → ℕ → ℕ → ℕ → Written
 written places max width n = cond (leb n max) (inField width (textOf places n)) refused
 
@@ -67,16 +69,21 @@ written places max width n = cond (leb n max) (inField width (textOf places n)) 
 abbrev pub blankText : ℕ → List ℕ
 blankText width = replicate width space
 
--- the number of a refusal, 0 where there is none: of what is to be written, and of the answer
+-- 01, the table's row 12, "in the writer also no text fits": no text of that width denotes n units
+abbrev pub NoText : ℕ → ℕ → ℕ → Type 0
+NoText places width n = (text : List ℕ) → length text ≡ width → Denotes places text n → ⊥
+
+-- 01, the table's row 12: the number of a refusal, 0 where there is none, by what is to be written
 abbrev pub refusal : Written → ℕ
 refusal (filled text) = 0
 refusal refused = range
 
+-- 01, the table's row 12: the number of the writer's answer
 abbrev pub putNumber : Put → ℕ
 putNumber Fits = 0
 putNumber OutOfRange = range
 
--- the field afterwards: a refusal leaves it as it was
+-- 01 "What may be asked": the field afterwards: a refusal leaves it as it was
 abbrev pub fieldAfter : Written → List ℕ → List ℕ
 fieldAfter (filled text) field = text
 fieldAfter refused field = field

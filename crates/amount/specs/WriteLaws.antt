@@ -10,7 +10,7 @@ use lib.ListN.{length, replicate, length-append, length-replicate, length-map}
 use borrow.Author.Tests.{le-leb, lt-leb}
 use Rattle.laws.specs.Order.{order}
 use Rattle.amount.specs.Denotes.{space, digitChar, value, Digits, pointed, Denotes, AllSpaces}
-use Rattle.amount.specs.Write.{lastDigits, size, digits, trimmed, textOf, Written, filled, refused, spaced, inField, written, blankText, refusal, putNumber, Wrote}
+use Rattle.amount.specs.Write.{lastDigits, size, digits, trimmed, textOf, Written, filled, refused, spaced, inField, written, blankText, NoText, refusal, putNumber, Wrote}
 use Rattle.amount.specs.declared.write.Put.{Put}
 use Rattle.amount.specs.declared.write.Put.the-variants.{Fits, OutOfRange}
 use Rattle.amount.specs.ValueLaws.{digits-append, digits-zeros, value-zeros, value-lt}
@@ -129,10 +129,6 @@ module _ (width : ℕ) (text : List ℕ) where
 
   pub spaced-length : length text ≤ width → length (spaced width text) ≡ width
   spaced-length h = rw (length-append, length-replicate) (omega arith)
-
--- no text of that width denotes n
-abbrev pub NoText : ℕ → ℕ → ℕ → Type 0
-NoText places width n = (text : List ℕ) → length text ≡ width → Denotes places text n → ⊥
 
 -- a text that fills the width and denotes n, which is not over the largest
 pub record Right (places max width n : ℕ) (text : List ℕ) : Type 0 where

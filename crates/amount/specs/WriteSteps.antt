@@ -11,12 +11,14 @@ pub record Stripped (places n places′ n′ : ℕ) : Type 0 where
   pub same-text : textOf places′ n′ ≡ textOf places n
   pub no-zero : 0 < places′ → 0 < n′ % 10
 
--- a part of the field, filled whole: by the last digits of n; by so many of them and spaces in front; by the point and digits
+-- a part of the field, filled whole by the last digits of n
 abbrev pub digitsIn : ℕ → ℕ → List ℕ
 digitsIn n width = map digitChar (lastDigits width n)
 
+-- a part of the field, filled by so many digits of n and spaces in front
 abbrev pub wholeIn : ℕ → ℕ → ℕ → List ℕ
 wholeIn n count width = spaced width (digitsIn n count)
 
+-- a part of the field, filled by the point and digits
 abbrev pub fractionIn : ℕ → ℕ → List ℕ
 fractionIn n width = point ∷ digitsIn n (width - 1)

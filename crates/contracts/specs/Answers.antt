@@ -14,10 +14,10 @@ abbrev pub numberOf : ℕ → Found → ℕ
 numberOf refusal (At place) = 0
 numberOf refusal Nowhere = refusal
 
--- 6 CODE: letter not listed
+-- 01, the table's row 6, CODE: letter not listed
 abbrev pub codeRefused : ℕ
 codeRefused = 6
 
--- 13 CONTRACT: key not listed
+-- 01, the table's row 13, CONTRACT: key not listed
 abbrev pub contractRefused : ℕ
 contractRefused = 13

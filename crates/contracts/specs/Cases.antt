@@ -19,6 +19,7 @@ keyOfBytes byte = replicate keySize byte
 abbrev pub entryOf : ℕ → ℕ → ℕ → List ℕ
 entryOf letter count offset = letter ∷ 0 ∷ 0 ∷ count ∷ 0 ∷ 0 ∷ 0 ∷ offset ∷ []
 
+-- 01 "The contract list": one T contract
 abbrev pub oneT : List ℕ
 oneT = 0 ∷ 1 ∷ entryOf 84 1 10 ++ keyOfBytes 65
 
@@ -26,9 +27,11 @@ oneT = 0 ∷ 1 ∷ entryOf 84 1 10 ++ keyOfBytes 65
 abbrev pub twoOf : ℕ → ℕ → ℕ → ℕ → List ℕ → List ℕ
 twoOf letter other offset next keys = 0 ∷ 2 ∷ entryOf letter 1 offset ++ entryOf other 2 next ++ keys
 
+-- a body of one key and, behind it, one of two that ascend
 abbrev pub threeKeys : List ℕ
 threeKeys = keyOfBytes 65 ++ keyOfBytes 32 ++ keyOfBytes 126
 
+-- 01 "The contract list": two that are sound, and others that break one rule each
 abbrev pub lists : List (List ℕ)
 lists =
     oneT ∷ (oneT ++ (65 ∷ [])) ∷ [] ∷

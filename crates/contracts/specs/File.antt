@@ -5,45 +5,50 @@ use lib.ListN.{take, drop}
 use Rattle.wire.specs.Number.{numberAt}
 use Rattle.contracts.specs.Below.{sumBelow}
 
--- 2 bytes for the number of segments
+-- 01 "The contract list": 2 bytes for the number of segments
 unfoldable pub segmentsOf : List ℕ → ℕ
 segmentsOf list = numberAt 2 list 0
 
--- then 8 bytes for each
+-- 01 "The contract list": then 8 bytes for each
 abbrev pub entryAt : ℕ → ℕ
 entryAt i = 2 + 8 * i
 
--- letter, zero byte, count (2 bytes), offset (4)
+-- 01 "The contract list": of a segment's 8 bytes the first is its letter
 unfoldable pub letterAt : List ℕ → ℕ → ℕ
 letterAt list i = numberAt 1 list (entryAt i)
 
+-- 01 "The contract list": then a zero byte
 unfoldable pub zeroAt : List ℕ → ℕ → ℕ
 zeroAt list i = numberAt 1 list (entryAt i + 1)
 
+-- 01 "The contract list": then the count (2 bytes)
 unfoldable pub countAt : List ℕ → ℕ → ℕ
 countAt list i = numberAt 2 list (entryAt i + 2)
 
+-- 01 "The contract list": then the offset (4)
 unfoldable pub offsetAt : List ℕ → ℕ → ℕ
 offsetAt list i = numberAt 4 list (entryAt i + 4)
 
--- a key: 39 bytes from a place on, as far as the file goes
+-- 01 "The contract list": 39-byte keys
 abbrev pub keySize : ℕ
 keySize = 39
 
+-- 01 "The contract list": a key from a place on, as far as the file goes
 unfoldable pub keyFrom : List ℕ → ℕ → List ℕ
 keyFrom list at = take keySize (drop at list)
 
--- key k of segment i stands in its body, behind the k keys before it
+-- 01 "The contract list": key k of segment i stands in its body, behind the k keys before it
 abbrev pub keyAt : List ℕ → ℕ → ℕ → ℕ
 keyAt list i k = offsetAt list i + keySize * k
 
+-- 01 "The contract list": key k of segment i
 abbrev pub keyOf : List ℕ → ℕ → ℕ → List ℕ
 keyOf list i k = keyFrom list (keyAt list i k)
 
--- the contracts of all segments before segment i
+-- 01 "The contract list": the contracts of all segments before segment i
 unfoldable pub contractsBefore : List ℕ → ℕ → ℕ
 contractsBefore list i = sumBelow (min i (segmentsOf list)) (countAt list)
 
--- the contracts of all segments
+-- 01 "The contract list": the contracts of all segments
 abbrev pub contractsOf : List ℕ → ℕ
 contractsOf list = contractsBefore list (segmentsOf list)

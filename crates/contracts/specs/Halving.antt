@@ -4,12 +4,12 @@ use mathlib.Core.Option.{Option, none, some}
 use Rattle.contracts.specs.declared.key.Order.{Order}
 use Rattle.contracts.specs.declared.key.Order.the-variants.{Below, Same, Above}
 
--- the place found, and the number of keys compared
+-- M-102: the place found, and the number of keys compared
 pub record Halved : Type 0 where
   pub place : Option ℕ
   pub compared : ℕ
 
--- one key more was compared
+-- M-102: one key more was compared
 abbrev pub oneMore : Halved → Halved
 oneMore h = record { place = h .place; compared = h .compared + 1 }
 
@@ -25,19 +25,20 @@ halvedIn (suc turns) stands low (suc m) =
       | Above ↦ oneMore (halvedIn turns stands (low + m / 2 + 1) (m - m / 2))
     ]
 
--- n keys from key `low` on
+-- M-102: n keys from key `low` on
 abbrev pub halvedFrom : (ℕ → Order) → ℕ → ℕ → Halved
 halvedFrom stands low n = halvedIn n stands low n
 
--- a row of n keys
+-- M-102: a row of n keys
 abbrev pub halved : (ℕ → Order) → ℕ → Halved
 halved stands n = halvedFrom stands 0 n
 
--- the binary digits of n: none of 0, and one more than half of it has. n turns are enough
+-- M-102: the binary digits of n: none of 0, and one more than half of it has. n turns are enough
 abbrev pub digitsIn : ℕ → ℕ → ℕ
 digitsIn zero n = 0
 digitsIn (suc turns) zero = 0
 digitsIn (suc turns) (suc m) = digitsIn turns (suc m / 2) + 1
 
+-- M-102: the binary digits of n
 abbrev pub digits : ℕ → ℕ
 digits n = digitsIn n n

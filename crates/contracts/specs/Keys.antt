@@ -6,7 +6,7 @@ use lib.Dec.{ltb}
 use Rattle.contracts.specs.declared.key.Order.{Order}
 use Rattle.contracts.specs.declared.key.Order.the-variants.{Below, Same, Above}
 
--- by the first byte in which they differ; what a longer one begins with stands below it
+-- 01 "The contract list": by the first byte in which they differ; what a longer one begins with stands below it
 abbrev pub orderOf : List ℕ → List ℕ → Order
 orderOf [] [] = Same
 orderOf [] (y ∷ ys) = Below

@@ -9,11 +9,11 @@ use Rattle.contracts.specs.File.{segmentsOf, letterAt, countAt, keyOf}
 use Rattle.contracts.specs.Halving.{Halved, halved}
 use Rattle.contracts.specs.Keys.{orderOf}
 
--- the first segment that has a letter (in a sound list it is the only one)
+-- 01 "The contract list": the first segment that has a letter (in a sound list it is the only one)
 unfoldable pub segmentOf : List ℕ → ℕ → Option ℕ
 segmentOf list letter = firstBelow (segmentsOf list) (λ i. eqb (letterAt list i) letter)
 
--- how a key stands to key k of segment i
+-- 01 "The contract list": how a key stands to key k of segment i
 abbrev pub standsTo : List ℕ → ℕ → List ℕ → ℕ → Order
 standsTo list i key k = orderOf key (keyOf list i k)
 
@@ -21,5 +21,6 @@ standsTo list i key k = orderOf key (keyOf list i k)
 unfoldable pub lookup : List ℕ → ℕ → List ℕ → Halved
 lookup list i key = halved (standsTo list i key) (countAt list i)
 
+-- M-102: the place found
 abbrev pub placeIn : List ℕ → ℕ → List ℕ → Option ℕ
 placeIn list i key = lookup list i key .place

@@ -23,13 +23,6 @@ use Rattle.contracts.specs.Lookup.{segmentOf, standsTo, lookup, placeIn}
 use Rattle.contracts.specs.Sound.{Header, Sound}
 use Rattle.contracts.specs.SoundLaws.{keys-climb}
 
--- an answer is fixed by the place that it gives
-pub same-found : (r s : Found) → placeOf r ≡ placeOf s → r ≡ s
-same-found (At i) (At j) e = cc
-same-found (At i) Nowhere e = cc
-same-found Nowhere (At j) e = cc
-same-found Nowhere Nowhere e = refl
-
 -- a lookup that answers a place exactly where something is listed answers none exactly where nothing is
 module _ (answer : Option ℕ) (Is : ℕ → Type 0) (exact : (i : ℕ) → answer ≡ some i ↔ Is i) where
   none-exact : answer ≡ none ↔ ((i : ℕ) → Is i → ⊥)

@@ -3,11 +3,11 @@ use Prim.Native.Nat.{ℕ, _+_, _<_}
 use mathlib.Core.List.{List}
 use Rattle.contracts.specs.File.{segmentsOf, countAt, contractsBefore}
 
--- contract k of segment i is listed
+-- 01 "The contract list": contract k of segment i is listed
 pub record Listed (list : List ℕ) (i k : ℕ) : Type 0 where
   pub segment : i < segmentsOf list
   pub place : k < countAt list i
 
--- behind the records of all segments before its own, and of the contracts before it
+-- lent memory: behind the records of all segments before its own, and of the contracts before it
 abbrev pub recordAt : List ℕ → ℕ → ℕ → ℕ
 recordAt list i k = contractsBefore list i + k

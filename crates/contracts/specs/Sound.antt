@@ -12,29 +12,32 @@ use Rattle.contracts.specs.Below.{allBelow}
 use Rattle.contracts.specs.File.{segmentsOf, entryAt, letterAt, zeroAt, countAt, offsetAt, keySize, keyOf, contractsBefore}
 use Rattle.contracts.specs.Keys.{orderOf}
 
--- 1 or 2 segments
+-- 01 "The contract list": 1 or 2 segments
 abbrev pub mostSegments : ℕ
 mostSegments = 2
 
--- a count of 1 to 4,096
+-- 01 "The contract list": a count of 1 to 4,096
 abbrev pub mostContracts : ℕ
 mostContracts = 4096
 
--- letters are D or T
+-- 01 "The contract list": letters are D or T
 abbrev pub letterD : ℕ
 letterD = 68
 
+-- 01 "The contract list": letters are D or T
 abbrev pub letterT : ℕ
 letterT = 84
 
--- a key's bytes are 32 to 126
+-- 01 "The contract list": a key's bytes are 32 to 126
 abbrev pub lowestByte : ℕ
 lowestByte = 32
 
+-- 01 "The contract list": a key's bytes are 32 to 126
 abbrev pub highestByte : ℕ
 highestByte = 126
 
--- the short check of the calls after start: the rules for all that stands before the bodies, and for the size
+-- 01, the table's row 16: the short check of the calls after start: the rules for all that stands before the bodies, and for
+-- the size
 pub record Header (list : List ℕ) : Type 0 where
   pub some-segments : 1 ≤ segmentsOf list
   pub few-segments : segmentsOf list ≤ mostSegments
@@ -48,7 +51,7 @@ pub record Header (list : List ℕ) : Type 0 where
   pub next-body : (i : ℕ) → i + 1 < segmentsOf list → offsetAt list (i + 1) ≡ offsetAt list i + keySize * countAt list i
   pub file-ends : (i : ℕ) → i + 1 ≡ segmentsOf list → length list ≡ offsetAt list i + keySize * countAt list i
 
--- the full check of start: the keys' bytes, and their order within a segment
+-- 01, the table's row 16: the full check of start: the keys' bytes, and their order within a segment
 pub record Sound (list : List ℕ) : Type 0 where
   pub header : Header list
   pub key-bytes : (i k b : ℕ) → i < segmentsOf list → k < countAt list i → b < keySize
@@ -59,52 +62,52 @@ pub record Sound (list : List ℕ) : Type 0 where
 abbrev pub within : ℕ → ℕ → ℕ → Bool
 within low high n = leb low n && leb n high
 
--- letters are D or T
+-- 01 "The contract list": letters are D or T
 abbrev pub isLetter : ℕ → Bool
 isLetter letter = eqb letter letterD || eqb letter letterT
 
--- each letter but the first stands above the one before it
+-- 01 "The contract list": each letter but the first stands above the one before it
 abbrev pub letterAscends : List ℕ → ℕ → Bool
 letterAscends list zero = true
 letterAscends list (suc i) = ltb (letterAt list i) (letterAt list (suc i))
 
--- where the body of segment i begins, with no hole behind the contents and the bodies before it
+-- 01 "The contract list": where the body of segment i begins, with no hole behind the contents and the bodies before it
 abbrev pub bodyAt : List ℕ → ℕ → ℕ
 bodyAt list i = entryAt (segmentsOf list) + keySize * contractsBefore list i
 
--- letter, zero byte, count and offset of segment i
+-- 01 "The contract list": letter, zero byte, count and offset of segment i
 unfoldable pub entrySound : List ℕ → ℕ → Bool
 entrySound list i =
     isLetter (letterAt list i) && letterAscends list i && eqb (zeroAt list i) 0 && within 1 mostContracts (countAt list i) && eqb (offsetAt list i) (bodyAt list i)
 
--- each byte of a key is 32 to 126
+-- 01 "The contract list": each byte of a key is 32 to 126
 unfoldable pub bytesSound : List ℕ → Bool
 bytesSound key = allBelow (length key) (λ b. within lowestByte highestByte (getD key b 0))
 
--- strictly below: the same is not
+-- 01 "The contract list": strictly ascending, so that the same is not below
 abbrev pub isBelow : Order → Bool
 isBelow Below = true
 isBelow Same = false
 isBelow Above = false
 
--- each key but the first of its segment stands above the one before it
+-- 01 "The contract list": each key but the first of its segment stands above the one before it
 abbrev pub keyAscends : List ℕ → ℕ → ℕ → Bool
 keyAscends list i zero = true
 keyAscends list i (suc k) = isBelow (orderOf (keyOf list i k) (keyOf list i (suc k)))
 
--- key k of segment i
+-- 01 "The contract list": key k of segment i
 unfoldable pub keySound : List ℕ → ℕ → ℕ → Bool
 keySound list i k = bytesSound (keyOf list i k) && keyAscends list i k
 
--- every key of segment i
+-- 01 "The contract list": every key of segment i
 unfoldable pub bodySound : List ℕ → ℕ → Bool
 bodySound list i = allBelow (countAt list i) (keySound list i)
 
--- true exactly when `Header` holds
+-- 01, the table's row 16, of calls after start: true exactly when `Header` holds
 unfoldable pub headerSound : List ℕ → Bool
 headerSound list =
     within 1 mostSegments (segmentsOf list) && (allBelow (segmentsOf list) (entrySound list) && eqb (length list) (bodyAt list (segmentsOf list)))
 
--- true exactly when `Sound` holds
+-- 01, the table's row 16, of start: true exactly when `Sound` holds
 unfoldable pub sound : List ℕ → Bool
 sound list = headerSound list && allBelow (segmentsOf list) (bodySound list)

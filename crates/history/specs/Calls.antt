@@ -14,29 +14,32 @@ use Rattle.quotebox.specs.Start.{rowsStarted, recordsCleared}
 use Rattle.quotebox.specs.TookLaws.{answerOf}
 use Rattle.history.specs.Past.{Event, afterTake, afterWriteOff}
 
--- a batch taken, a write-off of a letter, a listing of a letter's gaps with cells lent
+-- 01 "What may be asked": a batch taken, a write-off of a letter, a listing of a letter's gaps with cells lent
 pub data Call : Type 0 where
   take : List ℕ → Call
   writeOff : ℕ → Call
   listGaps : ℕ → List ℕ → Call
 
--- the gap rows and records that calls leave, and their past
+-- 01 "What may be asked": the gap rows and records that calls leave, and their past
 pub record Left : Type 0 where
   pub rows : List ℕ
   pub records : List ℕ
   pub past : List Event
 
+-- 01 "What may be asked": what an accepted start leaves, with nothing past
 abbrev pub startLeaves : List ℕ → List ℕ → List ℕ → List ℕ → Left
 startLeaves list starts rows records = record { rows = rowsStarted list starts rows; records = recordsCleared list records; past = [] }
 
--- the first broken rule of a write-off
+-- 01, the order of checks: the first broken rule of a write-off
 abbrev pub offBroken : List ℕ → Left → ℕ → Option Refusal
 offBroken list before letter = firstBroken (writeOffRules list (before .rows) (before .records) letter)
 
+-- 01 "What may be asked": a write-off answers the run it removed, or its refusal
 abbrev pub offAnswer : Option Refusal → Run → WrittenOff
 offAnswer (some refusal) run = WrittenOff.Refused refusal
 offAnswer none run = WrittenOff.Removed (run .first) (run .last)
 
+-- 01 "What may be asked": what taking a batch leaves
 abbrev pub batchLeaves : List ℕ → Left → List ℕ → Acted → Left
 batchLeaves list before batch acts =
     record {
@@ -45,6 +48,7 @@ batchLeaves list before batch acts =
       past = afterTake list batch (answerOf acts) (before .past);
     }
 
+-- 01 "What may be asked": what one call leaves
 abbrev pub leaves : List ℕ → Left → Call → Left
 leaves list before (take batch) = batchLeaves list before batch (batchActs list (before .rows) (before .records) batch)
 leaves list before (writeOff letter) =
@@ -55,11 +59,12 @@ leaves list before (writeOff letter) =
     }
 leaves list before (listGaps letter cells) = before
 
+-- 01 "What may be asked": what calls made in turn leave
 abbrev pub allLeave : List ℕ → Left → List Call → Left
 allLeave list before [] = before
 allLeave list before (c ∷ cs) = allLeave list (leaves list before c) cs
 
--- the numbers that a call answers; of a listing also the lent cells afterwards
+-- 01 "What may be asked": the numbers that a call answers; of a listing also the lent cells afterwards
 abbrev pub answers : List ℕ → Left → Call → List ℕ
 answers list before (take batch) = actedNumbers (batchActs list (before .rows) (before .records) batch)
 answers list before (writeOff letter) = answered (offBroken list before letter) (runValues (lowestRun (gapsOfLetter list (before .rows) letter)))

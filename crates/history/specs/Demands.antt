@@ -29,7 +29,7 @@ use Rattle.quotebox.specs.GoodState.{GoodState}
 use Rattle.history.specs.Past.{Event, wroteOffIn, takenOf, isNew, highestIn, missingIn, runsStanding}
 use Rattle.history.specs.Exactly.{NamesMissing, ReadsNewest, CountsCame, OverInBatch}
 
--- "After any sequence of calls from a fresh start", for each listed segment and each listed contract:
+-- demand 3: "After any sequence of calls from a fresh start", for each listed segment and each listed contract:
 pub record AfterCalls (list starts rows records : List ℕ) (past : List Event) : Type 0 where
   -- "the gap list names exactly the missing numbers"
   pub names-missing : (letter i : ℕ) → segmentOf list letter ≡ some i → (cells : List ℕ) (highest runs : ℕ) (cells′ : List ℕ)
@@ -58,14 +58,15 @@ pub record AfterCalls (list starts rows records : List ℕ) (past : List Event) 
   -- 16, 15 for state too short, and 18 are not given
   pub state-passes : GoodState list rows records
 
--- "Two boxes that took the same messages agree": in gap lists, and in records
+-- demand 3: "Two boxes that took the same messages agree": in gap lists, and in records
 pub record Agree (list rows records rows′ records′ : List ℕ) : Type 0 where
   pub same-gaps : (letter : ℕ) (cells : List ℕ) (a b : Listed) (cells′ cells″ : List ℕ)
       → ListedRuns list rows records letter cells a cells′ → ListedRuns list rows′ records′ letter cells b cells″ → (a ≡ b) × (cells′ ≡ cells″)
   pub same-records : (letter : ℕ) (key : List ℕ) (level : Level) (a b : Reading)
       → ReadRecord list rows records letter key level a → ReadRecord list rows′ records′ letter key level b → a ≡ b
 
--- "A refusal leaves all lent memory as before", whatever is handed to the call; judging and reading a record write nothing
+-- demand 1 and 01 "What may be asked": "A refusal leaves all lent memory as before", whatever is handed to the call; judging
+-- and reading a record write nothing
 pub record RefusalsKeep (list rows records : List ℕ) : Type 0 where
   pub start-keeps : (starts : List ℕ) (refusal : Refusal) (rows′ records′ : List ℕ)
       → StartedBox list starts rows records (Started.Refused refusal) rows′ records′ → (rows′ ≡ rows) × (records′ ≡ records)
@@ -78,7 +79,8 @@ pub record RefusalsKeep (list rows records : List ℕ) : Type 0 where
   pub write-keeps : (code : Code) (level : Level) (number : ℕ) (key : List ℕ) (quote : Quote) (out : List ℕ) (refusal : Refusal) (out′ : List ℕ)
       → WroteMessage code level number key quote out (Written.Refused refusal) out′ → out′ ≡ out
 
--- an accepted call leaves gap rows and records that pass 16, 15 and 18, whatever was handed to it
+-- demand 1, and 01, the table's rows 15, 16 and 18: an accepted call leaves gap rows and records that pass 16, 15 and 18,
+-- whatever was handed to it
 pub record AcceptedLeave (list rows records : List ℕ) : Type 0 where
   pub start-leaves : (starts rows′ records′ : List ℕ)
       → StartedBox list starts rows records Started.Started rows′ records′ → GoodState list rows′ records′

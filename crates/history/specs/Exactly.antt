@@ -26,11 +26,11 @@ use Rattle.quotebox.specs.Record.{blank}
 use Rattle.quotebox.specs.Start.{startOf}
 use Rattle.history.specs.Past.{Event, came, wroteOffIn, takenOf, batchMessages, highestIn, missingIn, runsStanding, numberOf, isOf, isTaken, isOld, isHeartbeat, howMany}
 
--- the runs that a listing put in lent cells: two cells for each that it answers
+-- 01 "What may be asked": the runs that a listing put in lent cells: two cells for each that it answers
 abbrev pub runsPut : ℕ → List ℕ → List Run
 runsPut runs cells = pairs (take (2 * runs) cells)
 
--- "the gap list names exactly the missing numbers"
+-- demand 3: "the gap list names exactly the missing numbers"
 pub record NamesMissing (letter start : ℕ) (past : List Event) (highest runs : ℕ) (cells : List ℕ) : Type 0 where
   pub highest-taken : highest ≡ highestIn letter start past
   pub as-many : length (runsPut runs cells) ≡ runs
@@ -40,21 +40,24 @@ pub record NamesMissing (letter start : ℕ) (past : List Event) (highest runs :
   pub each-once : (n i j : ℕ) → i < runs → j < runs → names (run (runsPut runs cells) i) n ≡ true → names (run (runsPut runs cells) j) n ≡ true → i ≡ j
   pub exactly : (n : ℕ) → missing (runsPut runs cells) n ≡ missingIn letter start past n
 
--- the highest-numbered update of a contract and level among the messages taken
+-- demand 3: the highest-numbered update of a contract and level among the messages taken
 pub record IsNewest (place : ℕ) (level : Level) (taken : List Message) (m : Message) : Type 0 where
   pub was-taken : List·Memᴰ m taken
   pub of-contract : isOf place level (m .what) ≡ true
   pub highest : (k : Message) → List·Memᴰ k taken → isOf place level (k .what) ≡ true → numberOf k ≤ numberOf m
 
+-- 01 "What may be asked": a contract with no update taken, of that level
 abbrev pub NoUpdate : ℕ → Level → List Message → Type 0
 NoUpdate place level taken = (m : Message) → List·Memᴰ m taken → isOf place level (m .what) ≡ false
 
--- "each record is its contract's highest-numbered update taken": its number, and its rows as they stand in its message
+-- demand 3: "each record is its contract's highest-numbered update taken": its number, and its rows as they stand in its
+-- message
 pub data ReadsNewest (place : ℕ) (level : Level) (taken : List Message) (reading : Reading) : Type 0 where
   no-record : NoUpdate place level taken → reading .answer ≡ Recorded.NoRecord → reading .quote ≡ blank → ReadsNewest place level taken reading
   a-record : (m : Message) → IsNewest place level taken m → reading .answer ≡ Recorded.Record (numberOf m) → reading .quote ≡ quoteOf level (m .cells) → ReadsNewest place level taken reading
 
--- the counts of an accepted batch are those of its messages, each by what became of it when it came
+-- 01 "What the proof settles" (counts defined from the history): the counts of an accepted batch are those of its messages,
+-- each by what became of it when it came
 pub record CountsCame (list starts : List ℕ) (past : List Event) (batch : List ℕ) (taken old heartbeats : ℕ) : Type 0 where
   pub segment : ℕ
   pub listed : segmentOf list (batchLetter batch) ≡ some segment
@@ -62,16 +65,16 @@ pub record CountsCame (list starts : List ℕ) (past : List Event) (batch : List
   pub old-are : old ≡ howMany (isOld (batchLetter batch) (startOf starts segment)) (batchLetter batch) (batchMessages list batch) past
   pub heartbeats-are : heartbeats ≡ howMany (λ before m. isHeartbeat (m .what)) (batchLetter batch) (batchMessages list batch) past
 
--- the past when the message that bytes begin with has come
+-- 01 "Sequence and gaps": the past when the message that bytes begin with has come
 abbrev pub cameNext : List ℕ → ℕ → List ℕ → List Event → List Event
 cameNext list letter bytes past = came letter (messageOf list letter bytes) ∷ past
 
--- 14: "more than 64 runs would stand"
+-- 01, the table's row 14: "more than 64 runs would stand"
 abbrev pub TooMany : ℕ → Type 0
 TooMany runs = most < runs
 
--- of so many messages from message k on, message i is the one at which over 64 runs would stand, counted from the set of
--- missing numbers, and no rule refuses before: it and every message before it is good, 5 to 13
+-- demand 3: of so many messages from message k on, message i is the one at which over 64 runs would stand, counted from the set
+-- of missing numbers, and no rule refuses before: it and every message before it is good, 5 to 13
 abbrev pub OverAt : ℕ → List ℕ → ℕ → ℕ → List Event → ℕ → List ℕ → ℕ → Type 0
 OverAt zero list letter start past k bytes i = ⊥
 OverAt (suc more) list letter start past k bytes i =
@@ -80,6 +83,7 @@ OverAt (suc more) list letter start past k bytes i =
     ⊎ ((runsStanding letter start (cameNext list letter bytes past) ≤ most)
     × OverAt more list letter start (cameNext list letter bytes past) (suc k) (drop (lengthOf bytes) bytes) i))
 
+-- demand 3: a batch is refused for gaps at message i, no earlier rule refusing it
 pub record OverInBatch (list starts : List ℕ) (past : List Event) (batch : List ℕ) (i : ℕ) : Type 0 where
   -- 1 to 4 before the messages
   pub front : GoodFront batch
@@ -87,12 +91,12 @@ pub record OverInBatch (list starts : List ℕ) (past : List Event) (batch : Lis
   pub listed : segmentOf list (batchLetter batch) ≡ some segment
   pub over : OverAt (countOf batch) list (batchLetter batch) (startOf starts segment) past 0 (dataOf batch) i
 
--- nothing was written off
+-- 01 "Sequence and gaps": nothing was written off
 abbrev pub NoneWrittenOff : List Event → Type 0
 NoneWrittenOff past = (letter n : ℕ) → wroteOffIn letter past n ≡ false
 
--- two boxes of one contract list and the same start numbers "that took the same messages", in whatever order and however
--- cut into batches, with nothing written off
+-- demand 3: two boxes of one contract list and the same start numbers "that took the same messages", in whatever order and
+-- however cut into batches, with nothing written off
 pub record SameTaken (list starts : List ℕ) (past : List Event) (starts′ : List ℕ) (past′ : List Event) : Type 0 where
   pub same-starts : (i : ℕ) → i < segmentsOf list → startOf starts i ≡ startOf starts′ i
   pub same-messages : (i : ℕ) → i < segmentsOf list → (m : Message)

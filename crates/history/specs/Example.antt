@@ -26,19 +26,23 @@ use Rattle.history.specs.CallsLaws.{ReachedBy, start-reached, calls-reac
 use Rattle.history.specs.PaperCases.{those}
 use Rattle.history.specs.DemandsLaws.{after-calls}
 
+-- 01 "Cases": the program starts at 1
 abbrev starts : List ℕ
 starts = 1 ∷ []
 
+-- lent memory: gap rows for one segment
 abbrev lentRows : List ℕ
 lentRows = replicate 132 0
 
+-- lent memory: records for one contract
 abbrev lentRecords : List ℕ
 lentRecords = replicate 48 0
 
--- one message of T that is passed over, with a number
+-- 01 "Cases", its last: one message of T that is passed over, with a number
 abbrev batch : ℕ → List ℕ
 batch n = 0x01 ∷ 0x00 ∷ 0x0B ∷ 0x00 ∷ 0x01 ∷ 0x54 ∷ 0x45 ∷ 0x00 ∷ 0x0B ∷ 0x00 ∷ 0x00 ∷ 0x00 ∷ n ∷ 0x00 ∷ 0x00 ∷ 0x0D ∷ []
 
+-- 01 "Cases", its last: number 1, then number 4
 abbrev calls : List Call
 calls = take (batch 1) ∷ take (batch 4) ∷ []
 

@@ -17,7 +17,8 @@ use Rattle.quotebox.specs.CallPromises.{StartedBox, ListedRuns, WroteOffRun, Re
 use Rattle.quotebox.specs.WriterPromises.{WroteMessage}
 use Rattle.history.specs.Past.{Event, afterTake, afterWriteOff}
 
--- the gap rows and records that a history leaves, and its past: `list` and `starts` are those of its start
+-- demand 3, "After any sequence of calls from a fresh start": the gap rows and records that a history leaves, and its past:
+-- `list` and `starts` are those of its start
 pub data Reached (list starts : List ℕ) : List ℕ → List ℕ → List Event → Type 0 where
   begun : {rows records rows′ records′ : List ℕ} → StartedBox list starts rows records Started.Started rows′ records′ → Reached list starts rows′ records′ []
   refusedStart : {rows records rows′ records′ : List ℕ} {past : List Event} → Reached list starts rows records past

@@ -13,6 +13,7 @@ use Rattle.history.specs.Past.{Event, takenOf, wroteOffIn}
 use Rattle.history.specs.Segment.{Fits}
 use Rattle.history.specs.Kept.{RecordsFit}
 
+-- demand 3: the list is sound, the state good, the gaps those of the past, and each record its newest update
 pub record Holds (list starts rows records : List ℕ) (past : List Event) : Type 0 where
   pub list-sound : Sound list
   -- 16, 15 and 18 are not given

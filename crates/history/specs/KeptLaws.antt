@@ -47,10 +47,6 @@ same-level One Two e = cc
 same-level Two One e = cc
 same-level Two Two e = refl
 
-pub level-itself : (a : Level) → sameLevel a a ≡ true
-level-itself One = refl
-level-itself Two = refl
-
 abbrev Apart : ℕ → Level → ℕ → Level → Type 0
 Apart c a d b =
     (recordAt c a + suc (recordRows a) ≤ recordAt d b) ⊎ (recordAt d b + suc (recordRows b) ≤ recordAt c a)

@@ -41,21 +41,27 @@ use Rattle.history.specs.WrittenCases as writer
 
 -- ---- the box that is asked: D and T listed, each started at 1
 
+-- 01 "The contract list": D with one contract, T with two
 abbrev pub list : List ℕ
 list = twoOf 68 84 18 57 threeKeys
 
+-- 01 "The contract list": the letter T
 abbrev pub T : ℕ
 T = 84
 
+-- 01 "Cases": start 1, of both
 abbrev starts : List ℕ
 starts = 1 ∷ 1 ∷ []
 
+-- lent memory: gap rows for two segments
 abbrev lentRows : List ℕ
 lentRows = replicate 264 0
 
+-- lent memory: records for three contracts
 abbrev lentRecords : List ℕ
 lentRecords = replicate 144 0
 
+-- 01 "Cases": the box after its start
 abbrev pub started : Left
 started = startLeaves list starts lentRows lentRecords
 
@@ -69,10 +75,11 @@ a-history = calls-reached list starts started (start-reached list starts lentRow
 
 -- ---- what comes
 
--- P5: one heartbeat. P6: with size and count exchanged
+-- P5: one heartbeat
 abbrev p5 : List ℕ
 p5 = 0x01 ∷ 0x00 ∷ 0x0B ∷ 0x00 ∷ 0x01 ∷ 0x44 ∷ 0x48 ∷ 0x00 ∷ 0x0B ∷ 0x00 ∷ 0x00 ∷ 0x00 ∷ 0x00 ∷ 0x00 ∷ 0x00 ∷ 0x0D ∷ []
 
+-- P6: with size and count exchanged
 abbrev p6 : List ℕ
 p6 = 0x01 ∷ 0x00 ∷ 0x01 ∷ 0x00 ∷ 0x0B ∷ 0x44 ∷ 0x48 ∷ 0x00 ∷ 0x0B ∷ 0x00 ∷ 0x00 ∷ 0x00 ∷ 0x00 ∷ 0x00 ∷ 0x00 ∷ 0x0D ∷ []
 
@@ -99,21 +106,27 @@ alone (n ∷ ns) = n ∷ n ∷ alone ns
 abbrev gapsIn : ℕ → Call
 gapsIn cells = listGaps T (replicate cells 0)
 
+-- P11: taking 1, 2, 5, 9, 4
 abbrev p11 : List Call
 p11 = numbers (1 ∷ 2 ∷ 5 ∷ 9 ∷ 4 ∷ []) ∷ []
 
+-- P12: then 7
 abbrev p12 : List Call
 p12 = p11 ++ (numbers (7 ∷ []) ∷ [])
 
+-- P12: then the lowest run, 3, written off
 abbrev p12-off : List Call
 p12-off = p12 ++ (writeOff T ∷ [])
 
+-- P13: taking 2, 4, up to 128
 abbrev p13 : List Call
 p13 = numbers (twoApart 2 64) ∷ []
 
+-- P13: then 130, which is refused
 abbrev p13-130 : List Call
 p13-130 = p13 ++ (numbers (130 ∷ []) ∷ [])
 
+-- P13: then 129 and 127
 abbrev p13-127 : List Call
 p13-127 = p13-130 ++ (numbers (129 ∷ []) ∷ numbers (127 ∷ []) ∷ [])
 
@@ -124,6 +137,7 @@ abbrev pub those : (ℕ → Bool) → ℕ → List ℕ
 those test zero = []
 those test (suc n) = those test n ++ cond (test n) (n ∷ []) []
 
+-- 01 "Cases": what is asked in one of them
 pub data Asked : Type 0 where
   -- a text's sum, and its two bytes as sent
   sum sent : List ℕ → Asked
@@ -138,9 +152,11 @@ pub data Asked : Type 0 where
   -- the writer, of a message
   write : writer.Asked → Asked
 
+-- the past of these calls, made after the start
 abbrev pastOf : List Call → List Event
 pastOf cs = allLeave list started cs .past
 
+-- the answer, by the definitions that the promises cite and by the past of the calls
 abbrev answerTo : Asked → List ℕ
 answerTo (sum bytes) = sumOf bytes ∷ []
 answerTo (sent bytes) = checksumOf bytes
@@ -151,10 +167,12 @@ answerTo (standing cs) = runsStanding T 1 (pastOf cs) ∷ []
 answerTo (next cs n) = cond (isTaken T 1 (pastOf cs) (messageOf list T (messages (n ∷ [])))) 1 0 ∷ runsStanding T 1 (cameNext list T (messages (n ∷ [])) (pastOf cs)) ∷ []
 answerTo (write a) = writer.answerTo a
 
+-- 01 "Cases": what is asked, and what the paper says
 pub record Case : Type 0 where
   pub asked : Asked
   pub says : List ℕ
 
+-- 01 "Cases": P1 to P14
 unfoldable pub cases : List Case
 cases =
     record { asked = sum (codes "123456789"); says = 0x31C3 ∷ [] }  -- P1
@@ -190,9 +208,11 @@ cases =
     ∷ record { asked = write (writer.asked 84 78 Two 1 writer.key 999_999_999_999_999_999 505); says = 12 ∷ 0 ∷ 26 ∷ 0 ∷ [] }  -- P14: at its row
     ∷ []
 
+-- what the definitions say of each case
 unfoldable pub answered : List Case → List (List ℕ)
 answered = map (λ (c : Case). answerTo (c .asked))
 
+-- what the paper says of each case
 unfoldable pub sayings : List Case → List (List ℕ)
 sayings = map (λ (c : Case). c .says)
 

@@ -8,5 +8,6 @@ use Rattle.wire.specs.Number.{bytesOf}
 abbrev pub plainBatch : ℕ → List ℕ → List ℕ
 plainBatch count messages = 1 ∷ (bytesOf 2 (length messages) ++ bytesOf 2 count) ++ messages
 
+-- 01 "The batch": a plain batch of one message
 unfoldable pub batchOf : List ℕ → List ℕ
 batchOf message = plainBatch 1 message

@@ -9,7 +9,7 @@ use Rattle.sequence.specs.Sound.{Sound}
 use Rattle.message.specs.declared.body.Message.{Message}
 use Rattle.history.specs.Past.{highestOf, missingBy}
 
--- gaps that name exactly the missing numbers
+-- demand 3: gaps that name exactly the missing numbers
 pub record Fits (start : ℕ) (taken : List Message) (written : ℕ → Bool) (g : Gaps) : Type 0 where
   pub sound : Sound g
   pub start-is : g .start ≡ start

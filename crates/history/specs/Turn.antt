@@ -13,14 +13,14 @@ use Rattle.history.specs.Past.{Event, wroteOffIn, takenOf, isTaken, isOl
 use Rattle.history.specs.Segment.{Fits}
 use Rattle.history.specs.Kept.{RecordsFit}
 
--- the gap row of segment i, whose letter the batch has, and all records
+-- demand 3: the gap row of segment i, whose letter the batch has, and all records are those of the past
 pub record BoxFits (list starts : List ℕ) (letter i : ℕ) (past : List Event) (box : Box) : Type 0 where
   pub row-sound : soundRow (box .row) ≡ true
   pub gaps-fit : Fits (startOf starts i) (takenOf letter (startOf starts i) past) (wroteOffIn letter past) (gapsOf (box .row))
   pub records-fit : RecordsFit list starts (box .records) past
   pub records-long : recordsWanted list ≤ length (box .records)
 
--- and its counts after messages that came, by what became of each
+-- demand 3: and so are they after messages that came, with the counts by what became of each
 pub record Turned (list starts : List ℕ) (letter i : ℕ) (past : List Event) (box : Box) (ms : List Message) (box′ : Box) : Type 0 where
   pub fits : BoxFits list starts letter i (allCame letter ms past) box′
   pub taken-are : box′ .taken ≡ box .taken + howMany (isTaken letter (startOf starts i)) letter ms past

@@ -16,13 +16,15 @@ use Rattle.quotebox.specs.declared.writing.Code.{Code}
 use Rattle.quotebox.specs.Calls.{answered}
 use Rattle.quotebox.specs.Writer.{dataWritten, lengthWritten, writeRules, messageBytes}
 
--- a key of 39 letters, and a quote of market type N and status S whose numbers are all none but the last traded price
+-- 01 "The contract list": a key of 39 bytes, each an A
 abbrev pub key : List ℕ
 key = replicate 39 65
 
+-- 01 "The message": market type N and status S; every number is none but the last traded price
 abbrev quoteAt : ℕ → Quote
 quoteAt last = quoteOf Two (set (set (set (replicate 37 none) 5 78) 28 83) 26 last)
 
+-- 01 "What may be asked": write a message: what the writer is handed, and how many bytes it is lent
 pub record Asked : Type 0 where
   code : Code
   level : Level
@@ -31,10 +33,12 @@ pub record Asked : Type 0 where
   quote : Quote
   room : ℕ
 
+-- the writer asked by code, level, number, key, last traded price and room
 abbrev pub asked : ℕ → ℕ → Level → ℕ → List ℕ → ℕ → ℕ → Asked
 asked first second level number key last room =
     record { code = record { 0 = first; 1 = second }; level = level; number = number; key = key; quote = quoteAt last; room = room }
 
+-- 01 "What may be asked": the writer's answer in numbers
 abbrev pub answerTo : Asked → List ℕ
 answerTo a = answered (firstBroken (writeRules (a .code) (a .level) (a .number) (a .key) (a .quote) (a .room))) (lengthWritten (a .code) (a .level) ∷ [])
 

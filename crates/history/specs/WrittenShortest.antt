@@ -11,8 +11,8 @@ use Rattle.layout.specs.declared.cells.Held.the-variants.{Nothing, Units}
 use Rattle.layout.specs.declared.rows.Row.{Row}
 use Rattle.layout.specs.declared.rows.Row.the-variants.{Text, MarketType, Status, Price, Quantity, Turnover}
 
--- spaces, and behind them characters that denote the amount; those of every text that denotes it are as many or more,
--- its spaces apart
+-- 01 "Numbers in text": spaces, and behind them characters that denote the amount; those of every text that denotes it are as
+-- many or more, its spaces apart
 pub record Shortest (places n : ℕ) (field : List ℕ) : Type 0 where
   pub spaces : ℕ
   pub characters : List ℕ
@@ -29,7 +29,7 @@ numberKind (Price width) = some price
 numberKind (Quantity width) = some quantity
 numberKind (Turnover width) = some turnover
 
--- the field of a number: the shortest text, and "none" is all spaces
+-- 01 "Numbers in text": the field of a number: the shortest text, and "none" is all spaces
 abbrev pub FieldOf : Kind → Held → List ℕ → Type 0
 FieldOf kind Nothing field = AllSpaces field
 FieldOf kind (Units n) field = Shortest (kind .places) n field

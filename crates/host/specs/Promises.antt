@@ -18,41 +18,48 @@ use Rattle.quotebox.specs.WriterPromises.{WroteMessage}
 use Rattle.host.specs.Told.{Tells, recordNumbers}
 use Rattle.host.specs.Values.{valuesAfter, quoteIn}
 
+-- 01 "What may be asked": start, told to a host
 pub record HostStarted (list starts rows records : List ℕ) (returned : ℕ) (rows′ records′ answer′ : List ℕ) : Type 0 where
   pub started : Started
   pub promised : StartedBox list starts rows records started rows′ records′
   pub tells : Tells (startedNumbers started) returned answer′
 
+-- 01 "What may be asked": judge a batch without change, told to a host
 pub record HostJudged (list rows records batch : List ℕ) (returned : ℕ) (answer′ : List ℕ) : Type 0 where
   pub judged : Judged
   pub promised : JudgedBatch list rows records batch judged
   pub tells : Tells (judgedNumbers judged) returned answer′
 
+-- 01 "What may be asked": take a batch, told to a host
 pub record HostTook (list rows records batch : List ℕ) (returned : ℕ) (rows′ records′ answer′ : List ℕ) : Type 0 where
   pub judged : Judged
   pub promised : TookBatch list rows records batch judged rows′ records′
   pub tells : Tells (judgedNumbers judged) returned answer′
 
+-- 01 "What may be asked": list gaps, told to a host
 pub record HostListed (list rows records : List ℕ) (letter : ℕ) (cells : List ℕ) (returned : ℕ) (cells′ answer′ : List ℕ) : Type 0 where
   pub listed : Listed
   pub promised : ListedRuns list rows records letter cells listed cells′
   pub tells : Tells (listedNumbers listed) returned answer′
 
+-- 01 "What may be asked": write off the lowest run, told to a host
 pub record HostWroteOff (list rows records : List ℕ) (letter : ℕ) (returned : ℕ) (rows′ answer′ : List ℕ) : Type 0 where
   pub written-off : WrittenOff
   pub promised : WroteOffRun list rows records letter written-off rows′
   pub tells : Tells (writtenOffNumbers written-off) returned answer′
 
+-- 01 "What may be asked": read a record, told to a host, its rows as values
 pub record HostRead (list rows records : List ℕ) (letter : ℕ) (key : List ℕ) (level : Level) (values : List ℕ) (returned : ℕ) (values′ answer′ : List ℕ) : Type 0 where
   pub reading : Reading
   pub promised : ReadRecord list rows records letter key level reading
   pub tells : Tells (recordNumbers (reading .answer)) returned answer′
   pub shows : values′ ≡ valuesAfter (reading .answer) level (reading .quote) values
 
--- a code is lent as its two bytes
+-- the host's header: a code is lent as its two bytes
 abbrev pub codeOf : List ℕ → Code
 codeOf bytes = record { 0 = getD bytes 0 0; 1 = getD bytes 1 0 }
 
+-- 01 "What may be asked": write a message, told to a host, its rows handed as values
 pub record HostWrote (code : List ℕ) (level : Level) (number : ℕ) (key values out : List ℕ) (returned : ℕ) (out′ answer′ : List ℕ) : Type 0 where
   pub written : Written
   pub promised : WroteMessage (codeOf code) level number key (quoteIn level values) out written out′

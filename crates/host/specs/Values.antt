@@ -11,16 +11,16 @@ use Rattle.quotebox.specs.declared.answers.Recorded.{Recorded}
 use Rattle.quotebox.specs.declared.answers.Recorded.the-variants.{Record, NoRecord, Refused}
 use Rattle.quotebox.specs.Record.{recordRows, cellsAt}
 
--- 15 numbers at level 1, 33 at level 2; none is all ones, as in a cell
+-- the host's header: 15 numbers at level 1, 33 at level 2; none is all ones, as in a cell
 unfoldable pub valuesOf : ℕ → Level → Quote → List ℕ
 valuesOf number level quote = number ∷ take (recordRows level) (drop (length keyRows) (cellsOf level quote))
 
--- "They are written only when a record is answered", from the first on; every other stays
+-- the host's header: values are written only where a record is answered, from the first on; every other stays
 abbrev pub valuesAfter : Recorded → Level → Quote → List ℕ → List ℕ
 valuesAfter (Record number) level quote values = sets values 0 (valuesOf number level quote)
 valuesAfter NoRecord level quote values = values
 valuesAfter (Refused refusal) level quote values = values
 
--- the quote that values hold, as the cells of a record do; "the writer doesn't look at the first"
+-- the host's header: the quote that values hold, as the cells of a record do; the writer doesn't look at the first
 unfoldable pub quoteIn : Level → List ℕ → Quote
 quoteIn level values = quoteOf level (cellsAt values 0 level)

@@ -9,24 +9,26 @@ use Rattle.layout.specs.declared.cells.Held.the-variants.{Nothing, Units
 use Rattle.layout.specs.declared.rows.Row.{Row}
 use Rattle.layout.specs.declared.rows.Row.the-variants.{Text, MarketType, Status, Price, Quantity, Turnover}
 
--- what a cell holds for "none": all ones
+-- lent memory: what a cell holds for "none" is all ones
 abbrev pub none : ℕ
 none = 2 ^ 64 - 1
 
--- the meaning of a cell: all ones is none, every other number is that amount
+-- lent memory, 01 "Numbers in text" ("none" differs from zero): the meaning of a cell: all ones is none, every other number is
+-- that amount
 abbrev pub heldIn : ℕ → Held
 heldIn cell = cond (eqb cell none) Nothing (Units cell)
 
--- the cell of a number. All ones is no amount's cell: that amount gets the cell below, which is as far out of every kind's range
+-- lent memory: the cell of a number. All ones is no amount's cell: that amount gets the cell below, which is as far out of
+-- every kind's range
 abbrev pub cellOf : Held → ℕ
 cellOf Nothing = none
 cellOf (Units n) = cond (eqb n none) (none - 1) n
 
--- a letter's cell holds its byte; any larger number counts as 0
+-- lent memory: a letter's cell holds its byte; any larger number counts as 0
 abbrev pub byteIn : ℕ → ℕ
 byteIn cell = cond (leb cell 255) cell 0
 
--- a cell as its row sees it: a key's text has none
+-- lent memory: a cell as its row sees it: a key's text has none
 abbrev pub seenCell : Row → ℕ → ℕ
 seenCell (Text width) cell = 0
 seenCell MarketType cell = byteIn cell
@@ -35,11 +37,11 @@ seenCell (Price width) cell = cell
 seenCell (Quantity width) cell = cell
 seenCell (Turnover width) cell = cell
 
--- cells as rows see them, one a row
+-- lent memory: cells as rows see them, one a row
 abbrev pub seenCells : List Row → List ℕ → List ℕ
 seenCells [] cells = []
 seenCells (row ∷ rows) cells = seenCell row (getD cells 0 0) ∷ seenCells rows (drop 1 cells)
 
--- cells with zeros behind them, as many as the longest layout has rows
+-- lent memory: cells with zeros behind them, as many as the longest layout has rows
 abbrev pub filled : List ℕ → List ℕ
 filled cells = cells ++ replicate (37 - length cells) 0

@@ -13,23 +13,25 @@ use Rattle.layout.specs.Rows.{widthOf, total, offsetOf}
 use Rattle.layout.specs.Read.{readRow}
 use Rattle.layout.specs.Write.{RowText, text, malformed, out-of-range, rowText, keyUsed}
 
--- 01, the table of refusals: FIELD and RANGE
+-- 01, the table's row 11: FIELD
 abbrev pub field : ℕ
 field = 11
 
+-- 01, the table's row 12: RANGE
 abbrev pub range : ℕ
 range = 12
 
--- the paper's number and row of a verdict; none where all rows are good
+-- 01, the table of refusals: the paper's number and row of a verdict; none where all rows are good
 abbrev pub verdictNumbers : Verdict → List ℕ
 verdictNumbers Good = []
 verdictNumbers (FieldAt row) = field ∷ row ∷ []
 verdictNumbers (RangeAt row) = range ∷ row ∷ []
 
--- row k of a layout, and its field in the data
+-- 01 "What may be asked": rows count from 0 as laid out
 abbrev pub rowAt : List Row → ℕ → Row
 rowAt rows k = getD rows k (Text 0)
 
+-- 01 "What may be asked": every field of the data is one row: the bytes of row k
 abbrev pub fieldAt : List Row → List ℕ → ℕ → List ℕ
 fieldAt rows bytes k = take (widthOf (rowAt rows k)) (drop (offsetOf rows k) bytes)
 
@@ -41,31 +43,33 @@ rowRead rows bytes k = readRow (rowAt rows k) (fieldAt rows bytes k)
 abbrev pub rowWritten : List Row → List ℕ → List ℕ → ℕ → RowText
 rowWritten rows key cells k = rowText (rowAt rows k) (drop (total keyUsed (take k rows)) key) (getD cells k 0)
 
--- a row's refusal, 0 where there is none: of its field as read, and of what it is to hold
+-- 01, the table's rows 11 and 12: a row's refusal by what its field reads as, 0 where there is none
 abbrev pub readRefusal : RowRead → ℕ
 readRefusal (Cell cell) = 0
 readRefusal Field = field
 readRefusal Range = range
 
+-- 01, the table's rows 11 and 12: a row's refusal by what it is to hold, 0 where there is none
 abbrev pub writeRefusal : RowText → ℕ
 writeRefusal (text characters) = 0
 writeRefusal malformed = field
 writeRefusal out-of-range = range
 
--- row k's refusal in reading, and in writing
+-- 01, the table's rows 11 and 12: row k's refusal in reading
 abbrev pub refusalRead : List Row → List ℕ → ℕ → ℕ
 refusalRead rows bytes k = readRefusal (rowRead rows bytes k)
 
+-- 01, the table's rows 11 and 12: row k's refusal in writing
 abbrev pub refusalWritten : List Row → List ℕ → List ℕ → ℕ → ℕ
 refusalWritten rows key cells k = writeRefusal (rowWritten rows key cells k)
 
--- row i of so many is refused with this number, and no row in front of it is refused
+-- 01, the order of checks: row i of so many is refused with this number, and no row in front of it is refused
 pub record FirstAt (refusal : ℕ → ℕ) (count number i : ℕ) : Type 0 where
   pub within : i < count
   pub refused : refusal i ≡ number
   pub none-before : (k : ℕ) → k < i → refusal k ≡ 0
 
--- a verdict on so many rows, given each row's refusal
+-- 01, the order of checks: a verdict on so many rows, given each row's refusal
 abbrev pub FirstBad : (ℕ → ℕ) → ℕ → Verdict → Type 0
 FirstBad refusal count Good = (k : ℕ) → k < count → refusal k ≡ 0
 FirstBad refusal count (FieldAt i) = FirstAt refusal count field i

@@ -9,7 +9,7 @@ use lib.Dec.{eqb}
 use native.Mathlib.Nat.{add-zero}
 use native.Mathlib.Numerals.{add-one}
 use borrow.Author.Count.{below-more}
-use lib.ListN.{length, getD, take, drop}
+use lib.ListN.{length, take, drop}
 use lib.Seq.{drop-length, drop-cons, drop-drop, getD-drop}
 use Rattle.laws.specs.Order.{order}
 use Rattle.layout.specs.declared.rows.Row.{Row}
@@ -20,7 +20,7 @@ use Rattle.layout.specs.declared.read.Verdict.{Verdict}
 use Rattle.layout.specs.declared.read.Verdict.the-variants.{Good, Field as FieldAt, Range as RangeAt}
 use Rattle.layout.specs.Rows.{widthOf, total, offsetOf}
 use Rattle.layout.specs.RowsLaws.{total-suc}
-use Rattle.layout.specs.Read.{readRow, Outcome, rowThen, readRows}
+use Rattle.layout.specs.Read.{rowThen, readRows}
 use Rattle.layout.specs.Write.{RowText, text, malformed, out-of-range, keyUsed, textThen, writeRows}
 use Rattle.layout.specs.FirstBad.{field, range, rowAt, rowRead, rowWritten, readRefusal, writeRefusal, refusalRead, refusalWritten, verdictNumbers, FirstAt, FirstBad}
 
@@ -117,25 +117,6 @@ module _ (rows : List Row) (bytes : List ℕ) where
   -- and each verdict is given exactly so
   pub read-exactly : (verdict : Verdict) → (readRows 0 rows bytes .verdict ≡ verdict) ↔ FirstBad (refusalRead rows bytes) (length rows) verdict
   read-exactly = exactly (refusalRead rows bytes) (length rows) (readRows 0 rows bytes .verdict) read-first
-
--- the cells that are read are those of the rows in front of the first bad one
-pub cell-of-row : (i : ℕ) (rows : List Row) (bytes : List ℕ) (k : ℕ) → k < length (readRows i rows bytes .cells)
-    → rowRead rows bytes k ≡ Cell (getD (readRows i rows bytes .cells) k 0)
-cell-of-row i [] bytes k h = absurd (omega arith)
-cell-of-row i (row ∷ rows) bytes k h =
-    go (readRow row (take (widthOf row) bytes)) refl k (cell-of-row (suc i) rows (drop (widthOf row) bytes)) h
-  where
-    rest : Outcome
-    rest = readRows (suc i) rows (drop (widthOf row) bytes)
-
-    go : (answer : RowRead) → readRow row (take (widthOf row) bytes) ≡ answer → (k : ℕ)
-        → ((k : ℕ) → k < length (rest .cells) → rowRead rows (drop (widthOf row) bytes) k ≡ Cell (getD (rest .cells) k 0))
-        → k < length (rowThen answer i rest .cells)
-        → rowRead (row ∷ rows) bytes k ≡ Cell (getD (rowThen answer i rest .cells) k 0)
-    go (Cell cell) e zero later h = e
-    go (Cell cell) e (suc k) later h = rw drop-drop at (later k (omega arith))
-    go Field e k later h = absurd (omega arith)
-    go Range e k later h = absurd (omega arith)
 
 -- ---- writing
 

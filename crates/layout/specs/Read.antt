@@ -21,7 +21,7 @@ use Rattle.amount.specs.Kinds.{Kind, price, quantity, turnover}
 use Rattle.layout.specs.Rows.{widthOf}
 use Rattle.layout.specs.Cells.{cellOf, filled}
 
--- a number's cell, where the text is one
+-- 01, the table's rows 11 and 12: a number's cell, where the text is one
 abbrev pub ofNumber : Number → RowRead
 ofNumber None = Cell (cellOf Nothing)
 ofNumber (Amount units) = Cell (cellOf (Units units))
@@ -36,14 +36,15 @@ isMarketType byte = eqb byte 78
 abbrev pub isStatus : ℕ → Bool
 isStatus byte = eqb byte 83 || eqb byte 32
 
--- a letter's cell is its byte, where it is one that the row takes
+-- 01 "The message": a letter's cell is its byte, where it is one that the row takes
 abbrev pub letterCell : (ℕ → Bool) → ℕ → RowRead
 letterCell taken byte = cond (taken byte) (Cell byte) Field
 
+-- 01 "Numbers in text": a field as a number of its kind
 abbrev pub numberCell : Kind → List ℕ → RowRead
 numberCell kind field = ofNumber (readText (kind .places) (kind .most) field)
 
--- one row's field; a key's text is only looked up, and its cell is 0
+-- 01 "The message": one row's field; a key's text is only looked up, and its cell is 0
 unfoldable pub readRow : Row → List ℕ → RowRead
 readRow (Text width) field = Cell 0
 readRow MarketType field = letterCell isMarketType (numberAt 1 field 0)
@@ -63,7 +64,7 @@ rowThen (Cell cell) i rest = record { cells = cell ∷ rest .cells; verdict = re
 rowThen Field i rest = record { cells = []; verdict = FieldAt i }
 rowThen Range i rest = record { cells = []; verdict = RangeAt i }
 
--- the rows from row i on, in turn, each with the bytes behind those of the row before it
+-- 01, the order of checks: the rows from row i on, in turn, each with the bytes behind those of the row before it
 abbrev pub readRows : ℕ → List Row → List ℕ → Outcome
 readRows i [] bytes = record { cells = []; verdict = Good }
 readRows i (row ∷ rows) bytes =

@@ -8,7 +8,7 @@ use lib.ListN.{length, getD, take, drop, length-drop}
 use lib.Seq.{take-at, drop-at, take-add, take-append-add, length-take-le}
 use Rattle.wire.specs.Number.{numberAt}
 use Rattle.amount.specs.ReadBack.{reads-back, none-reads-back}
-use Rattle.amount.specs.Write.{written, blankText, filled}
+use Rattle.amount.specs.Write.{blankText}
 use Rattle.layout.specs.declared.cells.Held.{Held}
 use Rattle.layout.specs.declared.cells.Held.the-variants.{Nothing, Units}
 use Rattle.layout.specs.declared.rows.Row.{Row}

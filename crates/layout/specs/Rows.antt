@@ -16,34 +16,35 @@ abbrev pub orders : ℕ → ℕ → List Row
 orders price zero = []
 orders price (suc depth) = Price price ∷ Quantity 12 ∷ orders price depth
 
--- last traded price, traded quantity
+-- 01 "The message": last traded price, traded quantity
 abbrev pub traded : ℕ → List Row
 traded price = Price price ∷ Quantity 12 ∷ []
 
--- opening, high, low, close and average price
+-- 01 "The message": opening, high, low, close and average price
 abbrev pub dayPrices : ℕ → List Row
 dayPrices price = Price price ∷ Price price ∷ Price price ∷ Price price ∷ Price price ∷ []
 
--- orders a side
+-- 01 "The message": orders a side
 abbrev pub depthOf : Level → ℕ
 depthOf One = 1
 depthOf Two = 5
 
--- all buyers' and all sellers' quantity: level 2 alone
+-- 01 "The message": all buyers' and all sellers' quantity: level 2 alone
 abbrev pub sideTotals : Level → List Row
 sideTotals One = []
 sideTotals Two = Quantity 12 ∷ Quantity 12 ∷ []
 
--- the rows behind the key, in the order in which they are laid out
+-- 01 "The message": the rows behind the key, in the order in which they are laid out
 abbrev pub recordRows : Level → List Row
 recordRows level =
     (MarketType ∷ orders 17 (depthOf level)) ++ orders 17 (depthOf level) ++ traded 17 ++ (Status ∷ dayPrices 17) ++ sideTotals level
     ++ (Turnover 25 ∷ [])
 
--- the rows of an update
+-- 01 "The message": the rows of an update
 unfoldable pub rowsOf : Level → List Row
 rowsOf level = keyRows ++ recordRows level
 
+-- 01 "The message": the width of a row's field
 abbrev pub widthOf : Row → ℕ
 widthOf (Text width) = width
 widthOf MarketType = 1
@@ -57,6 +58,7 @@ abbrev pub total : (Row → ℕ) → List Row → ℕ
 total each [] = 0
 total each (row ∷ rows) = each row + total each rows
 
+-- 01 "The message": the sum of the data widths
 abbrev pub dataLength : List Row → ℕ
 dataLength rows = total widthOf rows
 
@@ -64,7 +66,7 @@ dataLength rows = total widthOf rows
 abbrev pub messageLength : List Row → ℕ
 messageLength rows = dataLength rows + 11
 
--- where row i begins in the data
+-- 01 "The message": where row i begins in the data
 abbrev pub offsetOf : List Row → ℕ → ℕ
 offsetOf rows i = dataLength (take i rows)
 

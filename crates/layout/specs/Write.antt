@@ -25,6 +25,7 @@ use Rattle.layout.specs.Read.{isMarketType, isStatus}
 abbrev pub printable : ℕ → Bool
 printable byte = leb 32 byte && leb byte 126
 
+-- 01, the table's row 11: no byte of a written key is outside 32 to 126
 abbrev pub allPrintable : List ℕ → Bool
 allPrintable [] = true
 allPrintable (b ∷ bs) = printable b && allPrintable bs
@@ -35,7 +36,7 @@ pub data RowText : Type 0 where
   malformed : RowText
   out-of-range : RowText
 
--- a part of the key, as it is
+-- 01 "The message": a part of the key, as it is
 abbrev pub keyText : ℕ → List ℕ → RowText
 keyText width key = cond (leb width (length key) && allPrintable (take width key)) (text (take width key)) malformed
 
@@ -43,16 +44,17 @@ keyText width key = cond (leb width (length key) && allPrintable (take width key
 abbrev pub letterText : (ℕ → Bool) → ℕ → RowText
 letterText taken letter = cond (taken letter) (text (letter ∷ [])) malformed
 
+-- 01, the table's row 12: too large, or no text fits
 abbrev pub ofWritten : Written → RowText
 ofWritten (filled characters) = text characters
 ofWritten refused = out-of-range
 
--- a number, as its kind is written: "none" is all spaces
+-- 01 "Numbers in text": a number, as its kind is written: "none" is all spaces
 abbrev pub heldText : Kind → ℕ → Held → RowText
 heldText kind width Nothing = text (blankText width)
 heldText kind width (Units n) = ofWritten (written (kind .places) (kind .most) width n)
 
--- the text of one row: from what is left of the key, or from the row's cell
+-- 01 "The message": the text of one row: from what is left of the key, or from the row's cell
 unfoldable pub rowText : Row → List ℕ → ℕ → RowText
 rowText (Text width) key cell = keyText width key
 rowText MarketType key cell = letterText isMarketType cell
@@ -81,18 +83,19 @@ textThen (text characters) i rest = record { bytes = characters ++ rest .bytes; 
 textThen malformed i rest = record { bytes = []; verdict = FieldAt i }
 textThen out-of-range i rest = record { bytes = []; verdict = RangeAt i }
 
--- the rows from row i on, in turn, a cell each
+-- 01, the order of checks: the rows from row i on, in turn, a cell each
 abbrev pub writeRows : ℕ → List Row → List ℕ → List ℕ → Laid
 writeRows i [] key cells = record { bytes = []; verdict = Good }
 writeRows i (row ∷ rows) key cells =
     textThen (rowText row key (getD cells 0 0)) i (writeRows (suc i) rows (drop (keyUsed row) key) (drop 1 cells))
 
--- the answer for one row, and its field: a refusal leaves it as it was
+-- 01, the table's rows 11 and 12: the answer for one row
 abbrev pub putOf : RowText → RowPut
 putOf (text characters) = Fits
 putOf malformed = Field
 putOf out-of-range = Range
 
+-- 01 "What may be asked": a refusal leaves the field as it was
 abbrev pub fieldAfter : RowText → List ℕ → List ℕ
 fieldAfter (text characters) before = characters
 fieldAfter malformed before = before
@@ -103,6 +106,7 @@ abbrev pub ofPut : Put → RowPut
 ofPut amount.Fits = Fits
 ofPut amount.OutOfRange = Range
 
+-- what the writer of one row promises: its answer, and the field afterwards
 pub record PutsRow (t : RowText) (before : List ℕ) (answer : RowPut) (after : List ℕ) : Type 0 where
   pub answers : answer ≡ putOf t
   pub leaves : after ≡ fieldAfter t before
@@ -116,13 +120,14 @@ pub record WritesRows (rows : Laid) (answer : RowsWritten) : Type 0 where
   pub answers : answer .verdict ≡ rows .verdict
   pub in-front : take (length (rows .bytes)) (answer .bytes) ≡ rows .bytes
 
--- what a refusal leaves as it was
+-- 01 "What may be asked": what a refusal leaves as it was
 abbrev pub whereGood : Verdict → List ℕ → List ℕ → List ℕ
 whereGood Good written before = written
 whereGood (FieldAt i) written before = before
 whereGood (RangeAt i) written before = before
 
--- the answer of writing an update, and the lent data: good rows are laid over its front, a refusal changes no byte
+-- 01 "What may be asked": the answer of writing an update, and the lent data: good rows are laid over its front, a refusal
+-- changes no byte
 pub record WritesUpdate (rows : Laid) (before : List ℕ) (answer : Verdict) (after : List ℕ) : Type 0 where
   pub answers : answer ≡ rows .verdict
   pub leaves : after ≡ whereGood (rows .verdict) (laid (rows .bytes) before) before

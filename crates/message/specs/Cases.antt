@@ -20,9 +20,11 @@ use Rattle.message.specs.Numbers.{whatNumbers}
 abbrev pub listOf : ℕ → List ℕ
 listOf letter = 0 ∷ 1 ∷ letter ∷ 0 ∷ 0 ∷ 1 ∷ 0 ∷ 0 ∷ 0 ∷ 10 ∷ replicate keySize 65
 
+-- 01 "The contract list": the letter D
 abbrev pub D : ℕ
 D = 0x44
 
+-- 01 "The contract list": the letter T
 abbrev pub T : ℕ
 T = 0x54
 
@@ -32,6 +34,7 @@ pub record Given : Type 0 where
   pub first : ℕ
   pub bytes : List ℕ
 
+-- what is given, by its parts
 abbrev pub given : ℕ → ℕ → List ℕ → Given
 given listed first bytes = record { listed = listed; first = first; bytes = bytes }
 
@@ -50,6 +53,7 @@ answered g =
     let m = messageOf (listOf (g .listed)) (g .first) (g .bytes) in
     whatNumbers (m .what) ++ (m .length ∷ [])
 
+-- 01, the table's rows 5 to 13: messages that break one each, and good ones
 abbrev pub messages : List Given
 messages =
     -- P5, and the same where only T is listed, and in a batch that begins with T
@@ -71,6 +75,7 @@ messages =
     given D D (update (0 ∷ 249 ∷ []) 66 0x4E 198 (97 ∷ 150 ∷ [])) ∷ given D D (update (0 ∷ 249 ∷ []) 66 0x4F 198 (205 ∷ 88 ∷ [])) ∷
     []
 
+-- 01, the table of refusals: what is answered to each, and its length
 abbrev pub answers : List (List ℕ)
 answers =
     (0 ∷ 11 ∷ []) ∷ (6 ∷ 11 ∷ []) ∷ (6 ∷ 11 ∷ []) ∷

@@ -10,7 +10,7 @@ use Rattle.message.specs.declared.codes.Kind.the-variants.{Heartbeat, Up
 use Rattle.message.specs.declared.codes.Sum.{Sum}
 use Rattle.message.specs.declared.codes.Sum.the-variants.{Zero, Right, RightOrZero}
 
--- DH and TH are heartbeats, DN and TN updates; every other code of a listed segment is passed over
+-- 01 "The message": DH and TH are heartbeats, DN and TN updates; every other code of a listed segment is passed over
 abbrev pub kindOf : ℕ → Kind
 kindOf second = cond (eqb second 72) Heartbeat (cond (eqb second 78) Update PassedOver)
 
@@ -28,7 +28,7 @@ takesLength Heartbeat length = eqb length bareLength
 takesLength Update length = eqb length (messageLength (rowsOf One)) || eqb length (messageLength (rowsOf Two))
 takesLength PassedOver length = true
 
--- where both levels print one code, the length tells them apart
+-- 01 "The message": where both levels print one code, the length tells them apart
 unfoldable pub levelOf : ℕ → Level
 levelOf length = cond (eqb length (messageLength (rowsOf One))) One Two
 

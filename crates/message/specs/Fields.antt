@@ -7,31 +7,39 @@ use Rattle.wire.specs.Checksum.{checksumOf}
 use Rattle.message.specs.declared.codes.Kind.{Kind}
 use Rattle.message.specs.Codes.{kindOf, bareLength}
 
--- 01 "The message": code (2), length (2), sequence number (4), data, checksum (2), end byte
+-- 01 "The message": code (2), length (2) and sequence number (4) stand before the data
 abbrev pub dataAt : ℕ
 dataAt = 8
 
+-- 01 "The message": the first byte of the code is the segment's letter
 unfoldable pub letterOf : List ℕ → ℕ
 letterOf bytes = numberAt 1 bytes 0
 
+-- 01 "The message": the second byte of the code
 unfoldable pub secondOf : List ℕ → ℕ
 secondOf bytes = numberAt 1 bytes 1
 
+-- 01 "The message": length (2), which counts the whole message
 unfoldable pub lengthOf : List ℕ → ℕ
 lengthOf bytes = numberAt 2 bytes 2
 
+-- 01 "The message": sequence number (4)
 unfoldable pub numberOf : List ℕ → ℕ
 numberOf bytes = numberAt 4 bytes 4
 
+-- 01 "The message": the data, up to the trailer
 unfoldable pub dataOf : List ℕ → List ℕ
 dataOf bytes = take (lengthOf bytes - bareLength) (drop dataAt bytes)
 
+-- 01 "The message": checksum (2), before the end byte
 unfoldable pub sumSent : List ℕ → List ℕ
 sumSent bytes = numberAt 1 bytes (lengthOf bytes - 3) ∷ numberAt 1 bytes (lengthOf bytes - 2) ∷ []
 
+-- 01 "The message": the last byte
 unfoldable pub endByte : List ℕ → ℕ
 endByte bytes = numberAt 1 bytes (lengthOf bytes - 1)
 
+-- 01 "The message": what the table says of the code
 unfoldable pub kindIn : List ℕ → Kind
 kindIn bytes = kindOf (secondOf bytes)
 
@@ -39,5 +47,6 @@ kindIn bytes = kindOf (secondOf bytes)
 unfoldable pub rightSum : List ℕ → List ℕ
 rightSum bytes = checksumOf (take (lengthOf bytes - 3) bytes)
 
+-- 01 "The checksum": heartbeats carry zero
 abbrev pub zeroSum : List ℕ
 zeroSum = 0 ∷ 0 ∷ []

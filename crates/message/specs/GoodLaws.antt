@@ -13,11 +13,12 @@ use Rattle.laws.specs.RulesLaws.{hold-append}
 use Rattle.layout.specs.declared.read.RowRead.{RowRead}
 use Rattle.layout.specs.declared.read.RowRead.the-variants.{Cell, Field, Range}
 use Rattle.layout.specs.declared.rows.Row.{Row}
+use Rattle.layout.specs.FirstBad.{rowAt, fieldAt}
 use Rattle.layout.specs.Read.{readRow}
 use Rattle.layout.specs.Rows.{widthOf, offsetOf}
 use Rattle.message.specs.declared.codes.Kind.{Kind}
 use Rattle.message.specs.declared.codes.Kind.the-variants.{Heartbeat, Update, PassedOver}
-use Rattle.message.specs.Good.{GoodMessage, GoodRows, HasContract, rowAt, fieldAt}
+use Rattle.message.specs.Good.{GoodMessage, GoodRows, HasContract}
 use Rattle.message.specs.Fields.{lengthOf, numberOf, dataOf, kindIn}
 use Rattle.message.specs.Head.{headRules}
 use Rattle.message.specs.CodesLaws.{length-exact}
@@ -37,7 +38,7 @@ cell-exact Range = ((λ h. absurd (false≢true (h .1))), (λ h. (refl, cc)))
 
 -- the rows behind the first are the rows of the bytes behind it
 module _ (row : Row) (rows : List Row) (bytes : List ℕ) where
-  field-behind : (i : ℕ) → fieldAt (row ∷ rows) (suc i) bytes ≡ fieldAt rows i (drop (widthOf row) bytes)
+  field-behind : (i : ℕ) → fieldAt (row ∷ rows) bytes (suc i) ≡ fieldAt rows (drop (widthOf row) bytes) i
   field-behind i = ap (take (widthOf (rowAt rows i))) (sym (drop-drop (offsetOf rows i) (widthOf row) bytes))
 
   abbrev Split : Type 0

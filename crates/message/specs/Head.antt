@@ -18,20 +18,21 @@ use Rattle.message.specs.Codes.{isCapital, takesLength, sumRule, bareLen
 use Rattle.message.specs.Fields.{dataAt, letterOf, secondOf, lengthOf, numberOf, sumSent, endByte, kindIn, rightSum, zeroSum}
 use Rattle.message.specs.Rules.{firstFault}
 
--- 5: at least 8 bytes left, a length of at least 11 and not over what is left
+-- 01, the table's row 5: at least 8 bytes left, a length of at least 11 and not over what is left
 unfoldable pub framed : List ℕ → Bool
 framed bytes = leb dataAt (length bytes) && leb bareLength (lengthOf bytes) && leb (lengthOf bytes) (length bytes)
 
+-- there is a place
 abbrev pub isSome : Option ℕ → Bool
 isSome none = false
 isSome (some place) = true
 
--- 6: the first message's letter, which is listed, and a second byte A to Z
+-- 01, the table's row 6: the first message's letter, which is listed, and a second byte A to Z
 unfoldable pub coded : List ℕ → ℕ → List ℕ → Bool
 coded list letter bytes =
     eqb (letterOf bytes) letter && isCapital (secondOf bytes) && isSome (segmentOf list letter)
 
--- 7: the last byte is 13
+-- 01, the table's row 7: the last byte is 13
 unfoldable pub trailed : List ℕ → Bool
 trailed bytes = eqb (endByte bytes) 13
 
@@ -42,16 +43,17 @@ sameBytes [] (b ∷ bs) = false
 sameBytes (a ∷ rest) [] = false
 sameBytes (a ∷ rest) (b ∷ bs) = eqb a b && sameBytes rest bs
 
--- 9: the sum is as its rule says
+-- 01, the table's row 9: the sum is as its rule says
 abbrev pub takesSum : Sum → List ℕ → List ℕ → Bool
 takesSum Zero sent right = sameBytes sent zeroSum
 takesSum Right sent right = sameBytes sent right
 takesSum RightOrZero sent right = sameBytes sent zeroSum || sameBytes sent right
 
+-- 01, the table's row 9: the sum that was sent, beside the right one
 unfoldable pub summed : List ℕ → Bool
 summed bytes = takesSum (sumRule (kindIn bytes)) (sumSent bytes) (rightSum bytes)
 
--- 10: a heartbeat has number 0, every other message 1 or more
+-- 01, the table's row 10: a heartbeat has number 0, every other message 1 or more
 abbrev pub takesNumber : Kind → ℕ → Bool
 takesNumber Heartbeat number = eqb number 0
 takesNumber Update number = leb 1 number
@@ -68,6 +70,6 @@ headRules list letter bytes =
     ∷ record { holds = takesNumber (kindIn bytes) (numberOf bytes); refusal = Numbering }
     ∷ []
 
--- the first broken one decides
+-- 01, the order of checks: the first broken one decides
 unfoldable pub headOf : List ℕ → ℕ → List ℕ → Head
 headOf list letter bytes = firstFault (headRules list letter bytes)

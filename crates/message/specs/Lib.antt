@@ -11,7 +11,6 @@ pub mod HeadLaws
 pub mod Message
 pub mod MessageLaws
 pub mod Numbers
-pub mod NumbersLaws
 pub mod Order
 pub mod OrderLaws
 pub mod Rules

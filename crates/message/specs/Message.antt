@@ -28,41 +28,43 @@ use Rattle.message.specs.Head.{headOf}
 unfoldable pub keyOf : List ℕ → List ℕ
 keyOf bytes = take keySize (dataOf bytes)
 
--- the place of a key in the segment of a letter, where there is one
+-- 01 "The contract list": the place of a key in the segment of a letter, where there is one
 abbrev pub placeThere : List ℕ → List ℕ → Option ℕ → Option ℕ
 placeThere list key none = none
 placeThere list key (some segment) = placeIn list segment key
 
+-- 01 "The contract list": the place of a key, with the segment of the letter looked up
 unfoldable pub keyPlace : List ℕ → ℕ → List ℕ → Option ℕ
 keyPlace list letter key = placeThere list key (segmentOf list letter)
 
--- the rows that are read: an update's, by its length. Of what is passed over no field is looked at
+-- 01 "The message": the rows that are read: an update's, by its length. Of what is passed over no field is looked at
 abbrev pub rowsIn : Kind → ℕ → List Row
 rowsIn kind.Heartbeat length = []
 rowsIn kind.Update length = rowsOf (levelOf length)
 rowsIn kind.PassedOver length = []
 
+-- 01 "The message": the rows of the data, read in turn
 abbrev pub rowsRead : List ℕ → Outcome
 rowsRead bytes = readRows 0 (rowsIn (kindIn bytes) (lengthOf bytes)) (dataOf bytes)
 
--- 13: the key of an update is listed
+-- 01, the table's row 13: the key of an update is listed
 abbrev pub ofPlace : ℕ → Level → Option ℕ → What
 ofPlace number level none = what.Bad fault.Contract
 ofPlace number level (some place) = what.Update number level place
 
--- what a message is by its kind
+-- 01 "The message": what a message is by its kind
 abbrev pub ofKind : Kind → ℕ → Level → Option ℕ → What
 ofKind kind.Heartbeat number level place = what.Heartbeat
 ofKind kind.Update number level place = ofPlace number level place
 ofKind kind.PassedOver number level place = what.PassedOver number
 
--- 11 and 12: the first bad row decides
+-- 01, the table's rows 11 and 12: the first bad row decides
 abbrev pub ofVerdict : Verdict → What → What
 ofVerdict verdict.Good good = good
 ofVerdict (verdict.Field row) good = what.Bad (fault.Field row)
 ofVerdict (verdict.Range row) good = what.Bad (fault.Range row)
 
--- what a message with a good head is
+-- 01 "The message": what a message with a good head is
 unfoldable pub contentsOf : List ℕ → ℕ → List ℕ → Message
 contentsOf list letter bytes =
     record {
@@ -77,10 +79,11 @@ contentsOf list letter bytes =
 abbrev pub bare : What → ℕ → Message
 bare what length = record { what = what; length = length; cells = filled [] }
 
--- 5 to 10, and then 11 to 13
+-- 01, the order of checks: 5 to 10, and then 11 to 13
 abbrev pub ofHead : Head → ℕ → Message → Message
 ofHead head.Good length contents = contents
 ofHead (head.Bad fault) length contents = bare (what.Bad fault) length
 
+-- 01, the table's rows 5 to 13 in their order: what the bytes begin with
 unfoldable pub messageOf : List ℕ → ℕ → List ℕ → Message
 messageOf list letter bytes = ofHead (headOf list letter bytes) (lengthOf bytes) (contentsOf list letter bytes)

@@ -27,7 +27,8 @@ abbrev pub levelNumber : Level → ℕ
 levelNumber One = 1
 levelNumber Two = 2
 
--- 0 for a message with no fault; then the number by which it counts in the sequence, an update's level and its place
+-- 01 "The message": 0 for a message with no fault; then the number by which it counts in the sequence, an update's level and
+-- its place
 abbrev pub whatNumbers : What → List ℕ
 whatNumbers Heartbeat = 0 ∷ []
 whatNumbers (PassedOver number) = 0 ∷ number ∷ []

@@ -18,19 +18,19 @@ use Rattle.message.specs.Fields.{lengthOf, dataOf, kindIn}
 use Rattle.message.specs.Head.{isSome, headRules}
 use Rattle.message.specs.Message.{keyOf, keyPlace, rowsIn}
 
--- 11: well formed
+-- 01, the table's row 11: well formed
 abbrev pub isFormed : RowRead → Bool
 isFormed (read.Cell cell) = true
 isFormed read.Field = false
 isFormed read.Range = true
 
--- 12: in range
+-- 01, the table's row 12: in range
 abbrev pub isInRange : RowRead → Bool
 isInRange (read.Cell cell) = true
 isInRange read.Field = true
 isInRange read.Range = false
 
--- rows in turn from row i on, 11 before 12 in a row
+-- 01, the order of checks: rows in turn from row i on, 11 before 12 in a row
 abbrev pub rowRules : ℕ → List Row → List ℕ → List (Rule Fault)
 rowRules i [] bytes = []
 rowRules i (row ∷ rows) bytes =
@@ -38,17 +38,17 @@ rowRules i (row ∷ rows) bytes =
     ∷ record { holds = isInRange (readRow row (take (widthOf row) bytes)); refusal = Range i }
     ∷ rowRules (suc i) rows (drop (widthOf row) bytes)
 
--- 13: an update's key
+-- 01, the table's row 13: an update's key
 abbrev pub keyRules : Kind → Option ℕ → List (Rule Fault)
 keyRules Heartbeat place = []
 keyRules Update place = record { holds = isSome place; refusal = Contract } ∷ []
 keyRules PassedOver place = []
 
--- 11 to 13
+-- 01, the order of checks: 11 to 13
 abbrev pub bodyRules : List ℕ → ℕ → List ℕ → List (Rule Fault)
 bodyRules list letter bytes =
     rowRules 0 (rowsIn (kindIn bytes) (lengthOf bytes)) (dataOf bytes) ++ keyRules (kindIn bytes) (keyPlace list letter (keyOf bytes))
 
--- 5 to 13
+-- 01, the order of checks: 5 to 13
 abbrev pub messageRules : List ℕ → ℕ → List ℕ → List (Rule Fault)
 messageRules list letter bytes = headRules list letter bytes ++ bodyRules list letter bytes

@@ -6,9 +6,11 @@ use Rattle.message.specs.declared.head.Fault.{Fault}
 use Rattle.message.specs.declared.head.Head.{Head}
 use Rattle.message.specs.declared.head.Head.the-variants.{Good, Bad}
 
+-- 01, the table of refusals: no broken rule is no fault
 abbrev pub headBy : Option Fault → Head
 headBy none = Good
 headBy (some fault) = Bad fault
 
+-- 01, the order of checks: the first broken rule decides
 abbrev pub firstFault : List (Rule Fault) → Head
 firstFault rules = headBy (firstBroken rules)

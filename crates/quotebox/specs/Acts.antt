@@ -14,16 +14,18 @@ use Rattle.quotebox.specs.declared.answers.Judged.{Judged}
 use Rattle.quotebox.specs.Answers.{judgedNumbers}
 use Rattle.quotebox.specs.Batch.{Box, Acted, acted, refused, numberActs, messageActs, messagesAct, actedNumbers}
 
--- the counts with one message more
+-- 01 "What may be asked": how many messages were taken, old and heartbeats, with one message more
 abbrev pub counted : Act → Counts → Counts
 counted Taken counts = record { taken = suc (counts .taken); old = counts .old; heartbeats = counts .heartbeats }
 counted Old counts = record { taken = counts .taken; old = suc (counts .old); heartbeats = counts .heartbeats }
 counted Heartbeat counts = record { taken = counts .taken; old = counts .old; heartbeats = suc (counts .heartbeats) }
 counted (Refused refusal) counts = counts
 
+-- 01 "What may be asked": the counts before the first message
 abbrev pub none : Counts
 none = record { taken = 0; old = 0; heartbeats = 0 }
 
+-- how many messages were counted, of whichever sort
 abbrev pub total : Counts → ℕ
 total counts = counts .taken + counts .old + counts .heartbeats
 
@@ -32,19 +34,21 @@ abbrev pub boxAt : List ℕ → List ℕ → Counts → Box
 boxAt row records counts =
     record { row = row; records = records; taken = counts .taken; old = counts .old; heartbeats = counts .heartbeats }
 
--- only what is taken changes records
+-- 01 "Sequence and gaps": only what is taken changes records
 abbrev pub changedBy : Act → (List ℕ → List ℕ) → List ℕ → List ℕ
 changedBy Taken changed records = changed records
 changedBy Old changed records = records
 changedBy Heartbeat changed records = records
 changedBy (Refused refusal) changed records = records
 
+-- a message that is not refused
 abbrev pub passed : Act → Bool
 passed Taken = true
 passed Old = true
 passed Heartbeat = true
 passed (Refused refusal) = false
 
+-- what a message did: the box after it, or its refusal
 abbrev pub actedAs : Act → Box → Acted
 actedAs Taken box = acted box
 actedAs Old box = acted box

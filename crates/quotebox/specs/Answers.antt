@@ -10,32 +10,37 @@ use Rattle.quotebox.specs.declared.answers.Reading.{Reading}
 use Rattle.quotebox.specs.declared.answers.Written.{Written}
 use Rattle.quotebox.specs.Refusals.{refusalNumbers}
 
+-- 01 "What may be asked": start, which answers nothing more
 abbrev pub startedNumbers : Started → List ℕ
 startedNumbers Started.Started = 0 ∷ []
 startedNumbers (Started.Refused refusal) = refusalNumbers refusal
 
+-- 01 "What may be asked": an accepted batch answers how many messages were taken, old and heartbeats
 abbrev pub judgedNumbers : Judged → List ℕ
 judgedNumbers (Judged.Accepted taken old heartbeats) = 0 ∷ taken ∷ old ∷ heartbeats ∷ []
 judgedNumbers (Judged.Refused refusal) = refusalNumbers refusal
 
+-- 01 "What may be asked": list gaps answers highest and the number of runs
 abbrev pub listedNumbers : Listed → List ℕ
 listedNumbers (Listed.Runs highest runs) = 0 ∷ highest ∷ runs ∷ []
 listedNumbers (Listed.Refused refusal) = refusalNumbers refusal
 
+-- 01 "What may be asked": a write-off answers the run it removed, by its first and last number
 abbrev pub writtenOffNumbers : WrittenOff → List ℕ
 writtenOffNumbers (WrittenOff.Removed first last) = 0 ∷ first ∷ last ∷ []
 writtenOffNumbers (WrittenOff.Refused refusal) = refusalNumbers refusal
 
--- 1 and its number for a record, 0 where there is none
+-- 01 "What may be asked": a record, or "no record": 1 and its number for a record, 0 where there is none
 abbrev pub recordedNumbers : Recorded → List ℕ
 recordedNumbers (Recorded.Record number) = 0 ∷ 1 ∷ number ∷ []
 recordedNumbers Recorded.NoRecord = 0 ∷ 0 ∷ []
 recordedNumbers (Recorded.Refused refusal) = refusalNumbers refusal
 
+-- 01 "What may be asked": the numbers of a reading; its rows stand in the quote beside them
 abbrev pub readingNumbers : Reading → List ℕ
 readingNumbers reading = recordedNumbers (reading .answer)
 
--- "the writer its length"
+-- 01 "What may be asked": "the writer its length"
 abbrev pub writtenNumbers : Written → List ℕ
 writtenNumbers (Written.Message length) = 0 ∷ length ∷ []
 writtenNumbers (Written.Refused refusal) = refusalNumbers refusal

@@ -13,7 +13,7 @@ use Rattle.message.specs.Fields.{kindIn, lengthOf, numberOf}
 use Rattle.quotebox.specs.Batch.{flagOf, sizeOf, countOf, dataOf, batchLetter, rowOfLetter}
 use Rattle.quotebox.specs.GoodState.{GoodState}
 
--- a batch before its messages
+-- 01, the table's rows 1 to 4: a batch before its messages
 pub record GoodFront (batch : List ℕ) : Type 0 where
   -- 1
   pub begun : 5 ≤ length batch
@@ -30,17 +30,19 @@ arrived Heartbeat gaps number = gaps
 arrived Update gaps number = cond (takes gaps number) (after gaps number) gaps
 arrived PassedOver gaps number = cond (takes gaps number) (after gaps number) gaps
 
--- the gaps when a message has come
+-- 01 "Sequence and gaps": the gaps when a message has come
 abbrev pub gapsAfter : Gaps → List ℕ → Gaps
 gapsAfter gaps bytes = arrived (kindIn bytes) gaps (numberOf bytes)
 
--- so many messages, each where the one before it ends: 5 to 13 of each, 14 after each, and no bytes behind the last (4)
+-- 01 "The batch": so many messages, each where the one before it ends: 5 to 13 of each, 14 after each, and no bytes behind the
+-- last (4)
 abbrev pub GoodMessages : ℕ → List ℕ → ℕ → Gaps → List ℕ → Type 0
 GoodMessages zero list letter gaps bytes = length bytes ≡ 0
 GoodMessages (suc more) list letter gaps bytes =
     GoodMessage list letter bytes × (length (gapsAfter gaps bytes .runs) ≤ most)
     × GoodMessages more list letter (gapsAfter gaps bytes) (drop (lengthOf bytes) bytes)
 
+-- 01, the table's rows 1 to 16 and 18: a batch that breaks no rule, handed a good state
 pub record GoodBatch (list rows records batch : List ℕ) : Type 0 where
   pub state : GoodState list rows records
   pub front : GoodFront batch

@@ -9,6 +9,7 @@ use Rattle.contracts.specs.Sound.{Header}
 use Rattle.sequence.specs.Row.{soundRow}
 use Rattle.quotebox.specs.Memory.{rowsWanted, recordsWanted, rowOf}
 
+-- 01, the table's rows 16, 15 and 18: what calls after start are handed is such that none of the three is given
 pub record GoodState (list rows records : List ℕ) : Type 0 where
   -- 16
   pub header : Header list

@@ -33,7 +33,6 @@ pub mod State
 pub mod StateLaws
 pub mod StepLaws
 pub mod TookLaws
-pub mod UnreadLaws
 pub mod Writer
 pub mod WriterLaws
 pub mod WriterPromises

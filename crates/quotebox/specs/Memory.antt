@@ -13,37 +13,41 @@ use Rattle.sequence.specs.Row.{soundRow}
 use Rattle.quotebox.specs.declared.refusal.Refusal.the-variants.{Memory, List as ListOf, State}
 use Rattle.quotebox.specs.Refusals.{Rule}
 
--- the cells of a gap row, and of a contract's two records
+-- lent memory: the cells of a gap row
 abbrev pub rowCells : ℕ
 rowCells = 132
 
+-- lent memory: the cells of a contract's two records
 abbrev pub recordCells : ℕ
 recordCells = 48
 
--- the cells that a call wants for a list's segments and contracts
+-- 01 "What may be asked": the cells wanted for state, "a number that the lists' counts alone fix": of gap rows
 abbrev pub rowsWanted : List ℕ → ℕ
 rowsWanted list = rowCells * segmentsOf list
 
+-- 01 "What may be asked": the cells wanted for state: of records
 abbrev pub recordsWanted : List ℕ → ℕ
 recordsWanted list = recordCells * contractsOf list
 
--- the gap row of segment i, and the gap rows with another in its place
+-- lent memory: the gap row of segment i
 abbrev pub rowOf : List ℕ → ℕ → List ℕ
 rowOf rows i = take rowCells (drop (rowCells * i) rows)
 
+-- lent memory: the gap rows with another row in the place of segment i's
 abbrev pub withRow : List ℕ → ℕ → List ℕ → List ℕ
 withRow rows i row = take (rowCells * i) rows ++ row ++ drop (rowCells * i + rowCells) rows
 
--- a contract's record of a level: its number, then a cell a row from the market type on: 15 at level 1, and behind them 33 at level 2
+-- lent memory: a contract's record of a level: its number, then a cell a row from the market type on: 15 at level 1, and behind
+-- them 33 at level 2
 abbrev pub recordAt : ℕ → Level → ℕ
 recordAt contract One = recordCells * contract
 recordAt contract Two = recordCells * contract + 15
 
--- every listed segment's gap row is sound
+-- 01, the table's row 18: every listed segment's gap row is sound
 abbrev pub rowsSound : ℕ → List ℕ → Bool
 rowsSound n rows = allBelow n (λ i. soundRow (rowOf rows i))
 
--- 15 for so many cells lent: "Where both are short, 15 names the gap rows and not the records"
+-- 01, the table's row 15 for so many cells lent: "Where both are short, 15 names the gap rows and not the records"
 abbrev pub memoryRules : List ℕ → ℕ → ℕ → List Rule
 memoryRules list rows records =
     record { holds = leb (rowsWanted list) rows; refusal = Memory (rowsWanted list) }

@@ -17,12 +17,12 @@ use Rattle.quotebox.specs.Good.{gapsAfter}
 use Rattle.quotebox.specs.Memory.{stateRules}
 use Rattle.quotebox.specs.Refusals.{Rule, ofFault}
 
--- the rules of message i: 5 to 13
+-- 01, the order of checks: the rules of message i: 5 to 13
 abbrev pub asRules : ℕ → List (RuleOf Fault) → List Rule
 asRules i [] = []
 asRules i (rule ∷ rules) = record { holds = rule .holds; refusal = ofFault (rule .refusal) i } ∷ asRules i rules
 
--- message by message, each in the order 5 to 14; last, bytes left over (4)
+-- 01, the order of checks: message by message, each in the order 5 to 14; last, bytes left over (4)
 abbrev pub messagesRules : ℕ → List ℕ → ℕ → ℕ → Gaps → List ℕ → List Rule
 messagesRules zero list letter i gaps bytes = record { holds = eqb (length bytes) 0; refusal = Count } ∷ []
 messagesRules (suc more) list letter i gaps bytes =
@@ -30,13 +30,13 @@ messagesRules (suc more) list letter i gaps bytes =
     ++ (record { holds = leb (length (gapsAfter gaps bytes .runs)) most; refusal = GapsOver i }
     ∷ messagesRules more list letter (suc i) (gapsAfter gaps bytes) (drop (lengthOf bytes) bytes))
 
--- 16, 15, 18, then the batch's own, then the messages'
+-- 01, the order of checks: 16, 15, 18, then the batch's own, then the messages'
 abbrev pub allRules : List ℕ → List ℕ → List ℕ → List ℕ → List Rule
 allRules list rows records batch =
     (stateRules list rows records ++ batchRules batch)
     ++ messagesRules (countOf batch) list (batchLetter batch) 0 (gapsOf (rowOfLetter list (batchLetter batch) rows)) (dataOf batch)
 
--- the refusal, where there is one
+-- 01, the table of refusals: the refusal, where there is one
 abbrev pub refusalOf : Acted → Option Refusal
 refusalOf (acted box) = none
 refusalOf (refused refusal) = some refusal

@@ -26,54 +26,57 @@ use Rattle.quotebox.specs.Memory.{recordAt}
 use Rattle.quotebox.specs.State.{segmentRules}
 use Rattle.quotebox.specs.Batch.{contractAt}
 
--- "Record: 6, then 13"
+-- 01, the order of checks: "Record: 6, then 13"
 unfoldable pub recordRules : List ℕ → List ℕ → List ℕ → ℕ → List ℕ → List Rule
 recordRules list rows records letter key =
     segmentRules list rows records letter ++ (record { holds = isSome (keyPlace list letter key); refusal = Contract 0 } ∷ [])
 
--- the rows that a record holds: all behind the key
+-- 01 "What may be asked": a record holds its update's number and rows, which are all rows behind the key
 unfoldable pub recordRows : Level → ℕ
 recordRows level = length (rowsOf level) - length keyRows
 
--- where the record of a key stands
+-- lent memory: where the record of a key stands, by the key's place in its segment
 abbrev pub placeAt : List ℕ → ℕ → Level → Option ℕ → ℕ
 placeAt list letter level none = 0
 placeAt list letter level (some place) = recordAt (contractAt list letter place) level
 
+-- lent memory: the same, with the key looked up in the segment of the letter
 unfoldable pub recordOfKey : List ℕ → ℕ → List ℕ → Level → ℕ
 recordOfKey list letter key level = placeAt list letter level (keyPlace list letter key)
 
--- the record's place where no rule is broken, or the first broken rule's refusal
+-- 01, the order of checks: the record's place where no rule is broken, or else the first broken rule's refusal
 abbrev pub Finds : List ℕ → List ℕ → List ℕ → ℕ → List ℕ → Level → Place → Type 0
 Finds list rows records letter key level (At at) =
     (firstBroken (recordRules list rows records letter key) ≡ none) × (at ≡ recordOfKey list letter key level)
     × (at + recordRows level < length records)
 Finds list rows records letter key level (Refused refusal) = firstBroken (recordRules list rows records letter key) ≡ some refusal
 
--- the update's number
+-- lent memory: a record begins with its update's number
 abbrev pub recordNumber : List ℕ → ℕ → ℕ
 recordNumber records at = getD records at 0
 
--- its cells by row, behind the number: those of the key, and any behind the last row, are 0
+-- lent memory: its cells by row, behind the number: those of the key, and any behind the last row, are 0
 unfoldable pub cellsAt : List ℕ → ℕ → Level → List ℕ
 cellsAt records at level = filled (replicate (length keyRows) 0 ++ take (recordRows level) (drop (at + 1) records))
 
--- the quote beside an answer that is no record: every row is none
+-- 01 "What may be asked": the quote beside an answer that is no record; every row is none
 unfoldable pub blank : Quote
 blank = quoteOf Two (replicate 37 noneCell)
 
--- "A contract with no update taken reads as 'no record'": its number is 0
+-- 01 "What may be asked": "A contract with no update taken reads as 'no record'": its number is 0
 abbrev pub recordValues : ℕ → List ℕ
 recordValues number = cond (eqb number 0) (0 ∷ []) (1 ∷ number ∷ [])
 
+-- 01 "What may be asked": the rows of a record, and none where there is no record
 abbrev pub quoteAt : List ℕ → ℕ → Level → Quote
 quoteAt records at level = cond (eqb (recordNumber records at) 0) blank (quoteOf level (cellsAt records at level))
 
+-- 01 "What may be asked": a refused call reads no record
 abbrev pub quoteBeside : Option Refusal → Quote → Quote
 quoteBeside (some refusal) quote = blank
 quoteBeside none quote = quote
 
--- what stands at a record's place, read
+-- 01 "What may be asked": what stands at a record's place, read
 pub record ReadsAt (records : List ℕ) (at : ℕ) (level : Level) (reading : Reading) : Type 0 where
   pub says : readingNumbers reading ≡ 0 ∷ recordValues (recordNumber records at)
   pub shows : reading .quote ≡ quoteAt records at level

@@ -7,7 +7,7 @@ use Rattle.message.specs.declared.head.Fault.the-variants as fault
 use Rattle.quotebox.specs.declared.refusal.Refusal.{Refusal}
 use Rattle.quotebox.specs.declared.refusal.Refusal.the-variants.{Size, Packed, Flag, Count, Frame, Code, Trailer, Length, Checksum, Numbering, Field, Range, Contract, Gaps, Memory, List as ListOf, NoGap, State}
 
--- its number, then message, row and cells wanted, 0 where the table returns none
+-- 01, the table of refusals: a refusal's number, then message, row and cells wanted, 0 where the table returns none
 abbrev pub refusalNumbers : Refusal → List ℕ
 refusalNumbers Size = 1 ∷ 0 ∷ 0 ∷ 0 ∷ []
 refusalNumbers Packed = 2 ∷ 0 ∷ 0 ∷ 0 ∷ []
@@ -28,7 +28,7 @@ refusalNumbers ListOf = 16 ∷ 0 ∷ 0 ∷ 0 ∷ []
 refusalNumbers NoGap = 17 ∷ 0 ∷ 0 ∷ 0 ∷ []
 refusalNumbers State = 18 ∷ 0 ∷ 0 ∷ 0 ∷ []
 
--- the refusal of a message's fault, with the message's place in the batch
+-- 01, the table of refusals: the refusal of a message's fault, with the message's place in the batch
 abbrev pub ofFault : Fault → ℕ → Refusal
 ofFault fault.Frame i = Frame i
 ofFault fault.Code i = Code i

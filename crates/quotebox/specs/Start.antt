@@ -13,33 +13,35 @@ use Rattle.quotebox.specs.declared.refusal.Refusal.the-variants.{Numberi
 use Rattle.quotebox.specs.Refusals.{Rule}
 use Rattle.quotebox.specs.Memory.{rowCells, rowsWanted, recordsWanted, memoryRules}
 
--- "each listed segment, in list order, a start number"; one that is missing counts as 0
+-- 01 "Sequence and gaps": "each listed segment, in list order, a start number"; one that is missing counts as 0
 abbrev pub startOf : List ℕ → ℕ → ℕ
 startOf starts i = getD starts i 0
 
--- "1 or more"
+-- 01 "Sequence and gaps": "1 or more"
 unfoldable pub eachStarts : ℕ → List ℕ → Bool
 eachStarts n starts = allBelow n (λ i. ltb 0 (startOf starts i))
 
--- 16, 10, 15, with so many cells lent
+-- 01, the order of checks at start: 16, 10, 15, with so many cells lent
 unfoldable pub startRules : List ℕ → List ℕ → ℕ → ℕ → List Rule
 startRules list starts rows records =
     record { holds = sound list; refusal = ListOf }
     ∷ record { holds = eachStarts (segmentsOf list) starts; refusal = Numbering 0 }
     ∷ memoryRules list rows records
 
--- a gap row at its start: "highest begins one below it", no runs, and every other cell 0
+-- 01 "Sequence and gaps": a gap row at its start: "highest begins one below it", no runs, and every other cell 0
 abbrev pub startedRow : ℕ → List ℕ
 startedRow number = laid (replicate rowCells 0) (begun number)
 
--- the rows of the first n segments, one behind the other
+-- 01 "Sequence and gaps": a start number for each listed segment, in list order; the rows of the first n segments, one behind
+-- the other
 abbrev pub startedRows : ℕ → List ℕ → List ℕ
 startedRows zero starts = []
 startedRows (suc n) starts = startedRows n starts ++ startedRow (startOf starts n)
 
--- every cell beyond those wanted stays
+-- 01 "What may be asked": no call writes past its answer: every cell beyond those wanted stays
 unfoldable pub rowsStarted : List ℕ → List ℕ → List ℕ → List ℕ
 rowsStarted list starts rows = startedRows (segmentsOf list) starts ++ drop (rowsWanted list) rows
 
+-- 01 "What may be asked": a contract with no update taken has no record; every cell beyond those wanted stays
 unfoldable pub recordsCleared : List ℕ → List ℕ → List ℕ
 recordsCleared list records = replicate (recordsWanted list) 0 ++ drop (recordsWanted list) records

@@ -15,6 +15,7 @@ use Rattle.quotebox.specs.declared.state.Asked.the-variants as asked
 use Rattle.quotebox.specs.Refusals.{Rule}
 use Rattle.quotebox.specs.Memory.{stateRules}
 
+-- 01, the table of refusals: the refusal that a check answers, where there is one
 abbrev pub checkedRefusal : Checked → Option Refusal
 checkedRefusal checked.Good = none
 checkedRefusal (checked.Refused refusal) = some refusal
@@ -24,7 +25,7 @@ unfoldable pub segmentRules : List ℕ → List ℕ → List ℕ → ℕ → Lis
 segmentRules list rows records letter =
     stateRules list rows records ++ (record { holds = isSome (segmentOf list letter); refusal = Code 0 } ∷ [])
 
--- the segment of the letter where no rule is broken, or the first broken rule's refusal
+-- 01, the order of checks: the segment of the letter where no rule is broken, or the first broken rule's refusal
 abbrev pub Asks : List ℕ → List ℕ → List ℕ → ℕ → Asked → Type 0
 Asks list rows records letter (asked.Segment segment) =
     (firstBroken (segmentRules list rows records letter) ≡ none) × (segmentOf list letter ≡ some segment)

@@ -39,34 +39,35 @@ ofTable Heartbeat = true
 ofTable Update = true
 ofTable PassedOver = false
 
--- DH, TH, DN, TN
+-- 01 "The message": the codes of the table are DH, TH, DN, TN
 abbrev pub inTable : Code → Bool
 inTable code = isLetter (code .0) && ofTable (kindOf (code .1))
 
--- "code not in the table (6), 10"; "its message number is 0, as for every call without a batch"
+-- 01, the writer's order of checks: "code not in the table (6), 10"; "its message number is 0, as for every call without a
+-- batch"
 abbrev pub codeRules : Code → ℕ → List Rule
 codeRules code number =
     record { holds = inTable code; refusal = CodeOver 0 }
     ∷ record { holds = takesNumber (kindOf (code .1)) number; refusal = Numbering 0 }
     ∷ []
 
--- the rows that are written: of a heartbeat none, so that its level and quote aren't looked at
+-- 01 "The message": the rows that are written: of a heartbeat none, so that its level and quote aren't looked at
 abbrev pub rowsWritten : Kind → Level → List Row
 rowsWritten Heartbeat level = []
 rowsWritten Update level = rowsOf level
 rowsWritten PassedOver level = []
 
--- the data, and the verdict on its rows
+-- 01 "The message": the data, and the verdict on its rows
 unfoldable pub dataWritten : Kind → Level → List ℕ → Quote → Laid
 dataWritten kind level key quote = writeRows 0 (rowsWritten kind level) key (cellsOf level quote)
 
--- "then 11 and 12 by row": the first bad row's
+-- 01, the writer's order of checks: "then 11 and 12 by row": the first bad row's
 abbrev pub rowsRules : Verdict → List Rule
 rowsRules verdict.Good = []
 rowsRules (verdict.Field row) = record { holds = false; refusal = Field 0 row } ∷ []
 rowsRules (verdict.Range row) = record { holds = false; refusal = Range 0 row } ∷ []
 
--- "then 15": one cell a byte
+-- 01, the writer's order of checks and the table's row 15: "then 15": one cell a byte
 abbrev pub roomRules : ℕ → ℕ → List Rule
 roomRules wanted room = record { holds = leb wanted room; refusal = Memory wanted } ∷ []
 
@@ -74,7 +75,7 @@ roomRules wanted room = record { holds = leb wanted room; refusal = Memory wante
 unfoldable pub lengthWritten : Code → Level → ℕ
 lengthWritten code level = messageLength (rowsWritten (kindOf (code .1)) level)
 
--- "Writer: code not in the table (6), 10, then 11 and 12 by row, then 15"
+-- 01, the order of checks: "Writer: code not in the table (6), 10, then 11 and 12 by row, then 15"
 unfoldable pub writeRules : Code → Level → ℕ → List ℕ → Quote → ℕ → List Rule
 writeRules code level number key quote room =
     codeRules code number ++ rowsRules (dataWritten (kindOf (code .1)) level key quote .verdict) ++ roomRules (lengthWritten code level) room
@@ -91,19 +92,20 @@ sumWritten Heartbeat bytes = zeroSum
 sumWritten Update bytes = checksumOf bytes
 sumWritten PassedOver bytes = checksumOf bytes
 
+-- 01 "The message": end byte 13
 abbrev pub endByte : ℕ
 endByte = 13
 
--- "The length counts the whole message"
+-- 01 "The message": "The length counts the whole message"
 abbrev pub beforeTrailer : Code → ℕ → List ℕ → List ℕ
 beforeTrailer code number bytes = headBytes code (length bytes + bareLength) number ++ bytes
 
--- code, length, number, data, checksum, end byte 13
+-- 01 "The message": code, length, number, data, checksum, end byte 13
 unfoldable pub messageBytes : Code → ℕ → List ℕ → List ℕ
 messageBytes code number bytes =
     beforeTrailer code number bytes ++ (sumWritten (kindOf (code .1)) (beforeTrailer code number bytes) ++ (endByte ∷ []))
 
--- "no call writes past its answer"
+-- 01 "What may be asked": "no call writes past its answer"
 unfoldable pub messagePut : Code → ℕ → List ℕ → List ℕ → List ℕ
 messagePut code number bytes out = messageBytes code number bytes ++ drop (length bytes + bareLength) out
 

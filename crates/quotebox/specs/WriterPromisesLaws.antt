@@ -6,7 +6,6 @@ use mathlib.Core.Logic.{_↔_}
 use mathlib.Core.List.{List, [], _∷_, _++_}
 use mathlib.Core.Option.{Option, none, some}
 use borrow.Author.Tests.{leb-true, le-leb}
-use lib.Dec.{leb}
 use lib.ListN.{length, take, drop}
 use lib.Seq.{take-at, drop-at}
 use Rattle.laws.specs.Rules.{firstBroken}
@@ -19,7 +18,6 @@ use Rattle.message.specs.Codes.{kindOf, bareLength}
 use Rattle.message.specs.Head.{takesNumber}
 use Rattle.quotebox.specs.declared.answers.Written.{Written}
 use Rattle.quotebox.specs.declared.refusal.Refusal.{Refusal}
-use Rattle.quotebox.specs.declared.refusal.Refusal.the-variants.{Code as CodeOver, Numbering, Memory}
 use Rattle.quotebox.specs.declared.writing.Code.{Code}
 use Rattle.quotebox.specs.AnswersLaws.{written-told, refused-by, accepted-by}
 use Rattle.quotebox.specs.Calls.{leftBy}

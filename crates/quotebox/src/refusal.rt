@@ -28,7 +28,7 @@ pub enum Refusal {
 }
 
 // What is wrong with message i.
-pub fn of_fault(fault: Fault, i: usize) -> Refusal
+pub(crate) fn of_fault(fault: Fault, i: usize) -> Refusal
     ensures { λ r. ⌜ r ≡ ofFault fault i ⌝ }
 {
     match fault {

@@ -20,8 +20,8 @@ use message::Kind;
 // Any two bytes.
 pub struct Code(pub u8, pub u8);
 
-// The data of an update of level 2, the longest.
-const MOST_DATA: usize = 494;
+// The sum of the data widths at level 2, the longest.
+const LEVEL_TWO_DATA: usize = 494;
 
 // The bytes before the data, and all that a message has beside its data.
 const HEAD: usize = 8;
@@ -162,7 +162,7 @@ pub fn write_message(
         Checked::Refused(refusal) => Written::Refused(refusal),
         Checked::Good => {
             let kind = message::kind_of(code.1);
-            let mut data = [0u8; MOST_DATA];
+            let mut data = [0u8; LEVEL_TWO_DATA];
             match lay_rows(kind, level, key, quote, &mut data) {
                 Checked::Refused(refusal) => Written::Refused(refusal),
                 Checked::Good => put_message(code, number, &data, data_long(kind, level), out),

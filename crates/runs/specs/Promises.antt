@@ -16,31 +16,37 @@ use Rattle.quotebox.specs.CallPromises.{StartedBox, ListedRuns, WroteOffRun, Re
 use Rattle.runs.specs.declared.run.Run.{Run}
 use Rattle.runs.specs.Rows.{flat, inRuns}
 
+-- 01 "What may be asked": start
 pub record StartedRuns (list starts : List ℕ) (rows : List Run) (records : List ℕ) (answer : Started) (rows′ : List Run) (records′ : List ℕ) : Type 0 where
   pub core : Started
   pub started : StartedBox list starts (flat rows) records core (flat rows′) records′
   pub answers : startedNumbers answer ≡ inRuns list (length rows) (startedNumbers core)
 
+-- 01 "What may be asked": judge a batch without change
 pub record JudgedRuns (list : List ℕ) (rows : List Run) (records batch : List ℕ) (answer : Judged) : Type 0 where
   pub core : Judged
   pub judged : JudgedBatch list (flat rows) records batch core
   pub answers : judgedNumbers answer ≡ inRuns list (length rows) (judgedNumbers core)
 
+-- 01 "What may be asked": take a batch
 pub record TookRuns (list : List ℕ) (rows : List Run) (records batch : List ℕ) (answer : Judged) (rows′ : List Run) (records′ : List ℕ) : Type 0 where
   pub core : Judged
   pub took : TookBatch list (flat rows) records batch core (flat rows′) records′
   pub answers : judgedNumbers answer ≡ inRuns list (length rows) (judgedNumbers core)
 
+-- 01 "What may be asked": list gaps; its runs stand in lent cells, two a run
 pub record ListedGaps (list : List ℕ) (rows : List Run) (records : List ℕ) (letter : ℕ) (cells : List ℕ) (answer : Listed) (cells′ : List ℕ) : Type 0 where
   pub core : Listed
   pub listed : ListedRuns list (flat rows) records letter cells core cells′
   pub answers : listedNumbers answer ≡ inRuns list (length rows) (listedNumbers core)
 
+-- 01 "What may be asked": write off the lowest run
 pub record WroteOffRuns (list : List ℕ) (rows : List Run) (records : List ℕ) (letter : ℕ) (answer : WrittenOff) (rows′ : List Run) : Type 0 where
   pub core : WrittenOff
   pub wrote-off : WroteOffRun list (flat rows) records letter core (flat rows′)
   pub answers : writtenOffNumbers answer ≡ inRuns list (length rows) (writtenOffNumbers core)
 
+-- 01 "What may be asked": read a record
 pub record ReadRuns (list : List ℕ) (rows : List Run) (records : List ℕ) (letter : ℕ) (key : List ℕ) (level : Level) (reading : Reading) : Type 0 where
   pub core : Reading
   pub read : ReadRecord list (flat rows) records letter key level core

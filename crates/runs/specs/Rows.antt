@@ -28,14 +28,15 @@ over [] rows = rows
 over (run ∷ runs) [] = []
 over (run ∷ runs) (row ∷ rows) = run ∷ over runs rows
 
--- the runs of a gap row, and those that a call wants for a list's segments
+-- lent memory: the runs of a gap row
 abbrev pub rowRuns : ℕ
 rowRuns = 66
 
+-- 01, the table's row 15: the runs that a call wants for a list's segments
 abbrev pub runsWanted : List ℕ → ℕ
 runsWanted list = rowRuns * segmentsOf list
 
--- an answer's numbers where so many runs are lent: 15 for gap rows names the runs wanted
+-- 01, the table's row 15: an answer's numbers where so many runs are lent; 15 for gap rows names the runs wanted
 unfoldable pub inRuns : List ℕ → ℕ → List ℕ → List ℕ
 inRuns list lent numbers =
     cond (eqb (getD numbers 0 0) 15 && ltb lent (runsWanted list)) (refusalNumbers (Memory (runsWanted list))) numbers

@@ -1,5 +1,4 @@
 // The calls over numbers, on an array of runs of which so many are lent.
-ghost use mathlib.Core.Path.{_≡_};
 ghost use Prim.Native.Nat.{_≤_};
 ghost use lib.ListN.{length, take};
 ghost use Rattle.quotebox.specs.Promises.{JudgedBatch, TookBatch};

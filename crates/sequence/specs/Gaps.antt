@@ -6,36 +6,38 @@ use lib.Dec.{leb, ltb}
 use lib.ListN.{length}
 use Rattle.sequence.specs.Runs.{Run, missing, span, join, without}
 
--- the start number, the highest number taken, and the runs of missing numbers
+-- 01 "Sequence and gaps": the start number, the highest number taken, and the runs of missing numbers
 pub record Gaps : Type 0 where
   pub start : ℕ
   pub highest : ℕ
   pub runs : List Run
 
--- "at most 64 a segment"
+-- 01 "Sequence and gaps": "at most 64 a segment"
 abbrev pub most : ℕ
 most = 64
 
--- "highest begins one below it"
+-- 01 "Sequence and gaps": "highest begins one below it"
 abbrev pub begun : ℕ → Gaps
 begun n = record { start = n; highest = n - 1; runs = [] }
 
--- "A number above highest, or missing, is taken. All others are old"
+-- 01 "Sequence and gaps": "A number above highest, or missing, is taken. All others are old"
 abbrev pub takes : Gaps → ℕ → Bool
 takes g k = ltb (g .highest) k || missing (g .runs) k
 
--- the runs when a number is taken: above highest it leaves the numbers between missing, else it is missing no more
+-- 01 "Sequence and gaps": the runs when a number is taken: above highest it leaves the numbers between missing, else it is
+-- missing no more
 abbrev pub runsAfter : Gaps → ℕ → List Run
 runsAfter g k = cond (ltb (g .highest) k) (join (g .runs) (span (g .highest + 1) k)) (without (g .runs) k)
 
+-- 01 "Sequence and gaps": the gaps when a number is taken; highest is the highest number taken
 abbrev pub after : Gaps → ℕ → Gaps
 after g k = record { start = g .start; highest = max (g .highest) k; runs = runsAfter g k }
 
--- 14: more than 64 runs would stand
+-- 01, the table's row 14: more than 64 runs would stand
 abbrev pub full : Gaps → ℕ → Bool
 full g k = ltb most (length (runsAfter g k))
 
--- the gaps when a number has come: one that is old, or refused, leaves them as they are
+-- 01 "Sequence and gaps": the gaps when a number has come: one that is old, or refused, leaves them as they are
 unfoldable pub took : Gaps → ℕ → Gaps
 took g k = cond (takes g k) (cond (full g k) g (after g k)) g
 
@@ -43,52 +45,62 @@ took g k = cond (takes g k) (cond (full g k) g (after g k)) g
 abbrev pub withRuns : Gaps → List Run → Gaps
 withRuns g rs = record { start = g .start; highest = g .highest; runs = rs }
 
--- "A write-off removes the lowest run"
+-- 01 "Sequence and gaps": "A write-off removes the lowest run"
 abbrev pub withoutLowest : List Run → List Run
 withoutLowest [] = []
 withoutLowest (r ∷ rs) = rs
 
+-- 01 "Sequence and gaps": the gaps without their lowest run
 abbrev pub wroteOff : Gaps → Gaps
 wroteOff g = withRuns g (withoutLowest (g .runs))
 
 -- An answer as numbers: 0 and the values of an accepted call, or a refusal's number and values.
 
--- "how many messages were taken" and "old"
+-- 01 "What may be asked": one message taken, none old
 abbrev pub oneTaken : List ℕ
 oneTaken = 0 ∷ 1 ∷ 0 ∷ []
 
+-- 01 "What may be asked": none taken, one old
 abbrev pub oneOld : List ℕ
 oneOld = 0 ∷ 0 ∷ 1 ∷ []
 
+-- 01, the table's row 14
 abbrev pub refusedGaps : List ℕ
 refusedGaps = 14 ∷ []
 
+-- 01 "Sequence and gaps": a number that is taken, unless too many runs would stand; all others are old
 unfoldable pub takeAnswer : Gaps → ℕ → List ℕ
 takeAnswer g k = cond (takes g k) (cond (full g k) refusedGaps oneTaken) oneOld
 
--- "a write-off answers the run it removed"
+-- 01 "What may be asked": "a write-off answers the run it removed"
 abbrev pub writtenOff : ℕ → ℕ → List ℕ
 writtenOff first last = 0 ∷ first ∷ last ∷ []
 
+-- 01, the table's row 17
 abbrev pub refusedNoGap : List ℕ
 refusedNoGap = 17 ∷ []
 
+-- 01 "Sequence and gaps": a write-off removes the lowest run; 17 where there is none
 abbrev pub lowest : List Run → List ℕ
 lowest [] = refusedNoGap
 lowest (r ∷ rs) = writtenOff (r .first) (r .last)
 
+-- 01 "What may be asked": the answer of a write-off
 unfoldable pub writeOffAnswer : Gaps → List ℕ
 writeOffAnswer g = lowest (g .runs)
 
--- "List gaps answers highest and the number of runs"; it wants two cells a run
+-- 01 "What may be asked": "List gaps answers highest and the number of runs"
 abbrev pub listed : ℕ → ℕ → List ℕ
 listed highest count = 0 ∷ highest ∷ count ∷ []
 
+-- 01, the table's row 15, with the cells wanted
 abbrev pub refusedMemory : ℕ → List ℕ
 refusedMemory wanted = 15 ∷ wanted ∷ []
 
+-- 01 "What may be asked": two cells a run answered
 abbrev pub wanted : List Run → ℕ
 wanted rs = 2 * length rs
 
+-- 01 "What may be asked": lent cells are too few exactly when under the number wanted
 unfoldable pub listAnswer : Gaps → ℕ → List ℕ
 listAnswer g lent = cond (leb (wanted (g .runs)) lent) (listed (g .highest) (length (g .runs))) (refusedMemory (wanted (g .runs)))

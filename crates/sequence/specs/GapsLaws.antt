@@ -213,9 +213,6 @@ module _ (g : Gaps) (k : ℕ) where
   full-exactly = ((λ e. let t = rw e at told-takes in (t, rw e at (told-full t))), λ w. took-full (w .0) (w .1) .0)
 
 -- "Numbers don't wrap: after 4,294,967,295 only missing ones are taken"
-pub after-fits : (g : Gaps) (k : ℕ) → g .highest < 2 ^ 32 → k < 2 ^ 32 → after g k .highest < 2 ^ 32
-after-fits g k h l = omega arith
-
 pub no-wrap : (g : Gaps) (k : ℕ) → g .highest ≡ 4294967295 → k < 2 ^ 32 → takes g k ≡ missing (g .runs) k
 no-wrap g k h l = simp (le-ltb (g .highest) k (omega arith))
 

@@ -10,21 +10,21 @@ use Rattle.sequence.specs.declared.Taken.{Taken}
 use Rattle.sequence.specs.declared.WriteOff.{WriteOff}
 use Rattle.sequence.specs.declared.Listed.{Listed}
 
--- a segment's start in a row that is cleared
+-- 01 "Sequence and gaps": a segment's start, in a row that is cleared
 pub record Began (number : ℕ) (row′ : List ℕ) : Type 0 where
   pub left : row′ ≡ laid (replicate cells 0) (begun number)
 
--- a number has come
+-- 01 "Sequence and gaps": a number has come; it is taken, old, or would leave too many runs
 pub record Took (row : List ℕ) (number : ℕ) (answer : Taken) (row′ : List ℕ) : Type 0 where
   pub says : takenNumbers answer ≡ takeAnswer (gapsOf row) number
   pub left : row′ ≡ laid row (took (gapsOf row) number)
 
--- the lowest run is written off
+-- 01 "Sequence and gaps": the lowest run is written off
 pub record WroteOff (row : List ℕ) (answer : WriteOff) (row′ : List ℕ) : Type 0 where
   pub says : writeOffNumbers answer ≡ writeOffAnswer (gapsOf row)
   pub left : row′ ≡ laid row (wroteOff (gapsOf row))
 
--- the gaps are listed in lent cells
+-- 01 "What may be asked": the gaps are listed in lent cells
 pub record ListedGaps (row lent : List ℕ) (answer : Listed) (lent′ : List ℕ) : Type 0 where
   pub says : listedNumbers answer ≡ listAnswer (gapsOf row) (length lent)
   pub left : lent′ ≡ filled lent (gapsOf row)

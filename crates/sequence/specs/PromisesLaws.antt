@@ -1,29 +1,17 @@
--- What a promise settles: the gaps of the row afterwards, that a sound row stays sound, and that two outcomes of one call are
--- the same.
+-- What a promise settles: that a sound row stays sound, and that two outcomes of one call are the same.
 use Prim.Native.Nat.{ℕ, _<_}
 use mathlib.Core.Path.{_≡_, refl, sym, _∙_}
 use mathlib.Core.Bool.{true}
 use mathlib.Core.List.{List}
-use Rattle.sequence.specs.Gaps.{begun, took, wroteOff}
+use Rattle.sequence.specs.Gaps.{begun}
 use Rattle.sequence.specs.GapsLaws.{begun-sound, took-sound, wroteOff-sound}
 use Rattle.sequence.specs.Row.{gapsOf, soundRow}
-use Rattle.sequence.specs.RowLaws.{laid-gaps, laid-sound, sound-row-exactly}
+use Rattle.sequence.specs.RowLaws.{laid-sound, sound-row-exactly}
 use Rattle.sequence.specs.AnswersLaws.{taken-told, writeOff-told, listed-told}
 use Rattle.sequence.specs.Promises.{Began, Took, WroteOff, ListedGaps}
 use Rattle.sequence.specs.declared.Taken.{Taken}
 use Rattle.sequence.specs.declared.WriteOff.{WriteOff}
 use Rattle.sequence.specs.declared.Listed.{Listed}
-
--- ---- the gaps of the row afterwards
-
-pub began-gaps : {number : ℕ} {row′ : List ℕ} → Began number row′ → gapsOf row′ ≡ begun number
-began-gaps b = rw (b .left) (laid-gaps _ _)
-
-pub took-gaps : {row row′ : List ℕ} {number : ℕ} {answer : Taken} → Took row number answer row′ → gapsOf row′ ≡ took (gapsOf row) number
-took-gaps t = rw (t .left) (laid-gaps _ _)
-
-pub wroteOff-gaps : {row row′ : List ℕ} {answer : WriteOff} → WroteOff row answer row′ → gapsOf row′ ≡ wroteOff (gapsOf row)
-wroteOff-gaps w = rw (w .left) (laid-gaps _ _)
 
 -- ---- sound rows stay sound
 

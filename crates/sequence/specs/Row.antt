@@ -8,46 +8,51 @@ use Rattle.sequence.specs.Runs.{Run, _to_}
 use Rattle.sequence.specs.Gaps.{Gaps, most, wanted}
 use Rattle.sequence.specs.Sound.{soundGaps}
 
+-- lent memory: the numbers of a gap row
 abbrev pub cells : ℕ
 cells = 132
 
--- the numbers before the runs
+-- lent memory: the numbers before the runs
 abbrev pub head : ℕ
 head = 4
 
--- the place of a run's first number
+-- lent memory: the place of a run's first number
 abbrev pub cell : ℕ → ℕ
 cell i = head + 2 * i
 
--- numbers two by two, as runs, and runs as numbers
+-- lent memory: numbers two by two, as runs
 abbrev pub pairs : List ℕ → List Run
 pairs [] = []
 pairs (a ∷ []) = []
 pairs (a ∷ b ∷ ns) = a to b ∷ pairs ns
 
+-- lent memory: runs as numbers, a first and a last each
 abbrev pub flat : List Run → List ℕ
 flat [] = []
 flat (r ∷ rs) = r .first ∷ r .last ∷ flat rs
 
--- what a row says: of its 64 runs so many stand as the third number tells
+-- lent memory: the third number tells how many runs stand
 abbrev pub count : List ℕ → ℕ
 count row = getD row 2 0
 
+-- lent memory: what a row says; of its 64 runs so many stand as it counts
 unfoldable pub gapsOf : List ℕ → Gaps
 gapsOf row = record { start = getD row 0 0; highest = getD row 1 0; runs = take (count row) (pairs (drop head row)) }
 
+-- lent memory: the runs that stand in a row
 abbrev pub runsOf : List ℕ → List Run
 runsOf row = gapsOf row .runs
 
--- gaps put into a row: every number beyond the last run, and the fourth, stays as it was
+-- lent memory: gaps put into a row: every number beyond the last run, and the fourth, stays as it was
 unfoldable pub laid : List ℕ → Gaps → List ℕ
 laid row g =
     g .start ∷ g .highest ∷ length (g .runs) ∷ getD row 3 0 ∷ (flat (g .runs) ++ drop (cell (length (g .runs))) row)
 
--- "puts the runs in lent cells": they are written from the first cell on where there is room, and no others
+-- 01 "What may be asked": "puts the runs in lent cells": they are written from the first cell on where there is room, and no
+-- others
 unfoldable pub filled : List ℕ → Gaps → List ℕ
 filled lent g = cond (leb (wanted (g .runs)) (length lent)) (flat (g .runs) ++ drop (wanted (g .runs)) lent) lent
 
--- 18: a row of 132 numbers with at most 64 runs whose gaps are sound
+-- 01, the table's row 18: a row of 132 numbers with at most 64 runs whose gaps are sound
 unfoldable pub soundRow : List ℕ → Bool
 soundRow row = eqb (length row) cells && leb (count row) most && soundGaps (gapsOf row)

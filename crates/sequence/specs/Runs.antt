@@ -6,11 +6,12 @@ use lib.Dec.{leb, ltb, eqb}
 use lib.ListN.{getD}
 
 infix 68 _to_
--- "runs, each a first and a last number"
+-- 01 "Sequence and gaps": "runs, each a first and a last number"
 pub record Run : Type 0 where
   pub first : ℕ
   pub last : ℕ
 
+-- a run by its first and its last number
 abbrev pub _to_ : ℕ → ℕ → Run
 a to b = record { first = a; last = b }
 
@@ -18,16 +19,17 @@ a to b = record { first = a; last = b }
 abbrev pub run : List Run → ℕ → Run
 run rs i = getD rs i (0 to 0)
 
--- a run names the numbers from its first to its last
+-- 01 "Sequence and gaps": a run names the numbers from its first to its last
 abbrev pub names : Run → ℕ → Bool
 names r k = leb (r .first) k && leb k (r .last)
 
--- a number is missing where a run names it
+-- 01 "Sequence and gaps": a number is missing where a run names it
 abbrev pub missing : List Run → ℕ → Bool
 missing [] k = false
 missing (r ∷ rs) k = names r k || missing rs k
 
--- how many runs a set of numbers makes: as many as it has numbers, below a bound, whose next is not in it
+-- 01 "Sequence and gaps": how many runs a set of numbers makes: as many as it has numbers, below a bound, whose next is not in
+-- it
 abbrev pub runsIn : (ℕ → Bool) → ℕ → ℕ
 runsIn held zero = 0
 runsIn held (suc n) = cond (held n && not (held (suc n))) 1 0 + runsIn held n
@@ -41,7 +43,7 @@ abbrev pub meet : Run → List Run → List Run
 meet r [] = r ∷ []
 meet r (s ∷ rs) = cond (eqb (r .last + 1) (s .first)) (r .first to s .last ∷ rs) (r ∷ s ∷ rs)
 
--- runs before others, "with no two runs touching"
+-- 01 "Sequence and gaps": runs before others, "with no two runs touching"
 abbrev pub join : List Run → List Run → List Run
 join [] later = later
 join (r ∷ rs) later = meet r (join rs later)
@@ -50,7 +52,7 @@ join (r ∷ rs) later = meet r (join rs later)
 abbrev pub parted : Run → ℕ → List Run
 parted r k = span (r .first) k ++ span (k + 1) (r .last + 1)
 
--- runs without a number: the run that names it is parted by it
+-- 01 "Sequence and gaps": runs without a number: the run that names it is parted by it
 abbrev pub without : List Run → ℕ → List Run
 without [] k = []
 without (r ∷ rs) k = cond (names r k) (parted r k ++ rs) (r ∷ without rs k)

@@ -7,8 +7,8 @@ use lib.ListN.{length}
 use Rattle.sequence.specs.Runs.{Run, run}
 use Rattle.sequence.specs.Gaps.{Gaps, most}
 
--- 18 is given where one of these fails: start not 0, highest not under start - 1, not over 64 runs, no run's first above its
--- last, runs ascending and not touching, and inside start to highest
+-- 01, the table's row 18, given where one of these fails: start not 0, highest not under start - 1, not over 64 runs, no run's
+-- first above its last, runs ascending and not touching, and inside start to highest
 pub record Sound (g : Gaps) : Type 0 where
   pub started : 0 < g .start
   pub reached : g .start - 1 ≤ g .highest
@@ -17,12 +17,14 @@ pub record Sound (g : Gaps) : Type 0 where
   pub ascending : (i : ℕ) → suc i < length (g .runs) → run (g .runs) i .last + 1 < run (g .runs) (suc i) .first
   pub inside : (i : ℕ) → i < length (g .runs) → (g .start ≤ run (g .runs) i .first) × (run (g .runs) i .last ≤ g .highest)
 
--- the same as a test, which goes through the runs once: each may begin from a number on, two above the last before it
+-- 01, the table's row 18, its runs as a test, which goes through them once: each may begin from a number on, two above the last
+-- before it
 abbrev pub soundRuns : ℕ → List Run → ℕ → Bool
 soundRuns from [] highest = true
 soundRuns from (r ∷ rs) highest =
     leb from (r .first) && leb (r .first) (r .last) && leb (r .last) highest && soundRuns (r .last + 2) rs highest
 
+-- 01, the table's row 18, as a test
 abbrev pub soundGaps : Gaps → Bool
 soundGaps g =
     ltb 0 (g .start) && leb (g .start - 1) (g .highest) && leb (length (g .runs)) most

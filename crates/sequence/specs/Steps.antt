@@ -15,10 +15,11 @@ use Rattle.sequence.specs.declared.late.Place.the-variants.{At, Nowhere}
 abbrev pub moved : List ℕ → ℕ → ℕ → ℕ → List ℕ
 moved row from at n = paste row at (drop from row) n
 
--- other runs instead of one, in a list and in a row
+-- other runs instead of one, in a list
 abbrev pub instead : List Run → ℕ → List Run → List Run
 instead rs i others = take i rs ++ (others ++ drop (suc i) rs)
 
+-- other runs instead of one, in a row
 abbrev pub replaced : List ℕ → ℕ → List Run → List ℕ
 replaced row i others = laid row (withRuns (gapsOf row) (instead (runsOf row) i others))
 

@@ -16,12 +16,12 @@ bitStep acc bit =
     let doubled : ℕ = (acc + acc) % 2 ^ 16 in
     cond (eqb (acc / 2 ^ 15) bit) doubled (bitXor doubled poly)
 
--- the lowest k bits of a byte, the highest of them first
+-- 01 "The checksum": the lowest k bits of a byte, the highest of them first
 abbrev pub bits : ℕ → ℕ → List ℕ
 bits zero byte = []
 bits (suc k) byte = byte / 2 ^ k % 2 ∷ bits k byte
 
--- the accumulator after each of these bits in turn
+-- 01 "The checksum": the accumulator after each of these bits in turn
 abbrev pub bitSteps : ℕ → List ℕ → ℕ
 bitSteps acc [] = acc
 bitSteps acc (b ∷ bs) = bitSteps (bitStep acc b) bs
@@ -30,6 +30,7 @@ bitSteps acc (b ∷ bs) = bitSteps (bitStep acc b) bs
 unfoldable pub byteStep : ℕ → ℕ → ℕ
 byteStep acc byte = bitSteps acc (bits 8 byte)
 
+-- 01 "The checksum": the accumulator after these bytes
 abbrev pub sumFrom : ℕ → List ℕ → ℕ
 sumFrom acc [] = acc
 sumFrom acc (b ∷ bs) = sumFrom (byteStep acc b) bs
@@ -46,6 +47,6 @@ lowered byte = cond (eqb byte 10 || eqb byte 13 || eqb byte 17 || eqb byte 19) (
 abbrev pub sentOf : ℕ → List ℕ
 sentOf sum = lowered (sum % 256) ∷ lowered (sum / 256) ∷ []
 
--- the two bytes of a text's checksum as sent
+-- 01 "The checksum": the two bytes of a text's checksum as sent
 abbrev pub checksumOf : List ℕ → List ℕ
 checksumOf text = sentOf (sumOf text)

@@ -1,7 +1,7 @@
 -- The runs lie in the cells that were lent.
 use borrow.Author.Needs.{needs}
 use native.Mathlib.Omega.{arith}
-use lib.ListN.{length, length-take}
+use lib.ListN.{length-take}
 use Rattle.gaps.proofs.Fits.{gaps-fit}
 use Rattle.gaps.proofs.report.put_listed.Statement.{statement}
 use Rattle.gaps.proofs.report.put_listed.Tie as tie

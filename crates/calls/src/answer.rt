@@ -141,6 +141,36 @@ fn batch_in(bytes: &[u8]) -> &[u8] {
     &bytes[command::LENGTH_FRONT..]
 }
 
+fn judge(
+    bytes: &[u8],
+    list: &[u8],
+    rows: &[u32],
+    records: &[u64],
+    page: &mut [u8],
+    used: usize,
+) -> usize
+    requires { ⌜ used ≤ length (now page) ⌝ }
+    ensures { λ r. ⌜ r ≤ length (now (page .entry)) ⌝ }
+{
+    let judged = quotebox::judge(list, rows, records, batch_in(bytes));
+    put_judged(page, used, b"judge", judged)
+}
+
+fn take(
+    bytes: &[u8],
+    list: &[u8],
+    rows: &mut [u32],
+    records: &mut [u64],
+    page: &mut [u8],
+    used: usize,
+) -> usize
+    requires { ⌜ used ≤ length (now page) ⌝ }
+    ensures { λ r. ⌜ r ≤ length (now (page .entry)) ⌝ }
+{
+    let judged = quotebox::take(list, rows, records, batch_in(bytes));
+    put_judged(page, used, b"take", judged)
+}
+
 pub fn answer(
     bytes: &[u8],
     list: &[u8],
@@ -162,14 +192,8 @@ pub fn answer(
             page,
             used,
         ),
-        b'J' => {
-            let judged = quotebox::judge(list, rows, records, batch_in(bytes));
-            put_judged(page, used, b"judge", judged)
-        }
-        b'K' => {
-            let judged = quotebox::take(list, rows, records, batch_in(bytes));
-            put_judged(page, used, b"take", judged)
-        }
+        b'J' => judge(bytes, list, rows, records, page, used),
+        b'K' => take(bytes, list, rows, records, page, used),
         b'G' => gaps(
             bytes,
             list,

@@ -1,4 +1,4 @@
-// The library that hosts link, called directly: the answers of `calls`' histories, and besides them the live cells of the gap rows and which records change.
+// The library that hosts link, called directly: the answers of `calls`' histories, and besides them the live cells of the gap rows and every record.
 //   host [--seed N] [--times N]
 mod asks;
 mod feed;
@@ -12,7 +12,7 @@ use asks::{Ask, Bench};
 use history::{History, Seen};
 use library::{Answer, Values};
 use program::{Held, Options};
-use reference::{GAP_ROW, LEVEL1_CELLS, NONE, RECORD};
+use reference::{GAP_ROW, NONE};
 
 const UNTOUCHED: u64 = 0x5AFE_5AFE_5AFE_5AFE;
 
@@ -88,9 +88,9 @@ impl Linked {
         })
     }
 
-    // What a call may change: nothing when it is refused or only asks; else the gap rows' live cells as the reference does, and
-    // the records that the reference changes.
-    fn answer(&mut self, ask: &Ask, before: &Bench, after: &Bench) -> Option<String> {
+    // What a call may change: nothing when it is refused or only asks; else the gap rows' live cells and the records, as the
+    // reference does.
+    fn answer(&mut self, ask: &Ask, after: &Bench) -> Option<String> {
         if let Ask::Lend { .. } | Ask::List(_) | Ask::Poke { .. } = ask {
             return self.bench.answer(ask);
         }
@@ -106,13 +106,7 @@ impl Linked {
             let live = feed::live_cells(right);
             self.mind(row[..live] == right[..live], "a gap row unlike the reference's");
         }
-        for contract in 0..records.len() / RECORD {
-            let (at, end) = (RECORD * contract, RECORD * (contract + 1));
-            for cells in [at..at + LEVEL1_CELLS, at + LEVEL1_CELLS..end] {
-                let changed = self.bench.records[cells.clone()] != records[cells.clone()];
-                self.mind(changed == (after.records[cells.clone()] != before.records[cells]), "a record changed otherwise than the reference's");
-            }
-        }
+        self.mind(self.bench.records == after.records, "records unlike the reference's");
         Some(line)
     }
 }
@@ -129,9 +123,8 @@ fn main() {
         let mut by_reference = Bench::new(h.contracts.as_deref());
         let mut linked = Linked { bench: by_reference.clone(), trespass: vec![] };
         for (command, ask) in h.asked.iter().enumerate() {
-            let before = by_reference.clone();
             let right = by_reference.answer(ask);
-            let got = linked.answer(ask, &before, &by_reference);
+            let got = linked.answer(ask, &by_reference);
             let trespass = std::mem::take(&mut linked.trespass);
             if got.is_some() || !trespass.is_empty() {
                 calls += 1;

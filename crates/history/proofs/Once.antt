@@ -1,4 +1,4 @@
--- Against the contracts that the check makes of the source of `quotebox`: what each public call answers, and every cell lent to it to be written, follows from what it is handed.
+-- Against the contracts that the check makes of the source of `quotebox`: each public call takes any input; and what it answers, and every cell lent to it to be written, follows from what it is handed.
 use mathlib.Core.Path.{_≡_}
 use contract.Lifetimes.{Lfts}
 use denote.Ref.{now}
@@ -12,6 +12,12 @@ use Rattle.quotebox.proofs.list_gaps.Reads as list-gaps
 use Rattle.quotebox.proofs.write_off.Reads as write-off
 use Rattle.quotebox.proofs.read_record.Reads as read-record
 use Rattle.quotebox.proofs.write_message.Reads as write-message
+
+-- no contract asks anything of what is handed
+any-input : ((κs : Lfts 4) (a : _) → start.Pre κs a) × ((κs : Lfts 4) (a : _) → judge.Pre κs a) × ((κs : Lfts 4) (a : _) → take.Pre κs a)
+    × ((κs : Lfts 4) (a : _) → list-gaps.Pre κs a) × ((κs : Lfts 3) (a : _) → write-off.Pre κs a)
+    × ((κs : Lfts 4) (a : _) → read-record.Pre κs a) × ((κs : Lfts 2) (a : _) → write-message.Pre κs a)
+any-input = ((λ κs a. tt), (λ κs a. tt), (λ κs a. tt), (λ κs a. tt), (λ κs a. tt), (λ κs a. tt), (λ κs a. tt))
 
 start-outcome : (κs : Lfts 4) (a : _) (r s : _) (x y : _) → start.Post κs a r x → start.Post κs a s y
     → (r ≡ s) × (now (x .1 .1 .0) ≡ now (y .1 .1 .0)) × (now (x .1 .1 .1 .0) ≡ now (y .1 .1 .1 .0))

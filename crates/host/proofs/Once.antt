@@ -1,4 +1,4 @@
--- Against the contracts that the check makes of the source: what each function returns, answers and leaves follows from what it is handed.
+-- Against the contracts that the check makes of the source: each function takes any input, and what it returns, answers and leaves follows from what it is handed.
 use mathlib.Core.Path.{_≡_}
 use contract.Lifetimes.{Lfts}
 use denote.Ref.{now}
@@ -12,6 +12,13 @@ use Rattle.host.proofs.calls.quotebox_read_level1.Reads as read-level1
 use Rattle.host.proofs.calls.quotebox_read_level2.Reads as read-level2
 use Rattle.host.proofs.calls.quotebox_write_level1.Reads as write-level1
 use Rattle.host.proofs.calls.quotebox_write_level2.Reads as write-level2
+
+-- no contract asks anything of what is handed
+any-input : ((κs : Lfts 5) (a : _) → start.Pre κs a) × ((κs : Lfts 5) (a : _) → judge.Pre κs a) × ((κs : Lfts 5) (a : _) → take.Pre κs a)
+    × ((κs : Lfts 5) (a : _) → list-gaps.Pre κs a) × ((κs : Lfts 4) (a : _) → write-off.Pre κs a) × ((κs : Lfts 6) (a : _) → read-level1.Pre κs a)
+    × ((κs : Lfts 6) (a : _) → read-level2.Pre κs a) × ((κs : Lfts 5) (a : _) → write-level1.Pre κs a) × ((κs : Lfts 5) (a : _) → write-level2.Pre κs a)
+any-input =
+    ((λ κs a. tt), (λ κs a. tt), (λ κs a. tt), (λ κs a. tt), (λ κs a. tt), (λ κs a. tt), (λ κs a. tt), (λ κs a. tt), (λ κs a. tt))
 
 start-outcome : (κs : Lfts 5) (a : _) (r s : _) (x y : _) → start.Post κs a r x → start.Post κs a s y
     → ((r ≡ s) × (now (x .1 .1 .1 .1 .0) ≡ now (y .1 .1 .1 .1 .0))) × (now (x .1 .1 .0) ≡ now (y .1 .1 .0)) × (now (x .1 .1 .1 .0) ≡ now (y .1 .1 .1 .0))

@@ -191,7 +191,7 @@ module _ (n : ℕ) where
 -- ---- a contract, piece by piece
 
 module _ {M : Type 1} {𝓤 : URA M} where
-  abbrev pub tokens : (n : ℕ) → Lfts n → Shares n → List (Item 𝓤)
+  abbrev tokens : (n : ℕ) → Lfts n → Shares n → List (Item 𝓤)
   tokens zero κs qs = []
   tokens (suc n) κs qs = ‵ (flft (κs .0) (qs .0)) ∷ tokens n (κs .1) (qs .1)
 
@@ -211,7 +211,7 @@ module _ {M : Type 1} (𝓤 : URA M) (H : Heap 𝓤) (A : Atoms 𝓤) where
   abbrev pub entry : (S : Signature) → Bound 𝓤 H A S → List (Item 𝓤)
   entry S x = tokens (S .lifetimes) (x .0) (x .1) ++ parts (typesAt (S .params) (x .0)) (x .3) (x .4)
 
-  abbrev pub settled : (T : Ended) (x : Bound 𝓤 H A (T .signature)) → Lasts T (x .0) (x .3) → List (Item 𝓤)
+  abbrev settled : (T : Ended) (x : Bound 𝓤 H A (T .signature)) → Lasts T (x .0) (x .3) → List (Item 𝓤)
   settled T x ws = all-left (x .0) (T .signature .params) (T .kept) (x .3) ws ++ tokens (T .signature .lifetimes) (x .0) (x .1)
 
   -- P is the items Δ side by side
@@ -366,7 +366,7 @@ abbrev last : GName → (ys zs : List Run) → Fml
 last γ ys zs = fsep (finally R γ zs) (feq ℕ (length zs) (length ys))
 
 -- what the lender of a `&κ [Run]` keeps
-abbrev pub Lent : Lft → (b o : ℕ) → List Run → Fml
+abbrev Lent : Lft → (b o : ℕ) → List Run → Fml
 Lent κ b o ys = flent κ (arr-parts (shares R) (length ys) .part fullShare ys b o)
 
 -- and where it was a `&κ mut [Run]` itself: its own borrow besides, open, with both halves of its ghost variable
@@ -456,7 +456,7 @@ module _ {M : Type 1} {𝓤 : URA M} {H : Heap 𝓤} {A : Atoms 𝓤} {K : Type 
         calls-for fm out.ended (out.clauses 𝓤 H A mem run) known (to-out 𝓤 H A mem run κ q b o γ ys .0) tt (id⊢ 𝓤 (emp 𝓤)) t (λ r zs. r ≡ over ys blanks) (λ r zs. id⊢ 𝓤 _) operands (λ v r zs e.
         move t (1 ∷ []) $ rewrite t 0 (λ (l : List Run). ‵ (Runs .own l (v ∷ []))) e refl $ facts t Runs (Is Runs) (shows 𝓤 H A Runs) (over ys blanks) (v ∷ []) (k v))
 
-    pub copies-back : K → Triple 𝓤 (C #runs·copy·back) (CopyBack 𝓤 H A mem run) → (xs : List Run) (v : Val) → Is Runs xs (v ∷ [])
+    copies-back : K → Triple 𝓤 (C #runs·copy·back) (CopyBack 𝓤 H A mem run) → (xs : List Run) (v : Val) → Is Runs xs (v ∷ [])
         → Opds K W (raw (CopyBack 𝓤 H A mem run .pre (to-back 𝓤 H A mem run κ q b o γ ys xs v)) ∷ Γ) E os (v ∷ sliceVal (b, o) (length ys) ∷ [])
         → Step K W (‵ (flft κ q) ∷ ‵ (last γ ys (over xs ys)) ∷ Γ) (lands C Λ E d vunit rest p) (‵ (flft κ q) ∷ ‵ (held (named 0) κ b o γ ys) ∷ Γ) (runs C Λ E (seq (call #runs·copy·back os d) rest) p)
     copies-back t known xs v is operands = step (λ k.

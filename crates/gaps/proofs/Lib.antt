@@ -1,3 +1,2 @@
 -- What the proofs of this crate share.
 pub mod Fits
-pub mod Loan

@@ -1,6 +1,6 @@
 -- What the promises over a lent row of runs settle: one outcome, a refusal that changes no run, 15 with the runs wanted, and else the
 -- answer of the call over numbers, so that what is known of that call is known of this one.
-use Prim.Native.Nat.{ℕ, _≤_, _<_}
+use Prim.Native.Nat.{ℕ, _*_, _≤_, _<_}
 use mathlib.Core.Path.{_≡_, refl, ap, sym, _∙_, subst}
 use mathlib.Core.Bool.{Bool, true, false, cond, _&&_, true≢false}
 use mathlib.Core.List.{List, [], _∷_, _++_}
@@ -11,26 +11,27 @@ use lib.Dec.{ltb, eqb}
 use lib.ListN.{length, getD}
 use Rattle.laws.specs.Rules.{firstBroken}
 use Rattle.laws.specs.RulesLaws.{unlike, front-broken}
+use Rattle.contracts.specs.File.{segmentsOf}
 use Rattle.contracts.specs.Sound.{headerSound}
 use Rattle.layout.specs.declared.rows.Level.{Level}
 use Rattle.quotebox.specs.declared.answers.Started.{Started}
 use Rattle.quotebox.specs.declared.answers.Judged.{Judged}
 use Rattle.quotebox.specs.declared.answers.Listed.{Listed}
 use Rattle.quotebox.specs.declared.answers.WrittenOff.{WrittenOff}
-use Rattle.quotebox.specs.declared.answers.Recorded.{Recorded}
 use Rattle.quotebox.specs.declared.answers.Reading.{Reading}
 use Rattle.quotebox.specs.declared.refusal.Refusal.{Refusal}
 use Rattle.quotebox.specs.declared.refusal.Refusal.the-variants.{Memory}
 use Rattle.quotebox.specs.Answers.{startedNumbers, judgedNumbers, listedNumbers, writtenOffNumbers, readingNumbers}
-use Rattle.quotebox.specs.Batch.{batchRules, batchActs, refused, actedNumbers}
+use Rattle.quotebox.specs.Batch.{batchRules, batchActs, actedNumbers}
 use Rattle.quotebox.specs.AnswersLaws.{started-told, judged-told, listed-told, written-off-told, recorded-told, refused-by}
-use Rattle.quotebox.specs.Calls.{answered, gapsOfLetter, listRules, listValues, writeOffRules, runValues, lowestRun}
+use Rattle.quotebox.specs.Calls.{answered, listRules, writeOffRules}
 use Rattle.quotebox.specs.CallPromises.{StartedBox, ListedRuns, WroteOffRun, ReadRecord}
 use Rattle.quotebox.specs.CallPromisesLaws.{one-started, one-listed, one-written-off, one-reading, start-refusal, off-refusal}
-use Rattle.quotebox.specs.Memory.{rowsWanted, stateRules}
+use Rattle.quotebox.specs.Memory.{rowsWanted, memoryRules, stateRules}
 use Rattle.quotebox.specs.Promises.{JudgedBatch, TookBatch}
-use Rattle.quotebox.specs.Record.{recordRules, recordOfKey, recordNumber, recordValues}
+use Rattle.quotebox.specs.Record.{recordRules}
 use Rattle.quotebox.specs.Refusals.{Rule, refusalNumbers}
+use Rattle.quotebox.specs.StartLaws.{memory-decides}
 use Rattle.quotebox.specs.State.{segmentRules}
 use Rattle.quotebox.specs.StateLaws.{state-broken}
 use Rattle.quotebox.specs.TookLaws.{one-judged, one-took, refused-keeps}
@@ -38,7 +39,7 @@ use Rattle.runs.specs.declared.run.Run.{Run}
 use Rattle.runs.specs.Rows.{flat, runsWanted, inRuns}
 use Rattle.runs.specs.RowsLaws.{in-runs-short, in-runs-enough, in-runs-other}
 use Rattle.runs.specs.FlatLaws.{length-flat, flat-told}
-use Rattle.runs.specs.Promises.{StartedRuns, JudgedRuns, TookRuns, ListedGaps, WroteOffRuns, ReadRuns}
+use Rattle.runs.specs.Promises.{StartedRuns, JudgedRuns, TookRuns, ListedGaps, WroteOffRuns, ReadRuns, UpToMemory}
 
 -- ---- one outcome
 
@@ -150,47 +151,38 @@ wrote-off-refused {list} {records} {rows} {rows′} {letter} r p = go (p .core) 
     go (WrittenOff.Removed first last) q e = absurd (unlike (sym (accepted-never list (length rows) r (first ∷ last ∷ []) e)))
     go (WrittenOff.Refused s) q e = flat-told rows′ rows (off-refusal s q .1)
 
--- ---- too few runs: 15 with the runs wanted, once the list's header is sound
+-- ---- too few runs
 
-module _ (list : List ℕ) (rows : List Run) (header : headerSound list ≡ true) (short : length rows < runsWanted list) where
-  state-short : (records : List ℕ) → firstBroken (stateRules list (flat rows) records) ≡ some (Memory (rowsWanted list))
-  state-short records =
-      let few : length (flat rows) < rowsWanted list = omega (arith, length-flat rows) in
-      rw (header, lt-leb (rowsWanted list) (length (flat rows)) few)
-
+module _ (list : List ℕ) (rows : List Run) (short : length rows < runsWanted list) where
   told-short : {told numbers : List ℕ} → told ≡ inRuns list (length rows) numbers → numbers ≡ refusalNumbers (Memory (rowsWanted list)) → told ≡ refusalNumbers (Memory (runsWanted list))
   told-short e n = e ∙ ap (inRuns list (length rows)) n ∙ in-runs-short list (length rows) (rowsWanted list) short
 
-  acts-short : (records batch : List ℕ) → batchActs list (flat rows) records batch ≡ refused (Memory (rowsWanted list))
-  unfolding batchActs
-  acts-short records batch = rw (front-broken (stateRules list (flat rows) records) (batchRules batch) (Memory (rowsWanted list)) (state-short records))
+  few : length (flat rows) < rowsWanted list
+  few = omega (arith, length-flat rows)
 
-  pub judged-short : {records batch : List ℕ} (answer : Judged) → JudgedRuns list rows records batch answer → answer ≡ Judged.Refused (Memory (runsWanted list))
-  judged-short {records} {batch} answer p =
-      judged-told answer (Judged.Refused (Memory (runsWanted list))) (told-short (p .answers) (p .judged .answers ∙ ap actedNumbers (acts-short records batch)))
+  memory-short : (records : ℕ) → firstBroken (memoryRules list (length (flat rows)) records) ≡ some (Memory (rowsWanted list))
+  memory-short records = rw (lt-leb (rowsWanted list) (length (flat rows)) few)
 
-  pub took-short : {records batch records′ : List ℕ} {rows′ : List Run} (answer : Judged) → TookRuns list rows records batch answer rows′ records′ → answer ≡ Judged.Refused (Memory (runsWanted list))
-  took-short {records} {batch} answer p =
-      judged-told answer (Judged.Refused (Memory (runsWanted list))) (told-short (p .answers) (p .took .answers ∙ ap actedNumbers (acts-short records batch)))
+  module _ (header : headerSound list ≡ true) (records : List ℕ) where
+    state-short : firstBroken (stateRules list (flat rows) records) ≡ some (Memory (rowsWanted list))
+    state-short = rw (header, lt-leb (rowsWanted list) (length (flat rows)) few)
 
-  module _ (records : List ℕ) (letter : ℕ) where
-    rules-short : (more : List Rule) → firstBroken (segmentRules list (flat rows) records letter ++ more) ≡ some (Memory (rowsWanted list))
-    rules-short more = front-broken (segmentRules list (flat rows) records letter) more (Memory (rowsWanted list)) (state-broken list (flat rows) records letter (Memory (rowsWanted list)) (state-short records))
+    acts-short : (batch : List ℕ) → actedNumbers (batchActs list (flat rows) records batch) ≡ refusalNumbers (Memory (rowsWanted list))
+    unfolding batchActs
+    acts-short batch = rw (front-broken (stateRules list (flat rows) records) (batchRules batch) (Memory (rowsWanted list)) state-short)
 
-    pub wrote-off-short : {rows′ : List Run} (answer : WrittenOff) → WroteOffRuns list rows records letter answer rows′ → answer ≡ WrittenOff.Refused (Memory (runsWanted list))
-    unfolding writeOffRules
-    wrote-off-short answer p =
-        written-off-told answer (WrittenOff.Refused (Memory (runsWanted list)))
-        (told-short (p .answers) (p .wrote-off .answers ∙ ap (λ (o : Option Refusal). answered o (runValues (lowestRun (gapsOfLetter list (flat rows) letter)))) (rules-short _)))
+    answered-short : (letter : ℕ) (more : List Rule) (values : List ℕ) → answered (firstBroken (segmentRules list (flat rows) records letter ++ more)) values ≡ refusalNumbers (Memory (rowsWanted list))
+    answered-short letter more values =
+        ap (λ (o : Option Refusal). answered o values)
+        (front-broken (segmentRules list (flat rows) records letter) more (Memory (rowsWanted list)) (state-broken list (flat rows) records letter (Memory (rowsWanted list)) state-short))
 
-    pub listed-short : {cells cells′ : List ℕ} (answer : Listed) → ListedGaps list rows records letter cells answer cells′ → answer ≡ Listed.Refused (Memory (runsWanted list))
-    unfolding listRules
-    listed-short answer p =
-        listed-told answer (Listed.Refused (Memory (runsWanted list)))
-        (told-short (p .answers) (p .listed .answers ∙ ap (λ (o : Option Refusal). answered o (listValues (gapsOfLetter list (flat rows) letter))) (rules-short _)))
-
-    pub read-short : {key : List ℕ} {level : Level} (reading : Reading) → ReadRuns list rows records letter key level reading → reading .answer ≡ Recorded.Refused (Memory (runsWanted list))
-    unfolding recordRules
-    read-short {key} {level} reading p =
-        recorded-told (reading .answer) (Recorded.Refused (Memory (runsWanted list)))
-        (told-short (p .answers) (p .read .answers ∙ ap (λ (o : Option Refusal). answered o (recordValues (recordNumber records (recordOfKey list letter key level)))) (rules-short _)))
+-- 01, the table's row 15: too few runs lent are answered with the runs wanted, 66 for each listed segment
+pub too-few-runs : {list numbers : List ℕ} {rows : List Run} → UpToMemory list rows numbers → length rows < 66 * segmentsOf list → numbers ≡ 15 ∷ 0 ∷ 0 ∷ 66 * segmentsOf list ∷ []
+unfolding listRules writeOffRules recordRules
+too-few-runs {list} {rows = rows} (UpToMemory.starts {starts} {records} s n p) h =
+    told-short list rows h (p .answers) (p .started .answers ∙ ap (λ (o : Option Refusal). answered o []) (memory-decides list starts (length (flat rows)) (length records) s n ∙ memory-short list rows h (length records)))
+too-few-runs {list} {rows = rows} (UpToMemory.judges {records} {batch} s p) h = told-short list rows h (p .answers) (p .judged .answers ∙ acts-short list rows h s records batch)
+too-few-runs {list} {rows = rows} (UpToMemory.takes {records} {batch} s p) h = told-short list rows h (p .answers) (p .took .answers ∙ acts-short list rows h s records batch)
+too-few-runs {list} {rows = rows} (UpToMemory.lists {records} {letter = letter} s p) h = told-short list rows h (p .answers) (p .listed .answers ∙ answered-short list rows h s records letter _ _)
+too-few-runs {list} {rows = rows} (UpToMemory.writes-off {records} {letter} s p) h = told-short list rows h (p .answers) (p .wrote-off .answers ∙ answered-short list rows h s records letter _ _)
+too-few-runs {list} {rows = rows} (UpToMemory.reads {records} {letter = letter} s p) h = told-short list rows h (p .answers) (p .read .answers ∙ answered-short list rows h s records letter _ _)

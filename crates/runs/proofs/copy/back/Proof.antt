@@ -15,45 +15,33 @@ use mir.Syntax.{Ty, named, mut, w64, tyInt, tyBool, tyPtr, tyUnit, tyRef}
 use mir.Val.{Val, vunit, vbool, vint, vptr}
 use mathlib.Core.Bool.{Bool}
 use borrow.Author.Tests.{lt-ltb, le-ltb}
-use base.Logic.{SProp, ent}
-use base.Fml.{Lft, GName, Share, ftrue, fat, froom, fdies, flft, fobs, fauth, fbor, fobor}
+use base.Logic.{SProp, ent, emp}
+use base.Fml.{Lft, GName, Share, fat, froom, fdies, flft, fres, fobs, fauth, fbor, fobor}
 use prog.Memory.{Memory}
 use prog.Routine.{Routine}
 use prog.Wp.{Heap, Out, Env, afterSeq, afterBlock, afterTurn, Calls, Loops, Wp, atReturn, WpFn, Tables}
 use ghost.Atoms.{Atoms}
-use contract.Monad.{Fun}
+use contract.Monad.{Fun, factI}
 use contract.Running.{givenOf, tables, tablesOf}
-use types.Kit.{Given, Item, ‵, runs, anyQ, atRet, Sq, _⊛_, ⋆, _$_, _∵_, !, qed, by, move, keep, drop as toss, use1, use2, rewrite, split, join, fsplit, fjoin, feqI, suffices, frame, done}
+use types.Kit.{Given, Item, ‵, runs, anyQ, atRet, Sq, ⋆, _$_, _∵_, !, qed, by, move, keep, drop as toss, use1, rewrite, fsplit, fjoin, feqI}
 use types.Run.{look, store, init, forget, stop, fld, from, load, lit, unit-lit, of-opd, bin, addr, and-then, no-more, assigns, assigns-last, first, stays, leaves-loop, blocks, land, returns, enter, alloc1, alloc0, params1, pass1, pass0, free1, free0, exec, Below, again, loops}
 use types.Part.{whole, sub, look-in}
-use types.Share.{arr-parts}
 use sound.WpLaws.{fmOf}
-use denote.RattleType.{owns}
-use denote.Shadow.{pureI}
 use denote.Laws.{Is}
-use denote.Memory.{shares, pointee}
-use denote.Ref.{RefT}
-use denote.Slice.{sliceTy, sliceVal, MutSlice, Room, slice-vals, mut-slice-tells, at-slice, heres, codedHoleys}
+use denote.Memory.{pointee}
+use denote.Slice.{sliceTy, sliceVal, Room, slice-vals, mut-slice-tells, heres, codedHoleys, finally, res-finally}
 use denote.Index.{row, opens-slice, closes-slice}
 use denote.Lend.{Held}
-use denote.Signature.{plain}
-use denote.Steps.{nothing}
 use denote.Triple.Statement.{Triple}
-use denote.Triple.Entry.{onEntry}
 use denote.Triple.Spec.{Meets, tripleOf}
 use denote.Triple.Table.{entered, cited}
-use denote.Triple.Walked.{says, Stays, stay-dropped, stay-slice, walkOf, goes-dropped, goes-slice, ends-at}
-use denote.Exit.{yes}
 use Rattle.laws.specs.Lists.{copy-next}
 use Rattle.laws.specs.Order.{order}
 use mathlib.Core.Logic.{⊎-elim}
 use Rattle.runs.specs.declared.run.Run.{Run}
 use Rattle.runs.specs.Rows.{blank, over}
 use Rattle.runs.specs.RowsLaws.{over-is}
-use Rattle.runs.proofs.Callees.{AtMost, limits}
-use Rattle.runs.proofs.Meets.{meets-by}
-use Rattle.runs.proofs.Memory.{R, Runs, run-mir, runs-mir, run-typed, runs-val, runs-tells, runs-typed, slot-in, slot-out, at-place, within, Upto, Nearer, Nearer-wf}
-use Rattle.runs.proofs.Steps.{reads-run, stores-run}
+use Rattle.runs.proofs.Walks.{R, Runs, run-mir, runs-mir, run-typed, runs-val, runs-tells, runs-typed, slot-in, slot-out, at-place, within, Upto, Nearer, Nearer-wf, entry, meets-by, gives, reads-run, stores-run, AtMost, CopyBack, to-back, limits}
 use Rattle.runs.proofs.run.at_most.Symbol as at-most-def
 use Rattle.runs.proofs.run.at_most.Symbol.{name as #runs·run·at-most}
 use Rattle.runs.proofs.run.at_most.Met as at-most-thm
@@ -63,9 +51,6 @@ use Rattle.runs.proofs.copy.back.Statement as stated
 use Rattle.runs.proofs.copy.back.Code as code
 use Rattle.runs.proofs.copy.back.Code.Mir as mir′
 
-abbrev stayed : Stays (back.ended .signature .params) (back.ended .kept)
-stayed = (stay-dropped (plain (λ _. Runs)) yes, (stay-slice (0 ∷ []) tt (plain (λ _. R)), tt))
-
 abbrev word : Ty
 word = tyInt w64
 
@@ -73,14 +58,11 @@ abbrev slice : Ty
 slice = sliceTy (tyRef (named 0) mut (pointee (R .written)))
 
 module _ {M : Type 1} (𝓤 : URA M) (H : Heap 𝓤) (A : Atoms 𝓤) (W : Given 𝓤 H A) (mem : Memory → SProp 𝓤) (run : Routine → Fun 𝓤) (κ : Lft) (q : Share) (xs : List Run) (b o : ℕ) (γ : GName) (ys : List Run) (all : length xs ≡ 132) (gn : Room R (length ys)) where
-  abbrev x : List Run × (RefT (List Run) × Unit {0})
-  x = (xs, (record { ptr = (b, o); name = γ; now = ys }, tt))
-
-  abbrev at : List Val × (List Val × Unit {0})
-  at = (runs-val xs ∷ [], (sliceVal (b, o) (length ys) ∷ [], tt))
+  abbrev y : CopyBack 𝓤 H A mem run .Ghost
+  y = to-back 𝓤 H A mem run κ q b o γ ys xs (runs-val xs)
 
   abbrev Post : Val → SProp 𝓤
-  Post = walkOf 𝓤 H A back.ended stayed (back.clauses 𝓤 H A mem run) .post (((κ, tt), (q, tt), tt, x, at), tt)
+  Post = CopyBack 𝓤 H A mem run .post y
 
   -- how far the loop counts, and the slice after i turns
   abbrev n : ℕ
@@ -96,10 +78,9 @@ module _ {M : Type 1} (𝓤 : URA M) (H : Heap 𝓤) (A : Atoms 𝓤) (W : Given
       → ent 𝓤 (⋆ 𝓤 H A (‵ (fobs γ (codedHoleys R .code (heres R zs))) ∷ ‵ (fbor κ (Held R (length zs) b o γ)) ∷ ‵ (flft κ q) ∷ [])) (Post vunit)
   exits zs long e =
       qed W (‵ (fobs γ (codedHoleys R .code (heres R zs))) ∷ ‵ (fbor κ (Held R (length zs) b o γ)) ∷ ‵ (flft κ q) ∷ []) ∵
-      suffices ! _ (ends-at 𝓤 H A back.ended stayed (back.clauses 𝓤 H A mem run) W (((κ, tt), (q, tt), tt, x, at), tt) vunit tt (tt, (zs, tt)) (tt, (long, tt))) $ says ! e $
-      nothing ! $ move ! (3 ∷ 0 ∷ []) $ join ! $ frame ! $
-      fjoin ! $ pureI ! (at-slice R (record { ptr = (b, o); name = γ; now = zs }) (at .1 .0)) (tt, (tt, tt)) (ap (λ (m : ℕ). sliceVal (b, o) m ∷ []) (sym long), subst (Room R) (sym long) gn) $ fjoin ! $
-      nothing ! $ move ! (1 ∷ 0 ∷ []) $ fjoin ! $ nothing ! $ fjoin ! $ frame ! $ feqI ! (List Val) (vunit ∷ []) (vunit ∷ []) refl $ done !
+      use1 W (‵ (fres γ (codedHoleys R .code (heres R zs)))) (W .names .obs-res γ (codedHoleys R .code (heres R zs))) $ use1 W (‵ (finally R γ zs)) (res-finally 𝓤 H A W (named 0) κ R γ zs) $
+      feqI ! ℕ (length zs) (length ys) long $ move ! (1 ∷ 0 ∷ []) $ fjoin ! $ feqI ! (List Val) (vunit ∷ []) (vunit ∷ []) refl $ keep ! (0 ∷ 1 ∷ 3 ∷ []) $
+      by ! (gives 𝓤 H A W back.ended (back.clauses 𝓤 H A mem run) y vunit tt (tt, (zs, tt)) (factI 𝓤 _ (emp 𝓤) e))
 
   module _ (𝓣 : Tables 𝓤 H) (l₀ l₁ l₂ l₃ l₄ l₅ l₆ l₇ l₈ l₉ l₁₀ l₁₁ l₁₂ l₁₃ : ℕ) where
     abbrev C : Calls 𝓤 H
@@ -167,14 +148,13 @@ module _ {M : Type 1} (𝓤 : URA M) (H : Heap 𝓤) (A : Atoms 𝓤) (W : Given
         rewrite ! 14 (λ (t : Bool). ‵ (fat fullShare tyBool l₇ 0 (vbool t))) (le-ltb (i .0) n done′) refl $ leaves-loop ! (load ! (from ! (stop !)) (look ! 14 refl)) $
         exec ! C Λ En mir′.t-6 (atRet En Post) $
         assigns ! (of-opd ! (unit-lit !)) (from ! (stop !)) (init ! 27 refl (tt, tt)) $
-        feqI ! ℕ (length xs) 132 all $ fjoin ! $ use1 W (‵ (fat fullShare runs-mir l₃ 0 (runs-val xs)) ⊛ ‵ (Runs .own xs (runs-val xs ∷ []))) (slot-out 𝓤 H A W xs l₃) $ split ! $
-        move ! (1 ∷ []) $ toss ! $ move ! (1 ∷ 29 ∷ 30 ∷ 31 ∷ []) $ closes-slice ! tt R ys (copied (i .0)) (copied-length (i .0) (i .1)) b o $
+        slot-out ! xs l₃ all (λ is. move ! (1 ∷ 29 ∷ 30 ∷ 31 ∷ []) $ closes-slice ! tt R ys (copied (i .0)) (copied-length (i .0) (i .1)) b o $
         -- [obs; the borrow; the token; _3; _13; …; _0; …]
         returns ! (look ! 29 refl) $ forget ! 3 refl $ forget ! 16 refl $ forget ! 20 refl $ forget ! 22 refl $ forget ! 25 refl $ forget ! 29 refl $
         move ! (29 ∷ 30 ∷ []) $ free1 ! $ move ! (27 ∷ 28 ∷ []) $ free1 ! $ move ! (25 ∷ 26 ∷ []) $ free1 ! $ move ! (3 ∷ 24 ∷ []) $ free1 ! $
         move ! (21 ∷ 22 ∷ []) $ free1 ! $ move ! (19 ∷ 20 ∷ []) $ free1 ! $ move ! (17 ∷ 18 ∷ []) $ free1 ! $ move ! (15 ∷ 16 ∷ []) $ free1 ! $ move ! (13 ∷ 14 ∷ []) $ free1 ! $
         move ! (11 ∷ 12 ∷ []) $ free1 ! $ move ! (9 ∷ 10 ∷ []) $ free1 ! $ move ! (7 ∷ 8 ∷ []) $ free1 ! $ move ! (5 ∷ 6 ∷ []) $ free1 ! $ move ! (3 ∷ 4 ∷ []) $ free1 ! $ free0 ! $
-        by ! (exits (copied (i .0)) (copied-length (i .0) (i .1)) (ap copied (le-antisymm (i .1) done′ ∙ same) ∙ sym (over-is xs ys)))
+        by ! (exits (copied (i .0)) (copied-length (i .0) (i .1)) (ap copied (le-antisymm (i .1) done′ ∙ same) ∙ sym (over-is xs ys))))
       where
         same : n ≡ min (length xs) (length ys)
         same = omega arith
@@ -183,9 +163,9 @@ module _ {M : Type 1} (𝓤 : URA M) (H : Heap 𝓤) (A : Atoms 𝓤) (W : Given
     turns i = ⊎-elim (ends i) (more i) (order n (i .0))
 
   module _ (𝓣 : Tables 𝓤 H) (known-limit : Triple 𝓤 (𝓣 .C #runs·run·at-most) (AtMost 𝓤 H A mem run)) where
-    walk : Is Runs xs (runs-val xs ∷ []) → ent 𝓤 (onEntry 𝓤 H A back.signature (κ, tt) (q, tt) x at) (WpFn 𝓤 H (𝓣 .C) (𝓣 .Λ) code.function (runs-val xs ∷ sliceVal (b, o) (length ys) ∷ []) Post)
+    walk : Is Runs xs (runs-val xs ∷ []) → ent 𝓤 (⋆ 𝓤 H A (entry 𝓤 H A back.signature (y .0))) (WpFn 𝓤 H (𝓣 .C) (𝓣 .Λ) code.function (runs-val xs ∷ sliceVal (b, o) (length ys) ∷ []) Post)
     walk is =
-        qed W ((‵ (flft κ q) ⊛ ‵ ftrue) ∷ ‵ (owns (Runs ∷ MutSlice (named 0) κ R ∷ []) x at) ∷ []) ∵ enter ! (𝓣 .C) (𝓣 .Λ) code.function (runs-val xs ∷ sliceVal (b, o) (length ys) ∷ []) _ $
+        qed W (entry 𝓤 H A back.signature (y .0)) ∵ enter ! (𝓣 .C) (𝓣 .Λ) code.function _ _ $
         alloc1 ! (λ l₀. alloc1 ! (λ l₁. alloc1 ! (λ l₂. alloc1 ! (λ l₃. alloc1 ! (λ l₄. alloc1 ! (λ l₅. alloc1 ! (λ l₆. alloc1 ! (λ l₇. alloc1 ! (λ l₈. alloc1 ! (λ l₉. alloc1 ! (λ l₁₀. alloc1 ! (λ l₁₁. alloc1 ! (λ l₁₂. alloc1 ! (λ l₁₃. alloc0 ! $ params1 ! $
         pass1 ! (init ! 24 refl (runs-typed 𝓤 H A W xs is)) $ pass1 ! (init ! 22 refl (tt, (tt, (record { fits = gn .0 }, tt)))) $ pass0 ! $
         -- [_13; …; _0; …; the token; what runs and rows own]
@@ -194,11 +174,11 @@ module _ {M : Type 1} (𝓤 : URA M) (H : Heap 𝓤) (A : Atoms 𝓤) (W : Given
         limits mem run (fmOf 𝓤 H (W .laws) 𝓣) ! known-limit (length ys) (gn .0) (and-then ! (load ! (from ! (stop !)) (look ! 15 refl)) (no-more !)) $ land ! (from ! (stop !)) (init ! 18 refl (tt, record { fits = few })) $
         assigns ! (of-opd ! (lit ! tt)) (from ! (stop !)) (init ! 16 refl (tt, record { fits = lit< tt })) $
         -- the slot's one value is its runs side by side
-        move ! (29 ∷ []) $ fsplit ! $ move ! (22 ∷ 0 ∷ []) $ use2 W (‵ (arr-parts (shares R) 132 .part fullShare xs l₃ 0)) (slot-in 𝓤 H A W xs l₃ (runs-val xs)) $ fsplit ! $ toss ! $
-        move ! (1 ∷ []) $ fsplit ! $ fsplit ! $ toss ! $ fsplit ! $ move ! (31 ∷ []) $ split ! $ move ! (2 ∷ 3 ∷ 0 ∷ []) $ opens-slice ! tt R ys b o $
-        -- [the slice's runs; the open borrow; obs; auth; true; true; the array's runs; _13; …]
-        forget ! 21 refl $ forget ! 30 refl $
-        keep ! (6 ∷ 0 ∷ 7 ∷ 8 ∷ 9 ∷ 10 ∷ 11 ∷ 12 ∷ 13 ∷ 14 ∷ 15 ∷ 16 ∷ 17 ∷ 18 ∷ 19 ∷ 20 ∷ 21 ∷ 22 ∷ 23 ∷ 24 ∷ 25 ∷ 26 ∷ 27 ∷ 28 ∷ 29 ∷ 30 ∷ 31 ∷ 32 ∷ 33 ∷ 1 ∷ 2 ∷ 3 ∷ []) $
+        move ! (20 ∷ []) $ slot-in ! xs l₃ (runs-val xs) is $
+        move ! (30 ∷ []) $ fsplit ! $ toss ! $ fsplit ! $ move ! (0 ∷ 1 ∷ 30 ∷ []) $ opens-slice ! tt R ys b o $
+        -- [the slice's runs; the open borrow; obs; auth; the array's runs; _13; …]
+        forget ! 19 refl $ forget ! 28 refl $
+        keep ! (4 ∷ 0 ∷ 5 ∷ 6 ∷ 7 ∷ 8 ∷ 9 ∷ 10 ∷ 11 ∷ 12 ∷ 13 ∷ 14 ∷ 15 ∷ 16 ∷ 17 ∷ 18 ∷ 19 ∷ 20 ∷ 21 ∷ 22 ∷ 23 ∷ 24 ∷ 25 ∷ 26 ∷ 27 ∷ 28 ∷ 29 ∷ 30 ∷ 31 ∷ 1 ∷ 2 ∷ 3 ∷ []) $
         first ! $ blocks ! $ loops ! 𝓣 (Nearer n) (Nearer-wf n) (At 𝓣 l₀ l₁ l₂ l₃ l₄ l₅ l₆ l₇ l₈ l₉ l₁₀ l₁₁ l₁₂ l₁₃) (turns 𝓣 l₀ l₁ l₂ l₃ l₄ l₅ l₆ l₇ l₈ l₉ l₁₀ l₁₁ l₁₂ l₁₃) (0, zero-le)))))))))))))))
       where
         few : n < 2 ^ 64
@@ -207,7 +187,7 @@ module _ {M : Type 1} (𝓤 : URA M) (H : Heap 𝓤) (A : Atoms 𝓤) (W : Given
 module _ {M : Type 1} (𝓤 : URA M) (H : Heap 𝓤) (A : Atoms 𝓤) (W : Given 𝓤 H A) (mem : Memory → SProp 𝓤) (run : Routine → Fun 𝓤) (𝓣 : Tables 𝓤 H) (known-limit : Triple 𝓤 (𝓣 .C #runs·run·at-most) (AtMost 𝓤 H A mem run)) where
   back-meets : Meets 𝓤 H A back.signature (WpFn 𝓤 H (𝓣 .C) (𝓣 .Λ) code.function) (back.spec 𝓤 H A mem run)
   back-meets =
-      meets-by 𝓤 H A W back.ended stayed (goes-dropped 𝓤 H A W 1 (plain (λ _. Runs)) yes (λ κs x f. refl), (goes-slice 𝓤 H A W 1 0 tt (plain (λ _. R)), tt)) (back.clauses 𝓤 H A mem run) code.function 𝓣 (λ κs. ((λ xs. runs-val xs ∷ []), (slice-vals, tt))) (λ κs. (runs-tells, (mut-slice-tells (named 0) (κs .0) R, tt)))
+      meets-by 𝓤 H A W back.ended (back.clauses 𝓤 H A mem run) code.function 𝓣 (λ κs. ((λ xs. runs-val xs ∷ []), (slice-vals, tt))) (λ κs. (runs-tells, (mut-slice-tells (named 0) (κs .0) R, tt)))
       (λ κs qs bounds a g are. walk 𝓤 H A W mem run (κs .0) (qs .0) (a .0) (a .1 .0 .ptr .0) (a .1 .0 .ptr .1) (a .1 .0 .name) (a .1 .0 .now) (are .0 .1 .0 .1) (are .1 .0 .0 .1) 𝓣 known-limit (are .0))
 
 pub back-spec : {M : Type 1} → stated.statement M

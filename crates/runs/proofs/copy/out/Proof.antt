@@ -15,49 +15,37 @@ use mir.Syntax.{Ty, named, imm, w64, tyInt, tyBool, tyPtr, tyRef}
 use mir.Val.{Val, vbool, vint, vptr}
 use mathlib.Core.Bool.{Bool}
 use borrow.Author.Tests.{lt-ltb, le-ltb}
-use base.Logic.{SProp, ent, emp, snd∗, exE, id⊢}
-use base.Fml.{Lft, GName, Share, ftrue, fat, froom, fdies, flft, fres, fobor, fshr-bor}
+use base.Logic.{SProp, ent, emp, id⊢}
+use base.Fml.{Lft, GName, Share, fat, froom, fdies, fobor}
 use prog.Memory.{Memory}
 use prog.Routine.{Routine}
 use prog.Wp.{Heap, Out, Env, afterSeq, afterBlock, afterTurn, Calls, Loops, Wp, atReturn, WpFn, Tables}
-use ghost.Atoms.{Atoms, sem}
-use contract.Monad.{Fun, fact}
+use ghost.Atoms.{Atoms}
+use contract.Monad.{Fun, factI}
 use contract.Running.{givenOf, tables, tablesOf}
-use types.Kit.{Given, Item, ‵, raw, runs, anyQ, atRet, Sq, _⊛_, some, later, ⋆, _$_, _∵_, !, qed, by, move, keep, drop as toss, use0, use1, use2, rewrite, split, join, pick, fsplit, fjoin, feqI, suffices, frame, await, done}
+use types.Kit.{Given, Item, ‵, runs, anyQ, atRet, Sq, ⋆, _$_, _∵_, !, qed, by, move, keep, drop as toss, rewrite, fsplit}
 use types.Run.{look, store, init, forget, stop, fld, from, load, lit, of-opd, bin, addr, and-then, no-more, assigns, assigns-last, first, stays, leaves-loop, blocks, land, returns, enter, alloc1, alloc0, params1, pass1, pass0, free1, free0, exec, Below, again, loops}
 use types.Part.{whole, sub, look-in}
 use types.Share.{arr-parts}
 use sound.WpLaws.{FmC, fmOf}
-use denote.RattleType.{owns}
-use denote.Shadow.{pureI}
 use denote.Laws.{Is, shows}
 use denote.Memory.{shares, pointee}
-use denote.Ref.{RefT}
-use denote.Slice.{sliceTy, sliceVal, ShrSlice, Room, slice-vals, shr-slice-tells, at-slice, heres, codedHoleys}
+use denote.Slice.{sliceTy, sliceVal, Room, slice-vals, shr-slice-tells}
 use denote.Index.{row, looks-slice, shuts-slice}
-use denote.Signature.{plain}
-use denote.Steps.{peeks, heard, nothing}
+use denote.Steps.{owned, facts}
 use denote.Struct.Laws as LL
 use denote.Triple.Statement.{Contract, Triple}
-use denote.Triple.Call.{calls-at}
-use denote.Triple.Entry.{onEntry}
 use denote.Triple.Spec.{Meets, tripleOf}
 use denote.Triple.Table.{entered, cited}
-use denote.Triple.Clauses.{ensured, lasts}
-use denote.Triple.Walked.{says, Stays, stay-none-slice, walkOf, goes-none-slice, ends-at}
-use denote.Exit.{yes}
 use Rattle.laws.specs.Lists.{copy-next}
 use Rattle.laws.specs.Order.{order}
 use mathlib.Core.Logic.{⊎-elim}
 use Rattle.runs.specs.declared.run.Run.{Run}
-use Rattle.runs.specs.Rows.{blank, blanks, over}
+use Rattle.runs.specs.Rows.{blank, blanks}
 use Rattle.runs.specs.RowsLaws.{over-is}
 use Rattle.runs.proofs.run.Run as T
 use Rattle.runs.proofs.run.Run.Laws as T′
-use Rattle.runs.proofs.Callees.{AtMost, limits}
-use Rattle.runs.proofs.Meets.{meets-by}
-use Rattle.runs.proofs.Memory.{R, Runs, run-mir, runs-mir, run-vals, run-tells, run-typed, runs-val, runs-typed, slot-in, slot-out, at-place, within, Upto, Nearer, Nearer-wf}
-use Rattle.runs.proofs.Steps.{reads-run, stores-run}
+use Rattle.runs.proofs.Walks.{R, Runs, run-mir, runs-mir, run-vals, run-tells, run-typed, runs-val, runs-makes, runs-typed, slot-in, slot-out, at-place, within, Upto, Nearer, Nearer-wf, entry, meets-by, calls-for, gives, reads-run, stores-run, AtMost, CopyOut, to-out, limits}
 use Rattle.runs.proofs.run.at_most.Symbol as at-most-def
 use Rattle.runs.proofs.run.at_most.Symbol.{name as #runs·run·at-most}
 use Rattle.runs.proofs.run.at_most.Met as at-most-thm
@@ -71,9 +59,6 @@ use Rattle.runs.proofs.copy.out.Statement as stated
 use Rattle.runs.proofs.copy.out.Code as code
 use Rattle.runs.proofs.copy.out.Code.Mir as mir′
 
-abbrev stayed : Stays (out.ended .signature .params) (out.ended .kept)
-stayed = (stay-none-slice (0 ∷ []) tt (plain (λ _. R)) yes, tt)
-
 abbrev word : Ty
 word = tyInt w64
 
@@ -85,18 +70,9 @@ module _ {M : Type 1} (𝓤 : URA M) (H : Heap 𝓤) (A : Atoms 𝓤) (mem : Mem
   abbrev Blanks : Contract 𝓤
   Blanks = tripleOf 𝓤 H A blanks′.signature (blanks′.spec 𝓤 H A mem run)
 
-  blanks-of : (r : List Run) → ent 𝓤 (ensured 𝓤 H A blanks′.ended (blanks′.clauses 𝓤 H A mem run) tt tt tt r) (fact 𝓤 (r ≡ blanks))
-  blanks-of r = exE 𝓤 _ (λ ws. snd∗ 𝓤 (sem 𝓤 H A (lasts blanks′.ended tt tt ws)) (fact 𝓤 (r ≡ blanks)))
-
 module _ {M : Type 1} (𝓤 : URA M) (H : Heap 𝓤) (A : Atoms 𝓤) (W : Given 𝓤 H A) (mem : Memory → SProp 𝓤) (run : Routine → Fun 𝓤) (κ : Lft) (q : Share) (b o : ℕ) (γ : GName) (ys : List Run) (gn : Room R (length ys)) where
-  abbrev x : RefT (List Run) × Unit {0}
-  x = (record { ptr = (b, o); name = γ; now = ys }, tt)
-
-  abbrev at : List Val × Unit {0}
-  at = (sliceVal (b, o) (length ys) ∷ [], tt)
-
   abbrev Post : Val → SProp 𝓤
-  Post = walkOf 𝓤 H A out.ended stayed (out.clauses 𝓤 H A mem run) .post (((κ, tt), (q, tt), tt, x, at), tt)
+  Post = CopyOut 𝓤 H A mem run .post (to-out 𝓤 H A mem run κ q b o γ ys)
 
   -- how far the loop counts, and the array after i turns
   abbrev n : ℕ
@@ -107,13 +83,6 @@ module _ {M : Type 1} (𝓤 : URA M) (H : Heap 𝓤) (A : Atoms 𝓤) (W : Given
 
   copied-length : (i : ℕ) → i ≤ n → length (copied i) ≡ 132
   copied-length i h = simp (length-append, length-take, length-drop) (omega arith)
-
-  exits : (zs : List Run) (v : Val) → zs ≡ over ys blanks
-      → ent 𝓤 (⋆ 𝓤 H A (‵ (flft κ q) ∷ ‵ (ShrSlice (named 0) κ R .own (x .0) (at .0)) ∷ ‵ (Runs .own zs (v ∷ [])) ∷ [])) (Post v)
-  exits zs v e =
-      qed W (‵ (flft κ q) ∷ ‵ (ShrSlice (named 0) κ R .own (x .0) (at .0)) ∷ ‵ (Runs .own zs (v ∷ [])) ∷ []) ∵
-      suffices ! _ (ends-at 𝓤 H A out.ended stayed (out.clauses 𝓤 H A mem run) W (((κ, tt), (q, tt), tt, x, at), tt) v zs (tt, tt) (tt, tt)) $ says ! e $
-      nothing ! $ move ! (1 ∷ 0 ∷ []) $ join ! $ nothing ! $ move ! (2 ∷ 0 ∷ []) $ fjoin ! $ move ! (1 ∷ 0 ∷ []) $ frame ! $ frame ! $ done !
 
   module _ (𝓣 : Tables 𝓤 H) (q′ : Share) (l₀ l₁ l₂ l₃ l₄ l₅ l₆ l₇ l₈ l₉ l₁₀ l₁₁ l₁₂ l₁₃ : ℕ) where
     abbrev C : Calls 𝓤 H
@@ -133,8 +102,7 @@ module _ {M : Type 1} (𝓤 : URA M) (H : Heap 𝓤) (A : Atoms 𝓤) (W : Given
         ∷ ‵ (froom tyBool l₇ 0) ∷ ‵ (fdies tyBool l₇) ∷ ‵ (froom runs-mir l₆ 0) ∷ ‵ (fdies runs-mir l₆) ∷ ‵ (froom word l₅ 0) ∷ ‵ (fdies word l₅)
         ∷ ‵ (fat fullShare word l₄ 0 (vint w64 (i .0))) ∷ ‵ (fdies word l₄) ∷ ‵ (fdies runs-mir l₃) ∷ ‵ (fat fullShare word l₂ 0 (vint w64 n)) ∷ ‵ (fdies word l₂)
         ∷ ‵ (fat fullShare slice l₁ 0 (sliceVal (b, o) (length ys))) ∷ ‵ (fdies slice l₁) ∷ ‵ (froom runs-mir l₀ 0) ∷ ‵ (fdies runs-mir l₀)
-        ∷ ‵ (fobor κ q (arr-parts (shares R) (length ys) .part q′ ys b o)) ∷ ‵ (fshr-bor κ (λ s. arr-parts (shares R) (length ys) .part s ys b o))
-        ∷ ‵ (fres γ (codedHoleys R .code (heres R ys))) ∷ []
+        ∷ ‵ (fobor κ q (arr-parts (shares R) (length ys) .part q′ ys b o)) ∷ []
 
     abbrev Turned : Upto n → Out → SProp 𝓤
     Turned i = afterTurn 𝓤 H (Below 𝓤 H A (Nearer n) At i) (afterBlock 𝓤 H (afterSeq 𝓤 H (Wp 𝓤 H C Λ En mir′.t-7 (atReturn 𝓤 H En Post)) (atReturn 𝓤 H En Post)))
@@ -182,19 +150,17 @@ module _ {M : Type 1} (𝓤 : URA M) (H : Heap 𝓤) (A : Atoms 𝓤) (W : Given
         rewrite ! 14 (λ (t : Bool). ‵ (fat fullShare tyBool l₇ 0 (vbool t))) (le-ltb (i .0) n all) refl $ leaves-loop ! (load ! (from ! (stop !)) (look ! 14 refl)) $
         exec ! C Λ En mir′.t-7 (atRet En Post) $
         -- the array's runs are one value again
-        move ! (1 ∷ []) $ feqI ! ℕ (length (copied (i .0))) 132 (copied-length (i .0) (i .1)) $ fjoin ! $
-        use1 W (‵ (fat fullShare runs-mir l₃ 0 (runs-val (copied (i .0)))) ⊛ ‵ (Runs .own (copied (i .0)) (runs-val (copied (i .0)) ∷ []))) (slot-out 𝓤 H A W (copied (i .0)) l₃) $ split ! $
-        move ! (1 ∷ []) $ peeks ! Runs (Is Runs) (shows 𝓤 H A Runs) (copied (i .0)) (runs-val (copied (i .0)) ∷ []) (λ is.
-        -- [what the array owns; _3; the slice's runs; _13; …]
-        assigns ! (of-opd ! (load ! (from ! (stop !)) (look ! 1 refl))) (from ! (stop !)) (init ! 28 refl (runs-typed 𝓤 H A W (copied (i .0)) is)) $
-        move ! (2 ∷ 30 ∷ []) $ shuts-slice ! tt R q′ ys b o $
-        -- [the token; what the array owns; _3; _13; …; _0; …; the fractured borrow; res]
-        returns ! (look ! 28 refl) $ forget ! 2 refl $ forget ! 15 refl $ forget ! 21 refl $ forget ! 24 refl $ forget ! 26 refl $ forget ! 28 refl $
-        move ! (28 ∷ 29 ∷ []) $ free1 ! $ move ! (26 ∷ 27 ∷ []) $ free1 ! $ move ! (24 ∷ 25 ∷ []) $ free1 ! $ move ! (2 ∷ 23 ∷ []) $ free1 ! $
-        move ! (20 ∷ 21 ∷ []) $ free1 ! $ move ! (18 ∷ 19 ∷ []) $ free1 ! $ move ! (16 ∷ 17 ∷ []) $ free1 ! $ move ! (14 ∷ 15 ∷ []) $ free1 ! $ move ! (12 ∷ 13 ∷ []) $ free1 ! $
-        move ! (10 ∷ 11 ∷ []) $ free1 ! $ move ! (8 ∷ 9 ∷ []) $ free1 ! $ move ! (6 ∷ 7 ∷ []) $ free1 ! $ move ! (4 ∷ 5 ∷ []) $ free1 ! $ move ! (2 ∷ 3 ∷ []) $ free1 ! $ free0 ! $
-        move ! (3 ∷ 2 ∷ []) $ fjoin ! $ pureI ! (at-slice R (x .0) (at .0)) (tt, (tt, tt)) (refl, gn) $ fjoin ! $ keep ! (1 ∷ 0 ∷ 2 ∷ []) $
-        by ! (exits (copied (i .0)) (runs-val (copied (i .0))) (ap copied (le-antisymm (i .1) all) ∙ sym (over-is ys blanks))))
+        move ! (1 ∷ []) $ slot-out ! (copied (i .0)) l₃ (copied-length (i .0) (i .1)) (λ is.
+        -- [_3; the slice's runs; _13; …]
+        assigns ! (of-opd ! (load ! (from ! (stop !)) (look ! 0 refl))) (from ! (stop !)) (init ! 27 refl (runs-typed 𝓤 H A W (copied (i .0)) is)) $
+        move ! (1 ∷ 29 ∷ []) $ shuts-slice ! tt R q′ ys b o $
+        -- [the token; _3; _13; …; _0; …]
+        returns ! (look ! 27 refl) $ forget ! 1 refl $ forget ! 14 refl $ forget ! 20 refl $ forget ! 23 refl $ forget ! 25 refl $ forget ! 27 refl $
+        move ! (27 ∷ 28 ∷ []) $ free1 ! $ move ! (25 ∷ 26 ∷ []) $ free1 ! $ move ! (23 ∷ 24 ∷ []) $ free1 ! $ move ! (1 ∷ 22 ∷ []) $ free1 ! $
+        move ! (19 ∷ 20 ∷ []) $ free1 ! $ move ! (17 ∷ 18 ∷ []) $ free1 ! $ move ! (15 ∷ 16 ∷ []) $ free1 ! $ move ! (13 ∷ 14 ∷ []) $ free1 ! $ move ! (11 ∷ 12 ∷ []) $ free1 ! $
+        move ! (9 ∷ 10 ∷ []) $ free1 ! $ move ! (7 ∷ 8 ∷ []) $ free1 ! $ move ! (5 ∷ 6 ∷ []) $ free1 ! $ move ! (3 ∷ 4 ∷ []) $ free1 ! $ move ! (1 ∷ 2 ∷ []) $ free1 ! $ free0 ! $
+        owned ! Runs (Is Runs) (runs-makes 𝓤 H A W) (copied (i .0)) (runs-val (copied (i .0)) ∷ []) is $
+        by ! (gives 𝓤 H A W out.ended (out.clauses 𝓤 H A mem run) (to-out 𝓤 H A mem run κ q b o γ ys) _ (copied (i .0)) (tt, tt) (factI 𝓤 _ (emp 𝓤) (ap copied (le-antisymm (i .1) all) ∙ sym (over-is ys blanks)))))
 
     turns : (i : Upto n) → Sq W (At i) (runs C Λ En mir′.turn-1 (anyQ (Turned i)))
     turns i = ⊎-elim (ends i) (more i) (order n (i .0))
@@ -203,34 +169,27 @@ module _ {M : Type 1} (𝓤 : URA M) (H : Heap 𝓤) (A : Atoms 𝓤) (W : Given
     fm : FmC 𝓤 H (W .laws) (𝓣 .C)
     fm = fmOf 𝓤 H (W .laws) 𝓣
 
-    asks : ent 𝓤 (emp 𝓤) (Blanks 𝓤 H A mem run .pre ((tt, tt, tt, tt, tt), tt))
-    asks = qed W [] ∵ nothing ! $ nothing ! $ join ! $ frame ! $ nothing ! $ done !
-
-    walk : ent 𝓤 (onEntry 𝓤 H A out.signature (κ, tt) (q, tt) x at) (WpFn 𝓤 H (𝓣 .C) (𝓣 .Λ) code.function (sliceVal (b, o) (length ys) ∷ []) Post)
+    walk : ent 𝓤 (⋆ 𝓤 H A (entry 𝓤 H A out.signature (to-out 𝓤 H A mem run κ q b o γ ys .0))) (WpFn 𝓤 H (𝓣 .C) (𝓣 .Λ) code.function (sliceVal (b, o) (length ys) ∷ []) Post)
     walk =
-        qed W ((‵ (flft κ q) ⊛ ‵ ftrue) ∷ ‵ (owns (ShrSlice (named 0) κ R ∷ []) x at) ∷ []) ∵ enter ! (𝓣 .C) (𝓣 .Λ) code.function (sliceVal (b, o) (length ys) ∷ []) _ $
+        qed W (entry 𝓤 H A out.signature (to-out 𝓤 H A mem run κ q b o γ ys .0)) ∵ enter ! (𝓣 .C) (𝓣 .Λ) code.function _ _ $
         alloc1 ! (λ l₀. alloc1 ! (λ l₁. alloc1 ! (λ l₂. alloc1 ! (λ l₃. alloc1 ! (λ l₄. alloc1 ! (λ l₅. alloc1 ! (λ l₆. alloc1 ! (λ l₇. alloc1 ! (λ l₈. alloc1 ! (λ l₉. alloc1 ! (λ l₁₀. alloc1 ! (λ l₁₁. alloc1 ! (λ l₁₂. alloc1 ! (λ l₁₃. alloc0 ! $ params1 ! $
         pass1 ! (init ! 24 refl (tt, (tt, (record { fits = gn .0 }, tt)))) $ pass0 ! $
         -- [_13; …; _0; …; the token; what rows owns]
         assigns ! (of-opd ! (load ! (from ! (fld ! refl (stop !))) (look-in ! 24 (sub ! 1 refl (whole !))))) (from ! (stop !)) (init ! 16 refl (tt, record { fits = gn .0 })) $
         limits mem run fm ! known-limit (length ys) (gn .0) (and-then ! (load ! (from ! (stop !)) (look ! 17 refl)) (no-more !)) $ land ! (from ! (stop !)) (init ! 22 refl (tt, record { fits = few })) $
-        use0 W (raw (Blanks 𝓤 H A mem run .pre ((tt, tt, tt, tt, tt), tt))) asks $
-        calls-at ! fm (Blanks 𝓤 H A mem run) known-blanks ((tt, tt, tt, tt, tt), tt) (no-more !) (λ v.
-        use1 W (later (some (λ (r : List Run). (‵ ftrue ⊛ ‵ (Runs .own r (v ∷ []))) ⊛ raw (ensured 𝓤 H A blanks′.ended (blanks′.clauses 𝓤 H A mem run) tt tt tt r)))) (id⊢ 𝓤 _) $ await ! tt $ pick ! (λ r.
-        split ! $ move ! (1 ∷ []) $ use1 W (raw (fact 𝓤 (r ≡ blanks))) (blanks-of 𝓤 H A mem run r) $ heard ! (r ≡ blanks) (λ e. split ! $ toss ! $
-        rewrite ! 0 (λ (zs : List Run). ‵ (Runs .own zs (v ∷ []))) e refl $ peeks ! Runs (Is Runs) (shows 𝓤 H A Runs) blanks (v ∷ []) (λ is.
-        -- [what the blanks own; _13; …]
-        land ! (from ! (stop !)) (init ! 15 refl (runs-typed 𝓤 H A W blanks is)) $
-        assigns ! (of-opd ! (load ! (from ! (stop !)) (look ! 15 refl))) (from ! (stop !)) (init ! 21 refl (runs-typed 𝓤 H A W blanks is)) $
-        assigns ! (of-opd ! (lit ! tt)) (from ! (stop !)) (init ! 19 refl (tt, record { fits = lit< tt })) $
+        calls-for fm blanks′.ended (blanks′.clauses 𝓤 H A mem run) known-blanks (tt, tt, tt, tt, tt) tt (id⊢ 𝓤 (emp 𝓤)) ! (λ r zs. r ≡ blanks) (λ r zs. id⊢ 𝓤 _) (no-more !) (λ v r zs e.
+        rewrite ! 0 (λ (zs : List Run). ‵ (Runs .own zs (v ∷ []))) e refl $ facts ! Runs (Is Runs) (shows 𝓤 H A Runs) blanks (v ∷ []) (λ is.
+        land ! (from ! (stop !)) (init ! 14 refl (runs-typed 𝓤 H A W blanks is)) $
+        assigns ! (of-opd ! (load ! (from ! (stop !)) (look ! 14 refl))) (from ! (stop !)) (init ! 20 refl (runs-typed 𝓤 H A W blanks is)) $
+        assigns ! (of-opd ! (lit ! tt)) (from ! (stop !)) (init ! 18 refl (tt, record { fits = lit< tt })) $
         -- the slot's one value is its runs side by side
-        move ! (21 ∷ 0 ∷ []) $ use2 W (‵ (arr-parts (shares R) 132 .part fullShare blanks l₃ 0)) (slot-in 𝓤 H A W blanks l₃ v) $ fsplit ! $ toss ! $
-        move ! (29 ∷ []) $ fsplit ! $ fsplit ! $ toss ! $ fsplit ! $ move ! (31 ∷ []) $ split ! $ move ! (3 ∷ 0 ∷ []) $
+        move ! (20 ∷ []) $ slot-in ! blanks l₃ v is $
+        move ! (29 ∷ []) $ fsplit ! $ toss ! $ fsplit ! $ toss ! $ move ! (0 ∷ 29 ∷ []) $
         looks-slice ! tt R (Is R) (shows 𝓤 H A R) run-vals run-tells (LL.copy T.the-type T′.the-copy 𝓤 H A W) ys b o (λ q′.
-        -- [the slice's runs; the open borrow; the fractured borrow; true; res; true; the array's runs; _13; …]
-        forget ! 21 refl $ forget ! 23 refl $
-        keep ! (0 ∷ 6 ∷ 7 ∷ 8 ∷ 9 ∷ 10 ∷ 11 ∷ 12 ∷ 13 ∷ 14 ∷ 15 ∷ 16 ∷ 17 ∷ 18 ∷ 19 ∷ 20 ∷ 21 ∷ 22 ∷ 23 ∷ 24 ∷ 25 ∷ 26 ∷ 27 ∷ 28 ∷ 29 ∷ 30 ∷ 31 ∷ 32 ∷ 33 ∷ 1 ∷ 2 ∷ 4 ∷ []) $
-        first ! $ blocks ! $ loops ! 𝓣 (Nearer n) (Nearer-wf n) (At 𝓣 q′ l₀ l₁ l₂ l₃ l₄ l₅ l₆ l₇ l₈ l₉ l₁₀ l₁₁ l₁₂ l₁₃) (turns 𝓣 q′ l₀ l₁ l₂ l₃ l₄ l₅ l₆ l₇ l₈ l₉ l₁₀ l₁₁ l₁₂ l₁₃) (0, zero-le))))))))))))))))))))
+        -- [the slice's runs; the open borrow; the fractured borrow; the array's runs; _13; …]
+        forget ! 18 refl $ forget ! 20 refl $
+        keep ! (0 ∷ 3 ∷ 4 ∷ 5 ∷ 6 ∷ 7 ∷ 8 ∷ 9 ∷ 10 ∷ 11 ∷ 12 ∷ 13 ∷ 14 ∷ 15 ∷ 16 ∷ 17 ∷ 18 ∷ 19 ∷ 20 ∷ 21 ∷ 22 ∷ 23 ∷ 24 ∷ 25 ∷ 26 ∷ 27 ∷ 28 ∷ 29 ∷ 30 ∷ 1 ∷ []) $
+        first ! $ blocks ! $ loops ! 𝓣 (Nearer n) (Nearer-wf n) (At 𝓣 q′ l₀ l₁ l₂ l₃ l₄ l₅ l₆ l₇ l₈ l₉ l₁₀ l₁₁ l₁₂ l₁₃) (turns 𝓣 q′ l₀ l₁ l₂ l₃ l₄ l₅ l₆ l₇ l₈ l₉ l₁₀ l₁₁ l₁₂ l₁₃) (0, zero-le))))))))))))))))))
       where
         few : n < 2 ^ 64
         few = omega arith
@@ -238,7 +197,7 @@ module _ {M : Type 1} (𝓤 : URA M) (H : Heap 𝓤) (A : Atoms 𝓤) (W : Given
 module _ {M : Type 1} (𝓤 : URA M) (H : Heap 𝓤) (A : Atoms 𝓤) (W : Given 𝓤 H A) (mem : Memory → SProp 𝓤) (run : Routine → Fun 𝓤) (𝓣 : Tables 𝓤 H) (known-limit : Triple 𝓤 (𝓣 .C #runs·run·at-most) (AtMost 𝓤 H A mem run)) (known-blanks : Triple 𝓤 (𝓣 .C #runs·run·blanks) (Blanks 𝓤 H A mem run)) where
   out-meets : Meets 𝓤 H A out.signature (WpFn 𝓤 H (𝓣 .C) (𝓣 .Λ) code.function) (out.spec 𝓤 H A mem run)
   out-meets =
-      meets-by 𝓤 H A W out.ended stayed (goes-none-slice 𝓤 H A W 1 (0 ∷ []) tt (plain (λ _. R)) yes, tt) (out.clauses 𝓤 H A mem run) code.function 𝓣 (λ κs. (slice-vals, tt)) (λ κs. (shr-slice-tells (named 0) (κs .0) R, tt))
+      meets-by 𝓤 H A W out.ended (out.clauses 𝓤 H A mem run) code.function 𝓣 (λ κs. (slice-vals, tt)) (λ κs. (shr-slice-tells (named 0) (κs .0) R, tt))
       (λ κs qs bounds a g are. walk 𝓤 H A W mem run (κs .0) (qs .0) (a .0 .ptr .0) (a .0 .ptr .1) (a .0 .name) (a .0 .now) (are .0 .0 .1) 𝓣 known-limit known-blanks)
 
 pub out-spec : {M : Type 1} → stated.statement M

@@ -4,7 +4,7 @@ mod codes;
 mod fields;
 mod head;
 
-pub use body::Message;
+pub use body::Outline;
 pub use body::What;
 pub use body::contents;
 pub use body::find;

@@ -8,7 +8,7 @@ use mathlib.Core.Option.{Option, none, some}
 use native.Mathlib.Numerals.{add-one}
 use native.Mathlib.Omega.{arith}
 use borrow.Author.Tests.{lt-ltb, le-ltb}
-use lib.ListN.{length, getD, set, drop}
+use lib.ListN.{length, getD, set, take, drop}
 use lib.Seq.{sets, drop-drop}
 use Rattle.contracts.specs.File.{contractsOf}
 use Rattle.contracts.specs.HeaderLaws.{contracts-few}
@@ -18,17 +18,17 @@ use Rattle.laws.specs.Order.{order}
 use Rattle.layout.specs.declared.read.Verdict.{Verdict}
 use Rattle.layout.specs.declared.read.Verdict.the-variants as verdict
 use Rattle.layout.specs.declared.rows.Level.{Level}
-use Rattle.message.specs.declared.body.Message.{Message}
+use Rattle.layout.specs.Rows.{rowsOf}
 use Rattle.message.specs.declared.body.What.{What}
 use Rattle.message.specs.declared.body.What.the-variants as what
 use Rattle.message.specs.declared.codes.Kind.{Kind}
 use Rattle.message.specs.declared.codes.Kind.the-variants as kind
 use Rattle.message.specs.declared.head.Head.the-variants.{Good}
-use Rattle.message.specs.CallerLaws.{contents-good, framed-good, all-there}
+use Rattle.message.specs.CallerLaws.{contents-good, framed-good, all-there, cells-stored}
 use Rattle.message.specs.Codes.{levelOf}
 use Rattle.message.specs.Fields.{kindIn, lengthOf, numberOf}
 use Rattle.message.specs.Head.{framed}
-use Rattle.message.specs.Message.{keyOf, keyPlace, rowsRead, ofKind, ofVerdict, contentsOf, messageOf}
+use Rattle.message.specs.Message.{Message, keyOf, keyPlace, rowsRead, ofKind, ofVerdict, contentsOf, messageOf}
 use Rattle.message.specs.MessageLaws.{key-in, length-is}
 use Rattle.message.specs.Numbers.{verdictOf}
 use Rattle.sequence.specs.Row.{soundRow}
@@ -38,7 +38,7 @@ use Rattle.quotebox.specs.declared.act.Counts.{Counts}
 use Rattle.quotebox.specs.Acts.{boxAt, counted, changedBy, passed, actedAs, NumberActs, none as noCounts}
 use Rattle.quotebox.specs.ActsLaws.{acts-as}
 use Rattle.quotebox.specs.Applies.{Ready, Applies, Applied, AppliedAll}
-use Rattle.quotebox.specs.Batch.{Box, Acted, acted, refused, stored, contractIn, contractAt, numberActs, whatActs, messageActs, messagesAct}
+use Rattle.quotebox.specs.Batch.{Box, Acted, acted, refused, stored, contractIn, contractAt, recordOf, numberActs, whatActs, messageActs, messagesAct}
 use Rattle.quotebox.specs.MessagesLaws.{not-both, passed-acts, messages-next, messages-refused, messages-end, messages-over}
 
 module _ (records cells : List ℕ) (at number : ℕ) where
@@ -137,6 +137,12 @@ module _ (list : List ℕ) (letter before : ℕ) (row records : List ℕ) (i : �
 
         pub contract-room : (48 * (before + place) + 48 ≤ length records) × (before + place < 65536)
         contract-room = (omega (arith, kept, a .ready .enough), omega (arith, kept, contracts-few list (a .ready .header)))
+
+        -- of the lent cells in which its rows are stored its record is kept
+        pub cells-kept : (cells cells′ : List ℕ) → cells′ ≡ sets cells 0 (rowsRead bytes .cells) → length cells′ ≡ 37 → recordOf level cells′ ≡ recordOf level (message .cells)
+        cells-kept cells cells′ stored-there long =
+            ap (drop 5)
+            (cells-stored list letter bytes good cells cells′ stored-there long number level place (ap (λ (m : Message). m .what) (sym is) ∙ e ∙ u) ∙ ap (λ (m : Message). take (length (rowsOf level)) (m .cells)) (sym is))
 
 -- messages that were accepted: each is, and no byte is left over
 module _ (list : List ℕ) (letter : ℕ) (i : ℕ) (box : Box) (bytes : List ℕ) (final : Box) where

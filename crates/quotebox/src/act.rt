@@ -42,18 +42,19 @@ pub(crate) fn number_acts(row: &mut [u32; sequence::CELLS], i: usize, number: u3
     }
 }
 
-// Message i, which begins here.
+// Message i, which begins here; `cells` is for its rows.
 fn message_acts(
     list: &[u8],
     letter: u8,
     row: &mut [u32; sequence::CELLS],
     i: usize,
     bytes: &[u8],
+    cells: &mut [u64; 37],
 ) -> Step
     requires { ⌜ soundRow (now row) ≡ true ⌝ }
     ensures { λ r. ⌜ MessageActs (now (list .entry)) letter (now (row .entry)) i (now (bytes .entry)) r (now (row .exit)) ⌝ }
 {
-    let message = message::read(list, letter, bytes);
+    let message = message::read(list, letter, bytes, cells);
     let length = message.length;
     let what = message.what;
     let act = match what {
@@ -108,10 +109,11 @@ pub(crate) fn judge_messages(
         old: 0,
         heartbeats: 0,
     };
+    let mut cells = [0u64; 37];
     let mut at = 0;
     let mut i = 0;
     while i < count {
-        let step = message_acts(list, letter, row, i, &data[at..]);
+        let step = message_acts(list, letter, row, i, &data[at..], &mut cells);
         let act = step.act;
         if let Act::Refused(refusal) = act {
             return Judged::Refused(refusal);

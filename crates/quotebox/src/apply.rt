@@ -36,7 +36,7 @@ fn store(records: &mut [u64], contract: usize, level: Level, number: u32, cells:
     }
 }
 
-// Message i, which begins here, and how long it is; `before` contracts stand in front of its segment.
+// Message i, which begins here, and how long it is; `before` contracts stand in front of its segment, and `cells` is for its rows.
 fn apply_message(
     list: &[u8],
     letter: u8,
@@ -45,13 +45,13 @@ fn apply_message(
     records: &mut [u64],
     i: usize,
     bytes: &[u8],
+    cells: &mut [u64; 37],
 ) -> usize
     requires { ⌜ Applies (now list) letter before (now row) (now records) i (now bytes) ⌝ }
     ensures { λ r. ⌜ Applied (now (list .entry)) letter (now (row .entry)) (now (records .entry)) i (now (bytes .entry)) r (now (row .exit)) (now (records .exit)) ⌝ }
 {
-    let message = message::contents(list, letter, bytes);
+    let message = message::contents(list, letter, bytes, cells);
     let length = message.length;
-    let cells = message.cells;
     let what = message.what;
     match what {
         What::Heartbeat => length,
@@ -61,7 +61,7 @@ fn apply_message(
         }
         What::Update(number, level, place) => {
             if let Act::Taken = act::number_acts(row, i, number) {
-                store(records, before + place, level, number, &cells);
+                store(records, before + place, level, number, cells);
             }
             length
         }
@@ -81,10 +81,20 @@ pub(crate) fn apply_messages(
     requires { ⌜ AppliesAll (now list) letter before (now row) (now records) (now «data») count ⌝ }
     ensures { λ _. ⌜ AppliedAll (now (list .entry)) letter (now (row .entry)) (now (records .entry)) (now («data» .entry)) count (now (row .exit)) (now (records .exit)) ⌝ }
 {
+    let mut cells = [0u64; 37];
     let mut at = 0;
     let mut i = 0;
     while i < count {
-        at += apply_message(list, letter, before, row, records, i, &data[at..]);
+        at += apply_message(
+            list,
+            letter,
+            before,
+            row,
+            records,
+            i,
+            &data[at..],
+            &mut cells,
+        );
         i += 1;
     }
 }

@@ -20,16 +20,16 @@ use Rattle.quotebox.proofs.act.judge_messages.Statement.{statement}
 use Rattle.quotebox.proofs.act.judge_messages.Tie as tie
 
 abbrev Inv-loop : tie.InvT-loop
-Inv-loop list letter row₀ «data» count counts₀ at₀ i₀ row counts at i =
+Inv-loop list letter row₀ «data» count counts₀ cells₀ at₀ i₀ row counts cells at i =
     (i ≤ count) × (at ≤ length «data») × (soundRow row ≡ true) × (total counts ≡ i) × Going list letter row₀ «data» count row counts at i
 
 abbrev μ-loop : tie.MeasureT-loop
-μ-loop list letter row₀ «data» count counts₀ at₀ i₀ row counts at i = count - i
+μ-loop list letter row₀ «data» count counts₀ cells₀ at₀ i₀ row counts cells at i = count - i
 
 -- what is known once a message has acted
 module _ (c : tie.After-message-acts Inv-loop μ-loop) where
   abbrev head : tie.At-loop Inv-loop μ-loop
-  head = c .before .before .before .before
+  head = c .before .before .before .before .before
 
   abbrev start : tie.Start Inv-loop μ-loop
   start = head .before .before .before
@@ -50,13 +50,13 @@ module _ (c : tie.After-message-acts Inv-loop μ-loop) where
       → JudgedMessages (start .args .list .now) (start .args .letter) (start .args .row .now) bytes (start .args .count) (judged.Refused refusal)
   refused-here =
       going-refused (start .args .list .now) (start .args .letter) (start .args .row .now) bytes (start .args .count) (head .loop .row)
-      (head .loop .counts) (head .loop .at) (head .loop .i) (head .loop .inv .4) (c .before .before .before .loop-test .taken) (c .message-acts .result) row′ acts
+      (head .loop .counts) (head .loop .at) (head .loop .i) (head .loop .inv .4) (c .before .before .before .before .loop-test .taken) (c .message-acts .result) row′ acts
 
   goes-on : passed (c .message-acts .result .act) ≡ true
       → Going (start .args .list .now) (start .args .letter) (start .args .row .now) bytes (start .args .count) row′ (counted (c .message-acts .result .act) (head .loop .counts)) (head .loop .at + c .message-acts .result .length) (head .loop .i + 1)
   goes-on =
       going-on (start .args .list .now) (start .args .letter) (start .args .row .now) bytes (start .args .count) (head .loop .row)
-      (head .loop .counts) (head .loop .at) (head .loop .i) (head .loop .inv .4) (c .before .before .before .loop-test .taken) (c .message-acts .result) row′ acts
+      (head .loop .counts) (head .loop .at) (head .loop .i) (head .loop .inv .4) (c .before .before .before .before .loop-test .taken) (c .message-acts .result) row′ acts
 
 -- only a refusal doesn't pass
 passes : (act : Act) → (tagOf the-type act ≡ 0) ⊎ ((tagOf the-type act ≡ 1) ⊎ (tagOf the-type act ≡ 2)) → passed act ≡ true
@@ -81,7 +81,7 @@ part-message-acts-end : tie.Need-part-message-acts-end Inv-loop μ-loop
 part-message-acts-end c = search needs
 
 message-acts-requires : tie.Need-message-acts-requires Inv-loop μ-loop
-message-acts-requires c κs = c .before .before .before .loop .inv .2
+message-acts-requires c κs = c .before .before .before .before .loop .inv .2
 
 enum-known-act : tie.Need-enum-known-act Inv-loop μ-loop
 enum-known-act c = search needs
@@ -90,23 +90,23 @@ returns : tie.Need-returns Inv-loop μ-loop
 returns c = refused-here (c .before .before .before) _ (c .before .act .given .1)
 
 counted-requires : tie.Need-counted-requires Inv-loop μ-loop
-counted-requires c κs = omega (arith, c .before .before .before .before .before .loop .inv .3, c .before .before .before .before .loop-test .taken, (start (c .before)) .pre .1)
+counted-requires c κs = omega (arith, c .before .before .before .before .before .before .loop .inv .3, c .before .before .before .before .before .loop-test .taken, (start (c .before)) .pre .1)
 
 add-at : tie.Need-add-at Inv-loop μ-loop
 add-at c = omega (arith, inside (c .before .before .before) (passed-on (c .before .before)), start (c .before .before .before) .good)
 
 add-i : tie.Need-add-i Inv-loop μ-loop
-add-i c = omega (arith, c .before .before .before .before .before .before .loop-test .taken, start (c .before .before .before) .pre .1)
+add-i c = omega (arith, c .before .before .before .before .before .before .before .loop-test .taken, start (c .before .before .before) .pre .1)
 
 loop-less : tie.Need-loop-less Inv-loop μ-loop
-loop-less c = omega (arith, c .before .before .before .before .before .before .loop-test .taken)
+loop-less c = omega (arith, c .before .before .before .before .before .before .before .loop-test .taken)
 
 loop-again : tie.Need-loop-again Inv-loop μ-loop
 loop-again c =
     let d = c .before .before .before in
     let p = passed-on (c .before .before) in
     let more = counted-one (d .message-acts .result .act) (head d .loop .counts) p in (
-      omega (arith, d .before .before .before .loop-test .taken),
+      omega (arith, d .before .before .before .before .loop-test .taken),
       inside d p,
       acts d .sound,
       rw (c .before .counted .ensures) (omega (arith, head d .loop .inv .3)),

@@ -14,11 +14,11 @@ use Rattle.quotebox.proofs.apply.apply_messages.Statement.{statement}
 use Rattle.quotebox.proofs.apply.apply_messages.Tie as tie
 
 abbrev Inv-loop : tie.InvT-loop
-Inv-loop list letter before row₀ records₀ «data» count at₀ i₀ row records at i =
+Inv-loop list letter before row₀ records₀ «data» count cells₀ at₀ i₀ row records cells at i =
     (i ≤ count) × (at ≤ length «data») × (soundRow row ≡ true) × (length records ≡ length records₀) × AppliedTo list letter row₀ records₀ «data» count row records at i
 
 abbrev μ-loop : tie.MeasureT-loop
-μ-loop list letter before row₀ records₀ «data» count at₀ i₀ row records at i = count - i
+μ-loop list letter before row₀ records₀ «data» count cells₀ at₀ i₀ row records cells at i = count - i
 
 -- what is known before a message is applied
 module _ (c : tie.In-loop Inv-loop μ-loop) where
@@ -51,7 +51,7 @@ module _ (c : tie.In-loop Inv-loop μ-loop) where
 -- and once it is
 module _ (c : tie.After-apply-message Inv-loop μ-loop) where
   abbrev loop-in : tie.In-loop Inv-loop μ-loop
-  loop-in = c .before .before .before .before
+  loop-in = c .before .before .before .before .before
 
   abbrev row′ : List ℕ
   row′ = c .apply-message .last .1 .1 .1 .0
@@ -86,16 +86,16 @@ part-apply-message-end : tie.Need-part-apply-message-end Inv-loop μ-loop
 part-apply-message-end c = search needs
 
 apply-message-requires : tie.Need-apply-message-requires Inv-loop μ-loop
-apply-message-requires c κs = let d = c .before .before .before in rw (rest-is (bytes d) (head d .loop .at) (head d .loop .inv .1)) (applies d)
+apply-message-requires c κs = let d = c .before .before .before .before in rw (rest-is (bytes d) (head d .loop .at) (head d .loop .inv .1)) (applies d)
 
 add-at : tie.Need-add-at Inv-loop μ-loop
 add-at c = omega (arith, inside (c .before .before), start (loop-in (c .before .before)) .good)
 
 add-i : tie.Need-add-i Inv-loop μ-loop
-add-i c = omega (arith, c .before .before .before .before .before .before .loop-test .taken, start (loop-in (c .before .before)) .fits .count)
+add-i c = omega (arith, c .before .before .before .before .before .before .before .loop-test .taken, start (loop-in (c .before .before)) .fits .count)
 
 loop-less : tie.Need-loop-less Inv-loop μ-loop
-loop-less c = omega (arith, c .before .before .before .before .before .before .loop-test .taken)
+loop-less c = omega (arith, c .before .before .before .before .before .before .before .loop-test .taken)
 
 loop-again : tie.Need-loop-again Inv-loop μ-loop
 loop-again c = let d = c .before .before in (omega (arith, loop-in d .loop-test .taken), inside d, applied d .sound, d .apply-message .kept .1 .1 .1 .1 .0 ∙ head (loop-in d) .loop .inv .3, goes-on d)

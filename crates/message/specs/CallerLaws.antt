@@ -6,7 +6,8 @@ use mathlib.Core.Logic.{_↔_}
 use mathlib.Core.List.{List}
 use mathlib.Core.Option.{Option, none, some}
 use native.Mathlib.Omega.{arith}
-use lib.ListN.{length}
+use lib.ListN.{length, take}
+use lib.Seq.{sets, length-sets}
 use Rattle.laws.specs.Choice.{never}
 use Rattle.contracts.specs.Lookup.{segmentOf}
 use Rattle.layout.specs.declared.read.Verdict.{Verdict}
@@ -14,7 +15,9 @@ use Rattle.layout.specs.declared.read.Verdict.the-variants as verdict
 use Rattle.layout.specs.declared.rows.Level.{Level}
 use Rattle.layout.specs.Cells.{filled}
 use Rattle.layout.specs.Read.{readRows}
+use Rattle.layout.specs.ReadLaws.{front-stored}
 use Rattle.layout.specs.Rows.{rowsOf, messageLength}
+use Rattle.layout.specs.RowsLaws.{rows-fit}
 use Rattle.message.specs.declared.body.What.{What}
 use Rattle.message.specs.declared.body.What.the-variants as what
 use Rattle.message.specs.declared.codes.Kind.{Kind}
@@ -137,3 +140,13 @@ module _ (list : List ℕ) (letter : ℕ) (bytes : List ℕ) (good : verdictOf (
         rows-good = rw (p .0, p .2) at rows-good;
         cells-are = rw (p .0, p .2) at (ap (λ m. m .cells) contents-good);
       }
+
+  -- lent cells in which its rows are stored have its cells in front
+  pub cells-stored : (cells cells′ : List ℕ) → cells′ ≡ sets cells 0 (rowsRead bytes .cells) → length cells′ ≡ 37 → (number : ℕ) (level : Level) (place : ℕ)
+      → messageOf list letter bytes .what ≡ what.Update number level place
+      → take (length (rowsOf level)) cells′ ≡ take (length (rowsOf level)) (messageOf list letter bytes .cells)
+  cells-stored cells cells′ stored long number level place e =
+      let u = update-told number level place e in
+      let level-is : levelOf (lengthOf bytes) ≡ level = ap levelOf (u .level-is) ∙ level-back level in
+      let same : length cells′ ≡ length cells = ap length stored ∙ length-sets cells 0 (rowsRead bytes .cells) in
+      rw (stored, u .cells-are, u .kind-is, level-is) (front-stored (rowsOf level) (dataOf bytes) cells (omega (arith, rows-fit level)) (u .rows-good))

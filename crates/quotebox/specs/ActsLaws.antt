@@ -13,14 +13,13 @@ use Rattle.sequence.specs.Row.{gapsOf, laid, soundRow}
 use Rattle.sequence.specs.RowLaws.{laid-self, sound-row-exactly}
 use Rattle.quotebox.specs.declared.act.Act.{Act}
 use Rattle.quotebox.specs.declared.act.Act.the-variants as act
-use Rattle.message.specs.declared.body.Message.{Message}
 use Rattle.message.specs.declared.body.What.{What}
 use Rattle.message.specs.declared.body.What.the-variants as what
 use Rattle.message.specs.declared.head.Fault.{Fault}
 use Rattle.message.specs.declared.head.Head.the-variants.{Good}
 use Rattle.message.specs.CallerLaws.{all-there}
 use Rattle.message.specs.Fields.{lengthOf}
-use Rattle.message.specs.Message.{messageOf}
+use Rattle.message.specs.Message.{Message, messageOf}
 use Rattle.message.specs.MessageLaws.{length-is}
 use Rattle.message.specs.Numbers.{verdictOf}
 use Rattle.quotebox.specs.declared.refusal.Refusal.{Refusal}

@@ -3,7 +3,7 @@ ghost use mathlib.Core.Path.{_≡_};
 ghost use mathlib.Core.Bool.{true};
 ghost use Prim.Native.Nat.{_<_};
 ghost use Rattle.sequence.specs.Row.{soundRow};
-ghost use Rattle.quotebox.specs.Acts.{counted, total, Ready, NumberActs, MessageActs, JudgedMessages, turnOf};
+ghost use Rattle.quotebox.specs.Acts.{counted, none, total, Ready, NumberActs, MessageActs, JudgedMessages, turnOf};
 ghost use lib.ListN.{length};
 use crate::answers::Judged;
 use crate::refusal;
@@ -51,7 +51,7 @@ pub(crate) fn number_acts(row: &mut [u32; sequence::CELLS], i: usize, number: u3
     }
 }
 
-// Message i, which begins here; `before` contracts stand in front of its segment.
+// Message i, which begins here; `before` contracts stand in front of its segment, and `cells` is for its rows.
 fn message_acts(
     list: &[u8],
     letter: u8,
@@ -61,13 +61,13 @@ fn message_acts(
     kept: usize,
     i: usize,
     bytes: &[u8],
+    cells: &mut [u64; 37],
 ) -> Step
     requires { ⌜ Ready (now list) letter before (now row) (now stores) kept ⌝ }
     ensures { λ r. ⌜ MessageActs (now (list .entry)) letter (now (row .entry)) (now (stores .entry)) kept i (now (bytes .entry)) r (now (row .exit)) (now (stores .exit)) ⌝ }
 {
-    let message = message::read(list, letter, bytes);
+    let message = message::read(list, letter, bytes, cells);
     let length = message.length;
-    let cells = message.cells;
     let what = message.what;
     let mut kept = kept;
     let act = match what {
@@ -76,7 +76,7 @@ fn message_acts(
         What::Update(number, level, place) => {
             let act = number_acts(row, i, number);
             if let Act::Taken = act {
-                kept = stores::keep(stores, kept, before + place, level, number, &cells);
+                kept = stores::keep(stores, kept, before + place, level, number, cells);
             }
             act
         }
@@ -118,6 +118,17 @@ fn answered(answer: Judged, kept: usize) -> InTurn
     InTurn { answer, kept }
 }
 
+// Before the first message.
+fn none() -> Counts
+    ensures { λ r. ⌜ r ≡ none ⌝ }
+{
+    Counts {
+        taken: 0,
+        old: 0,
+        heartbeats: 0,
+    }
+}
+
 // The messages in turn, each where the one before it ends; last, bytes left over (4). Of a refused batch no store is kept.
 pub(crate) fn judge_messages(
     list: &[u8],
@@ -131,16 +142,14 @@ pub(crate) fn judge_messages(
     requires { ⌜ Ready (now list) letter before (now row) (now stores) 0 × (count < 65536) ⌝ }
     ensures { λ r. ⌜ JudgedMessages (now (list .entry)) letter (now (row .entry)) (length (now (stores .entry))) (now («data» .entry)) count r (now (row .exit)) (now (stores .exit)) ⌝ }
 {
-    let mut counts = Counts {
-        taken: 0,
-        old: 0,
-        heartbeats: 0,
-    };
+    let mut cells = [0u64; 37];
+    let mut counts = none();
     let mut kept = 0;
     let mut at = 0;
     let mut i = 0;
     while i < count {
-        let step = message_acts(list, letter, before, row, stores, kept, i, &data[at..]);
+        let part = &data[at..];
+        let step = message_acts(list, letter, before, row, stores, kept, i, part, &mut cells);
         let act = step.act;
         if let Act::Refused(refusal) = act {
             return answered(Judged::Refused(refusal), 0);
@@ -153,8 +162,6 @@ pub(crate) fn judge_messages(
     if at < data.len() {
         return answered(Judged::Refused(Refusal::Count), 0);
     }
-    answered(
-        Judged::Accepted(counts.taken, counts.old, counts.heartbeats),
-        kept,
-    )
+    let accepted = Judged::Accepted(counts.taken, counts.old, counts.heartbeats);
+    answered(accepted, kept)
 }

@@ -19,23 +19,23 @@ use Rattle.quotebox.proofs.act.judge_messages.Statement.{statement}
 use Rattle.quotebox.proofs.act.judge_messages.Tie as tie
 
 abbrev Inv-loop : tie.InvT-loop
-Inv-loop list letter before row₀ stores₀ «data» count counts₀ kept₀ at₀ i₀ row stores counts kept at i =
+Inv-loop list letter before row₀ stores₀ «data» count cells₀ counts₀ kept₀ at₀ i₀ row stores cells counts kept at i =
     (i ≤ count) × (at ≤ length «data») × (soundRow row ≡ true) × (total counts ≡ i) × (length stores ≡ length stores₀) × Going list letter row₀ (length stores₀) «data» count row stores kept counts at i
 
 abbrev μ-loop : tie.MeasureT-loop
-μ-loop list letter before row₀ stores₀ «data» count counts₀ kept₀ at₀ i₀ row stores counts kept at i =
+μ-loop list letter before row₀ stores₀ «data» count cells₀ counts₀ kept₀ at₀ i₀ row stores cells counts kept at i =
     count - i
 
 -- what is known once a message has acted
 module _ (c : tie.After-message-acts Inv-loop μ-loop) where
   abbrev turn : tie.In-loop Inv-loop μ-loop
-  turn = c .before .before .before .before
+  turn = c .before .before .before .before .before
 
   abbrev head : tie.At-loop Inv-loop μ-loop
   head = turn .before
 
   abbrev start : tie.Start Inv-loop μ-loop
-  start = head .before .before .before .before
+  start = head .before .before .before .before .before
 
   abbrev bytes : List ℕ
   bytes = start .args .«data» .now
@@ -65,22 +65,26 @@ passes (Refused refusal) t = absurd (⊎-elim (λ (h : 3 ≡ 0). omega arith) (�
 passed-on : (c : tie.At-match-keys2 Inv-loop μ-loop) → passed (step (c .before .before .before) .act) ≡ true
 passed-on c = passes (step (c .before .before .before) .act) (c .match .keys2)
 
+none-requires : tie.Need-none-requires Inv-loop μ-loop
+none-requires c κs = search needs
+
 loop-holds : tie.Need-loop-holds Inv-loop μ-loop
-loop-holds c = (omega arith, omega arith, c .before .before .before .pre .0 .sound, refl, refl, begins _ _ _ _ _ _ _)
+loop-holds c = rw (c .none .ensures) (omega arith, omega arith, c .before .before .before .before .pre .0 .sound, refl, refl, begins _ _ _ _ _ _ _)
 
-sub-message-acts : tie.Need-sub-message-acts Inv-loop μ-loop
-sub-message-acts c = c .before .before .before .loop .inv .1
+sub-part : tie.Need-sub-part Inv-loop μ-loop
+sub-part c = c .before .loop .inv .1
 
-part-message-acts-start : tie.Need-part-message-acts-start Inv-loop μ-loop
-part-message-acts-start c = omega (arith, c .before .before .before .loop .inv .1)
+part-part-start : tie.Need-part-part-start Inv-loop μ-loop
+part-part-start c = omega (arith, c .before .loop .inv .1)
 
-part-message-acts-end : tie.Need-part-message-acts-end Inv-loop μ-loop
-part-message-acts-end c = search needs
+part-part-end : tie.Need-part-part-end Inv-loop μ-loop
+part-part-end c = search needs
 
 message-acts-requires : tie.Need-message-acts-requires Inv-loop μ-loop
 message-acts-requires c κs =
-    let l = c .before .before .before .before .loop in
-    let s = c .before .before .before .before .before .before .before .before in
+    let h = c .before .before .before .before .before in
+    let l = h .loop in
+    let s = h .before .before .before .before .before in
     record { header = s .pre .0 .header; before-is = s .pre .0 .before-is; sound = l .inv .2; within = omega (arith, l .inv .4, l .inv .5 .within) }
 
 enum-known-act : tie.Need-enum-known-act Inv-loop μ-loop
@@ -156,10 +160,11 @@ judge-messages-spec =
     (tie.spec
     Inv-loop
     μ-loop
+    none-requires
     loop-holds
-    sub-message-acts
-    part-message-acts-start
-    part-message-acts-end
+    sub-part
+    part-part-start
+    part-part-end
     message-acts-requires
     enum-known-act
     answered-requires

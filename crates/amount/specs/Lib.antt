@@ -3,12 +3,12 @@ pub mod CapLaws
 pub mod Denotes
 pub mod DigitLaws
 pub mod EndsLaws
+pub mod Kept
+pub mod KeptLaws
 pub mod Kinds
 pub mod Read
 pub mod ReadBack
 pub mod ReadLaws
-pub mod RunLaws
-pub mod Runs
 pub mod ValueLaws
 pub mod WalkLaws
 pub mod Write

@@ -51,10 +51,6 @@ module _ (places : ℕ) where
   step-other s c ns np (inl low) = simp (ne-eqb c space ns, ne-eqb c point np, lt-leb (digitChar 0) c low)
   step-other s c ns np (inr high) = simp (ne-eqb c space ns, ne-eqb c point np, lt-leb c (digitChar 9) high, cond-same)
 
-  step-bad : (c : ℕ) → step places Bad c ≡ Bad
-  unfolding step
-  step-bad c = simp cond-same
-
   -- ## What a run of characters does
 
   pub walk-cons : (s : State) (c : ℕ) (t : List ℕ) → walk places s (c ∷ t) ≡ walk places (step places s c) t
@@ -64,10 +60,6 @@ module _ (places : ℕ) where
   pub walk-nil : (s : State) → walk places s [] ≡ s
   unfolding walk
   walk-nil s = refl
-
-  pub walk-bad : (t : List ℕ) → walk places Bad t ≡ Bad
-  walk-bad [] = walk-nil Bad
-  walk-bad (c ∷ t) = rw (walk-cons, step-bad) (walk-bad t)
 
   spaces-before : (k : ℕ) (t : List ℕ) → walk places Before (replicate k space ++ t) ≡ walk places Before t
   spaces-before zero t = refl

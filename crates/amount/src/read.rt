@@ -1,11 +1,10 @@
 // How a number in text is read: one walk over the characters. What comes next is chosen by the character, then by what
-// was read before it. The rest of a run is passed at once: one more space changes nothing, one more digit only the amount.
+// was read before it.
 use crate::Number;
 ghost use mathlib.Core.Path.{_≡_};
-ghost use Prim.Native.Nat.{_+_, _-_, _*_, _^_, _/_, _%_, _≤_, _<_};
-ghost use lib.ListN.{length};
-ghost use Rattle.amount.specs.Read.{onSpace, onPoint, ranged, answer, readText};
-ghost use Rattle.amount.specs.Runs.{cap, soFar, fineness, afterDigits, PastSpaces, PastDigits};
+ghost use Prim.Native.Nat.{_+_, _-_, _*_, _^_, _/_, _%_, _<_};
+ghost use Rattle.amount.specs.Read.{onSpace, onPoint, onDigit, ranged, answer, readText};
+ghost use Rattle.amount.specs.Kept.{cap, phaseOf, fineness, joined, moved, Stepped};
 
 // What was read so far. An amount counts the place of the last digit read; beside it stands how many digits follow the
 // point.
@@ -24,10 +23,21 @@ pub enum State {
     Bad,
 }
 
-// Where a run of digits ends, and the amount with them.
-pub struct Run {
+// A state without its numbers.
+pub enum Phase {
+    Before,
+    Whole,
+    Pointed,
+    Fraction,
+    Behind,
+    Bad,
+}
+
+// A state as the walk carries it: the numbers stand beside the phase, so that the choice by the phase moves none of them.
+pub struct Kept {
+    pub phase: Phase,
     pub amount: u64,
-    pub end: usize,
+    pub digits: usize,
 }
 
 const SPACE: u8 = b' ';
@@ -95,19 +105,25 @@ fn digit(c: u8) -> u64
     std::num::wrapping_sub_u8(c, NOUGHT) as u64
 }
 
+// The largest amount that has room for the digit behind it.
+fn room_before(digit: u64) -> u64
+    requires { ⌜ digit < 10 ⌝ }
+    ensures { λ r. ⌜ r ≡ (2 ^ 64 - 1 - digit) / 10 ⌝ }
+{
+    if digit <= CEILING % 10 {
+        TENTH
+    } else {
+        TENTH - 1
+    }
+}
+
 // The amount with one more digit behind it.
 fn grown(amount: u64, digit: u64) -> u64
     requires { ⌜ digit < 10 ⌝ }
     ensures { λ r. ⌜ r ≡ cap (amount * 10 + digit) ⌝ }
 {
-    if amount < TENTH {
+    if amount <= room_before(digit) {
         amount * 10 + digit
-    } else if amount == TENTH {
-        if digit < CEILING % 10 {
-            amount * 10 + digit
-        } else {
-            CEILING
-        }
     } else {
         CEILING
     }
@@ -162,98 +178,112 @@ fn ranged(amount: u64, digits: usize, places: usize, max: u64) -> Number
     }
 }
 
-fn on_space(state: State) -> State
-    ensures { λ r. ⌜ r ≡ onSpace state ⌝ }
+fn on_space(phase: Phase) -> Phase
+    ensures { λ r. ⌜ r ≡ phaseOf (onSpace (joined phase 0 0)) ⌝ }
 {
-    match state {
-        State::Before => State::Before,
-        State::Whole(n) => State::Behind(n, 0),
-        State::Pointed(_) => State::Bad,
-        State::Fraction(n, k) => State::Behind(n, k),
-        State::Behind(n, k) => State::Behind(n, k),
-        State::Bad => State::Bad,
+    match phase {
+        Phase::Before => Phase::Before,
+        Phase::Whole => Phase::Behind,
+        Phase::Pointed => Phase::Bad,
+        Phase::Fraction => Phase::Behind,
+        Phase::Behind => Phase::Behind,
+        Phase::Bad => Phase::Bad,
     }
 }
 
-fn on_point(state: State, places: usize) -> State
-    ensures { λ r. ⌜ r ≡ onPoint places state ⌝ }
+fn on_point(phase: Phase, places: usize) -> Phase
+    ensures { λ r. ⌜ r ≡ phaseOf (onPoint places (joined phase 0 0)) ⌝ }
 {
-    match state {
-        State::Before => State::Bad,
-        State::Whole(n) => {
+    match phase {
+        Phase::Before => Phase::Bad,
+        Phase::Whole => {
             if places == 0 {
-                State::Bad
+                Phase::Bad
             } else {
-                State::Pointed(n)
+                Phase::Pointed
             }
         }
-        State::Pointed(_) => State::Bad,
-        State::Fraction(_, _) => State::Bad,
-        State::Behind(_, _) => State::Bad,
-        State::Bad => State::Bad,
+        Phase::Pointed => Phase::Bad,
+        Phase::Fraction => Phase::Bad,
+        Phase::Behind => Phase::Bad,
+        Phase::Bad => Phase::Bad,
     }
 }
 
-// The amount that a digit would be added to.
-fn so_far(state: State) -> u64
-    ensures { λ r. ⌜ r ≡ soFar state ⌝ }
+fn on_digit(phase: Phase) -> Phase
+    ensures { λ r. ⌜ r ≡ phaseOf (onDigit (joined phase 0 0) 0) ⌝ }
 {
-    match state {
-        State::Before => 0,
-        State::Whole(n) => n,
-        State::Pointed(n) => n,
-        State::Fraction(n, _) => n,
-        State::Behind(_, _) => 0,
-        State::Bad => 0,
+    match phase {
+        Phase::Before => Phase::Whole,
+        Phase::Whole => Phase::Whole,
+        Phase::Pointed => Phase::Fraction,
+        Phase::Fraction => Phase::Fraction,
+        Phase::Behind => Phase::Bad,
+        Phase::Bad => Phase::Bad,
     }
 }
 
-// After a run of count digits that makes the amount.
-fn on_digits(state: State, amount: u64, count: usize) -> State
-    requires { ⌜ fineness state + count < 2 ^ 64 ⌝ }
-    ensures { λ r. ⌜ r ≡ afterDigits state amount count ⌝ }
+// 1 where a digit stands behind the point.
+fn behind_point(phase: Phase) -> usize
+    ensures { λ r. ⌜ r ≡ fineness (onDigit (joined phase 0 0) 0) ⌝ }
 {
-    match state {
-        State::Before => State::Whole(amount),
-        State::Whole(_) => State::Whole(amount),
-        State::Pointed(_) => State::Fraction(amount, count),
-        State::Fraction(_, k) => State::Fraction(amount, k + count),
-        State::Behind(_, _) => State::Bad,
-        State::Bad => State::Bad,
+    match phase {
+        Phase::Before => 0,
+        Phase::Whole => 0,
+        Phase::Pointed => 1,
+        Phase::Fraction => 1,
+        Phase::Behind => 0,
+        Phase::Bad => 0,
     }
 }
 
-// Where the spaces end that stand from there on.
-fn past_spaces(text: &[u8], from: usize) -> usize
-    requires { ⌜ from ≤ length (now text) ⌝ }
-    ensures { λ r. ⌜ PastSpaces (now (text .entry)) from r ⌝ }
+// In another phase with the same numbers.
+fn moved(kept: Kept, phase: Phase) -> Kept
+    ensures { λ r. ⌜ r ≡ moved kept phase ⌝ }
 {
-    let mut i = from;
-    while i < text.len() {
-        if text[i] != SPACE {
-            return i;
-        }
-        i += 1;
+    Kept {
+        phase,
+        amount: kept.amount,
+        digits: kept.digits,
     }
-    i
 }
 
-// Where the digits end that stand from there on, and the amount with them.
-fn past_digits(text: &[u8], from: usize, amount: u64) -> Run
-    requires { ⌜ from ≤ length (now text) ⌝ }
-    ensures { λ r. ⌜ PastDigits (now (text .entry)) from amount r ⌝ }
+// By the character first, then by the phase.
+fn step(kept: Kept, c: u8, places: usize) -> Kept
+    requires { ⌜ kept .digits + 1 < 2 ^ 64 ⌝ }
+    ensures { λ r. ⌜ Stepped places c kept r ⌝ }
 {
-    let mut n = amount;
-    let mut i = from;
-    while i < text.len() {
-        let d = digit(text[i]);
-        if d > 9 {
-            return Run { amount: n, end: i };
-        }
-        n = grown(n, d);
-        i += 1;
+    let phase = kept.phase;
+    if c == SPACE {
+        return moved(kept, on_space(phase));
     }
-    Run { amount: n, end: i }
+    if c == POINT {
+        return moved(kept, on_point(phase, places));
+    }
+    let d = digit(c);
+    if d > 9 {
+        return moved(kept, Phase::Bad);
+    }
+    Kept {
+        phase: on_digit(phase),
+        amount: grown(kept.amount, d),
+        digits: kept.digits + behind_point(phase),
+    }
+}
+
+// The state that is carried.
+fn joined(kept: Kept) -> State
+    ensures { λ r. ⌜ r ≡ joined (kept .phase) (kept .amount) (kept .digits) ⌝ }
+{
+    let phase = kept.phase;
+    match phase {
+        Phase::Before => State::Before,
+        Phase::Whole => State::Whole(kept.amount),
+        Phase::Pointed => State::Pointed(kept.amount),
+        Phase::Fraction => State::Fraction(kept.amount, kept.digits),
+        Phase::Behind => State::Behind(kept.amount, kept.digits),
+        Phase::Bad => State::Bad,
+    }
 }
 
 // What the text is when it ends.
@@ -276,25 +306,15 @@ pub fn read(text: &[u8], places: usize, max: u64) -> Number
     requires { ⌜ max + 1 < 2 ^ 64 ⌝ }
     ensures { λ r. ⌜ r ≡ readText places max (now (text .entry)) ⌝ }
 {
-    let mut state = State::Before;
+    let mut kept = Kept {
+        phase: Phase::Before,
+        amount: 0,
+        digits: 0,
+    };
     let mut i = 0;
     while i < text.len() {
-        let c = text[i];
-        if c == SPACE {
-            state = on_space(state);
-            i = past_spaces(text, i + 1);
-        } else if c == POINT {
-            state = on_point(state, places);
-            i += 1;
-        } else {
-            let d = digit(c);
-            if d > 9 {
-                return Number::Malformed;
-            }
-            let run = past_digits(text, i + 1, grown(so_far(state), d));
-            state = on_digits(state, run.amount, run.end - i);
-            i = run.end;
-        }
+        kept = step(kept, text[i], places);
+        i += 1;
     }
-    answer(state, places, max)
+    answer(joined(kept), places, max)
 }

@@ -19,7 +19,7 @@ use Rattle.sequence.specs.Runs.{missing}
 use Rattle.sequence.specs.Gaps.{Gaps, wanted}
 use Rattle.sequence.specs.GapsLaws.{same-gaps}
 use Rattle.sequence.specs.Row.{gapsOf}
-use Rattle.message.specs.declared.body.Message.{Message}
+use Rattle.message.specs.Message.{Message}
 use Rattle.quotebox.specs.declared.refusal.Refusal.{Refusal}
 use Rattle.quotebox.specs.declared.refusal.Refusal.the-variants.{Code, Contract, Memory}
 use Rattle.quotebox.specs.declared.answers.Listed.{Listed}

@@ -14,10 +14,9 @@ use Rattle.sequence.specs.Gaps.{most}
 use Rattle.sequence.specs.Row.{pairs}
 use Rattle.layout.specs.declared.rows.Level.{Level}
 use Rattle.layout.specs.Quote.{quoteOf}
-use Rattle.message.specs.declared.body.Message.{Message}
 use Rattle.message.specs.Fields.{lengthOf}
 use Rattle.message.specs.Good.{GoodMessage}
-use Rattle.message.specs.Message.{messageOf}
+use Rattle.message.specs.Message.{Message, messageOf}
 use Rattle.quotebox.specs.declared.answers.Reading.{Reading}
 use Rattle.quotebox.specs.declared.answers.Recorded.{Recorded}
 use Rattle.quotebox.specs.Batch.{batchLetter, countOf, dataOf}

@@ -15,7 +15,6 @@ use Rattle.laws.specs.Choice.{clash, either}
 use Rattle.contracts.specs.Lookup.{segmentOf}
 use Rattle.sequence.specs.Gaps.{Gaps, most, takes, full, runsAfter}
 use Rattle.sequence.specs.Row.{gapsOf}
-use Rattle.message.specs.declared.body.Message.{Message}
 use Rattle.message.specs.declared.body.What.{What}
 use Rattle.message.specs.declared.body.What.the-variants as what
 use Rattle.message.specs.declared.head.Fault.{Fault}
@@ -24,7 +23,7 @@ use Rattle.message.specs.declared.head.Head.the-variants.{Good}
 use Rattle.message.specs.Fields.{lengthOf}
 use Rattle.message.specs.Good.{GoodMessage}
 use Rattle.message.specs.GoodLaws.{good-exact}
-use Rattle.message.specs.Message.{messageOf}
+use Rattle.message.specs.Message.{Message, messageOf}
 use Rattle.message.specs.Numbers.{verdictOf, numberIn}
 use Rattle.message.specs.RulesLaws.{unlike}
 use Rattle.quotebox.specs.declared.refusal.Refusal.{Refusal}

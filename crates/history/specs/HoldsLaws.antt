@@ -20,7 +20,7 @@ use Rattle.sequence.specs.Runs.{Run, _to_, run, names}
 use Rattle.sequence.specs.Gaps.{lowest, writtenOff, writeOffAnswer}
 use Rattle.sequence.specs.Row.{gapsOf}
 use Rattle.sequence.specs.RowLaws.{sound-row-exactly}
-use Rattle.message.specs.declared.body.Message.{Message}
+use Rattle.message.specs.Message.{Message}
 use Rattle.quotebox.specs.declared.refusal.Refusal.the-variants.{NoGap}
 use Rattle.quotebox.specs.declared.answers.Started.{Started}
 use Rattle.quotebox.specs.declared.answers.Judged.{Judged}

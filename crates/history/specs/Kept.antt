@@ -11,7 +11,7 @@ use Rattle.contracts.specs.Lookup.{segmentOf}
 use Rattle.layout.specs.declared.rows.Level.{Level}
 use Rattle.layout.specs.declared.quote.Quote.{Quote}
 use Rattle.layout.specs.Quote.{cellsOf}
-use Rattle.message.specs.declared.body.Message.{Message}
+use Rattle.message.specs.Message.{Message}
 use Rattle.quotebox.specs.Batch.{recordOf}
 use Rattle.quotebox.specs.Memory.{recordAt}
 use Rattle.quotebox.specs.Record.{recordRows}

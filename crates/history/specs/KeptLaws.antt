@@ -18,7 +18,7 @@ use Rattle.layout.specs.declared.quote.Quote.{Quote}
 use Rattle.layout.specs.Cells.{filled}
 use Rattle.layout.specs.Quote.{cellsOf}
 use Rattle.layout.specs.Rows.{keyRows, rowsOf}
-use Rattle.message.specs.declared.body.Message.{Message}
+use Rattle.message.specs.Message.{Message}
 use Rattle.quotebox.specs.Batch.{stored, recordOf}
 use Rattle.quotebox.specs.Memory.{recordAt}
 use Rattle.quotebox.specs.Record.{recordRows}

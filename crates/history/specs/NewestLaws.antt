@@ -10,7 +10,7 @@ use borrow.Author.Tests.{ltb-true, ltb-false}
 use lib.Dec.{ltb}
 use Rattle.laws.specs.Choice.{either}
 use Rattle.layout.specs.declared.rows.Level.{Level}
-use Rattle.message.specs.declared.body.Message.{Message}
+use Rattle.message.specs.Message.{Message}
 use Rattle.history.specs.Kept.{higher, newest}
 use Rattle.history.specs.Past.{numberOf, isOf}
 use Rattle.history.specs.Exactly.{IsNewest, NoUpdate}

@@ -20,11 +20,10 @@ use Rattle.layout.specs.Cells.{filled}
 use Rattle.layout.specs.Quote.{quoteOf}
 use Rattle.layout.specs.Rows.{keyRows, rowsOf, messageLength}
 use Rattle.layout.specs.Read.{readRows}
-use Rattle.message.specs.declared.body.Message.{Message}
 use Rattle.message.specs.declared.body.What.the-variants.{Update}
 use Rattle.message.specs.CallerLaws.{update-told}
 use Rattle.message.specs.Fields.{lengthOf, dataOf, numberOf as bytesNumber}
-use Rattle.message.specs.Message.{messageOf, keyOf as bytesKey}
+use Rattle.message.specs.Message.{Message, messageOf, keyOf as bytesKey}
 use Rattle.message.specs.MessageLaws.{key-in}
 use Rattle.message.specs.Numbers.{verdictOf}
 use Rattle.quotebox.specs.declared.refusal.Refusal.{Refusal}

@@ -6,7 +6,7 @@ use mathlib.Core.List.{List}
 use Rattle.sequence.specs.Runs.{missing}
 use Rattle.sequence.specs.Gaps.{Gaps}
 use Rattle.sequence.specs.Sound.{Sound}
-use Rattle.message.specs.declared.body.Message.{Message}
+use Rattle.message.specs.Message.{Message}
 use Rattle.history.specs.Past.{highestOf, missingBy}
 
 -- demand 3: gaps that name exactly the missing numbers

@@ -17,7 +17,7 @@ use Rattle.sequence.specs.SoundLaws.{sound-apart}
 use Rattle.sequence.specs.RunsLaws.{named}
 use Rattle.sequence.specs.Gaps.{Gaps, begun, takes, full, after, wroteOff, writtenOff, writeOffAnswer}
 use Rattle.sequence.specs.GapsLaws.{begun-sound, after-sound, after-missing, after-counted, wroteOff-sound, wroteOff-lowest, wroteOff-missing, missing-inside}
-use Rattle.message.specs.declared.body.Message.{Message}
+use Rattle.message.specs.Message.{Message}
 use Rattle.history.specs.Past.{numberOf, held, isNew, highestOf, missingBy, standingBy}
 use Rattle.history.specs.Segment.{Fits}
 

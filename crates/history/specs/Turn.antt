@@ -5,7 +5,7 @@ use mathlib.Core.Bool.{true}
 use mathlib.Core.List.{List}
 use lib.ListN.{length}
 use Rattle.sequence.specs.Row.{gapsOf, soundRow}
-use Rattle.message.specs.declared.body.Message.{Message}
+use Rattle.message.specs.Message.{Message}
 use Rattle.quotebox.specs.Batch.{Box}
 use Rattle.quotebox.specs.Memory.{recordsWanted}
 use Rattle.quotebox.specs.Start.{startOf}

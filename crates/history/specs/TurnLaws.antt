@@ -26,13 +26,12 @@ use Rattle.sequence.specs.Gaps.{Gaps, takes, full, after}
 use Rattle.sequence.specs.GapsLaws.{after-sound}
 use Rattle.sequence.specs.Row.{gapsOf, laid}
 use Rattle.sequence.specs.RowLaws.{laid-gaps, laid-sound, sound-row-exactly}
-use Rattle.message.specs.declared.body.Message.{Message}
 use Rattle.message.specs.declared.body.What.{What}
 use Rattle.message.specs.declared.body.What.the-variants as what
 use Rattle.message.specs.CallerLaws.{update-told}
 use Rattle.message.specs.GoodLaws.{good-exact}
 use Rattle.message.specs.Fields.{lengthOf, dataOf}
-use Rattle.message.specs.Message.{keyOf, messageOf}
+use Rattle.message.specs.Message.{Message, keyOf, messageOf}
 use Rattle.message.specs.MessageLaws.{key-in}
 use Rattle.message.specs.Numbers.{verdictOf, numberIn}
 use Rattle.quotebox.specs.ActsLaws.{acts-as}

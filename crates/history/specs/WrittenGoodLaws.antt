@@ -26,7 +26,6 @@ use Rattle.layout.specs.Rows.{rowsOf, dataLength, messageLength}
 use Rattle.layout.specs.RowsLaws.{data-fits}
 use Rattle.layout.specs.Write.{Laid, writeRows}
 use Rattle.layout.specs.WriteLaws.{good-length}
-use Rattle.message.specs.declared.body.Message.{Message}
 use Rattle.message.specs.declared.body.What.the-variants as what
 use Rattle.message.specs.declared.codes.Kind.the-variants.{Heartbeat, Update, PassedOver}
 use Rattle.message.specs.Codes.{kindOf, levelOf, bareLength}
@@ -37,7 +36,7 @@ use Rattle.message.specs.Good.{GoodMessage, GoodRows, Listed}
 use Rattle.message.specs.GoodLaws.{good-exact}
 use Rattle.message.specs.HeadLaws.{listed-exact}
 use Rattle.message.specs.Head.{isSome}
-use Rattle.message.specs.Message.{keyOf, keyPlace, messageOf}
+use Rattle.message.specs.Message.{Message, keyOf, keyPlace, messageOf}
 use Rattle.message.specs.MessageLaws.{key-found, update-is}
 use Rattle.quotebox.specs.declared.writing.Code.{Code}
 use Rattle.quotebox.specs.Writer.{messageBytes}
@@ -133,7 +132,5 @@ module _ (code : Code) (level : Level) (number : ℕ) (key : List ℕ) (quote : 
       pub message-is : messageOf list (code .0) written ≡ message
       message-is =
           contents-good list (code .0) written (good-exact list (code .0) written .1 message-good)
-          ∙ update-is list (code .0) written (record { cells = filled (again .cells); verdict = again .verdict }) (messageLength (rowsOf level)) (what.Update number level place)
-          (sym length-is) kind-is
-          (rw (level-is, data-is) (record { answers = refl; cells-read = refl }))
+          ∙ update-is list (code .0) written (messageLength (rowsOf level)) (what.Update number level place) (sym length-is) kind-is again (rw (level-is, data-is))
           (rw (read-good, level-is, key-is, listed, number-written code number (rows .bytes) few))

@@ -4,9 +4,9 @@ use mathlib.Core.Path.{_≡_, refl, ap, sym, _∙_}
 use mathlib.Core.List.{List, [], _∷_, _++_, append-assoc}
 use mathlib.Core.Logic.{⊎-elim}
 use native.Mathlib.Omega.{arith}
-use native.Mathlib.Numerals.{add-one, sub-one}
+use native.Mathlib.Numerals.{add-one}
 use native.Mathlib.Nat.{le-of-suc-le-suc, not-suc-le-zero, zero-add, add-zero, suc-add}
-use lib.ListN.{length, getD, take, drop, set, replicate, drop-of-length-le, length-drop}
+use lib.ListN.{length, getD, take, drop, set, drop-of-length-le, length-drop}
 use lib.Seq.{take-all, take-suc, drop-cons, set-at, length-take-le, take-nil, drop-nil, take-take, sets}
 use Rattle.laws.specs.Order.{order}
 
@@ -25,10 +25,6 @@ module _ {A : Type 0} where
       (λ (h : n ≤ length l). let e : min n (length l) ≡ n = omega arith in ap (λ (k : ℕ). drop k l) e)
       (λ (h : length l < n). drop-of-length-le l {i = min n (length l)} (omega arith) ∙ sym (drop-of-length-le l {i = n} (omega arith)))
       (order n (length l))
-
-  pub drop-replicate : (n : ℕ) (a : A) → drop 1 (replicate n a) ≡ replicate (n - 1) a
-  drop-replicate zero a = refl
-  drop-replicate (suc n) a = rw (sub-one (suc n))
 
   -- two runs are stored one behind the other
   pub sets-append : (xs ys s : List A) (at : ℕ) → sets s at (xs ++ ys) ≡ sets (sets s at xs) (at + length xs) ys

@@ -5,6 +5,7 @@ use mathlib.Core.Bool.{Bool, cond, _||_}
 use mathlib.Core.List.{List, [], _∷_}
 use lib.Dec.{eqb}
 use lib.ListN.{take, drop}
+use lib.Seq.{sets}
 use Rattle.wire.specs.Number.{numberAt}
 use Rattle.amount.specs.declared.Number.{Number}
 use Rattle.amount.specs.declared.Number.the-variants.{None, Amount, Malformed, OutOfRange}
@@ -14,12 +15,11 @@ use Rattle.layout.specs.declared.rows.Row.{Row}
 use Rattle.layout.specs.declared.rows.Row.the-variants.{Text, MarketType, Status, Price, Quantity, Turnover}
 use Rattle.layout.specs.declared.read.RowRead.{RowRead}
 use Rattle.layout.specs.declared.read.RowRead.the-variants.{Cell, Field, Range}
-use Rattle.layout.specs.declared.read.RowsRead.{RowsRead}
 use Rattle.layout.specs.declared.read.Verdict.{Verdict}
 use Rattle.layout.specs.declared.read.Verdict.the-variants.{Good, Field as FieldAt, Range as RangeAt}
 use Rattle.amount.specs.Kinds.{Kind, price, quantity, turnover}
 use Rattle.layout.specs.Rows.{widthOf}
-use Rattle.layout.specs.Cells.{cellOf, filled}
+use Rattle.layout.specs.Cells.{cellOf}
 
 -- 01, the table's rows 11 and 12: a number's cell, where the text is one
 abbrev pub ofNumber : Number → RowRead
@@ -70,7 +70,7 @@ readRows i [] bytes = record { cells = []; verdict = Good }
 readRows i (row ∷ rows) bytes =
     rowThen (readRow row (take (widthOf row) bytes)) i (readRows (suc i) rows (drop (widthOf row) bytes))
 
--- the answer of reading rows
-pub record ReadsRows (rows : List Row) (bytes : List ℕ) (answer : RowsRead) : Type 0 where
-  pub answers : answer .verdict ≡ readRows 0 rows bytes .verdict
-  pub cells-read : answer .cells ≡ filled (readRows 0 rows bytes .cells)
+-- the answer of reading rows, and the lent cells: those of the good rows in front of the first bad one are stored
+pub record ReadsRows (rows : List Row) (bytes cells : List ℕ) (answer : Verdict) (cells′ : List ℕ) : Type 0 where
+  pub answers : answer ≡ readRows 0 rows bytes .verdict
+  pub cells-stored : cells′ ≡ sets cells 0 (readRows 0 rows bytes .cells)

@@ -1,16 +1,16 @@
 -- Laws of reading rows, over any rows: the reading goes on row by row.
 use Prim.Native.Nat.{ℕ, suc, _+_, _-_, min, _≤_, _<_}
-use mathlib.Core.Path.{_≡_, ap, sym, _∙_}
-use mathlib.Core.List.{List, [], _++_, append-assoc, append-nil}
+use mathlib.Core.Path.{_≡_, refl, ap, sym, _∙_}
+use mathlib.Core.List.{List, [], _∷_, _++_, append-assoc, append-nil}
 use native.Mathlib.Omega.{arith}
 use native.Mathlib.Numerals.{add-one}
-use Rattle.laws.specs.Lists.{take-min, drop-min, drop-replicate}
-use lib.ListN.{length, getD, take, drop, set, replicate, length-drop, length-set, take-append-drop, drop-of-length-le}
-use lib.Seq.{drop-cons, drop-drop, drop-set-lt, take-suc-set, length-take-le}
+use Rattle.laws.specs.Lists.{take-min, drop-min, sets-append}
+use lib.ListN.{length, getD, take, drop, set, length-append, length-drop, drop-of-length-le}
+use lib.Seq.{sets, sets-eq, drop-cons, drop-drop, take-at}
 use Rattle.layout.specs.declared.rows.Row.{Row}
 use Rattle.layout.specs.declared.rows.Row.the-variants.{Text}
 use Rattle.layout.specs.declared.read.RowRead.{RowRead}
-use Rattle.layout.specs.declared.read.RowRead.the-variants.{Cell}
+use Rattle.layout.specs.declared.read.RowRead.the-variants.{Cell, Field, Range}
 use Rattle.layout.specs.declared.read.Verdict.{Verdict}
 use Rattle.layout.specs.declared.read.Verdict.the-variants.{Good}
 use Rattle.layout.specs.Rows.{widthOf}
@@ -21,15 +21,20 @@ use Rattle.layout.specs.Read.{Outcome, readRows, rowThen, readRow, Reads
 abbrev pub behind : List ℕ → Outcome → Outcome
 behind front rest = record { cells = front ++ rest .cells; verdict = rest .verdict }
 
--- after i rows and `at` bytes: the cells of those rows stand in front, zeros behind them, and the rest is to be read
-abbrev pub Going : List Row → List ℕ → List ℕ → ℕ → ℕ → Type 0
-Going rows bytes cells at i =
-    (at ≤ length bytes) × (length cells ≡ 37) × (drop i cells ≡ replicate (37 - i) 0)
-    × (readRows 0 rows bytes ≡ behind (take i cells) (readRows i (drop i rows) (drop at bytes)))
+-- after i rows and `at` bytes: the cells of those rows are stored, and the rest is to be read
+pub record Going (rows : List Row) (bytes lent cells : List ℕ) (at i : ℕ) : Type 0 where
+  pub within : at ≤ length bytes
+  pub front : List ℕ
+  pub many : length front ≡ i
+  pub stored : cells ≡ sets lent 0 front
+  pub rest : readRows 0 rows bytes ≡ behind front (readRows i (drop i rows) (drop at bytes))
+
+pub begins : (rows : List Row) (bytes lent : List ℕ) → Going rows bytes lent lent 0 0
+begins rows bytes lent = record { within = omega arith; front = []; many = refl; stored = refl; rest = refl }
 
 -- the next row of the data, as the walk sees it: as many bytes as its width, or as are left
-module _ (rows : List Row) (bytes cells : List ℕ) (at i width : ℕ) (more : i < length rows)
-    (is-width : width ≡ min (widthOf (getD rows i (Text 0))) (length bytes - at)) (going : Going rows bytes cells at i)
+module _ (rows : List Row) (bytes lent cells : List ℕ) (at i width : ℕ) (more : i < length rows)
+    (is-width : width ≡ min (widthOf (getD rows i (Text 0))) (length bytes - at)) (going : Going rows bytes lent cells at i)
   where
     left : length (drop at bytes) ≡ length bytes - at
     left = length-drop at bytes
@@ -43,37 +48,57 @@ module _ (rows : List Row) (bytes cells : List ℕ) (at i width : ℕ) (more : i
 
     -- what is left to be read begins with this row
     pub this-row : {answer : RowRead} → readRow (getD rows i (Text 0)) (take width (drop at bytes)) ≡ answer
-        → readRows 0 rows bytes ≡ behind (take i cells) (rowThen answer i (readRows (suc i) (drop (suc i) rows) (drop (at + width) bytes)))
+        → readRows 0 rows bytes ≡ behind (going .front) (rowThen answer i (readRows (suc i) (drop (suc i) rows) (drop (at + width) bytes)))
     this-row {answer} e =
-        going .3 ∙ rw (drop-cons rows i (Text 0) more, ← field-is, e, next-is)
+        going .rest ∙ rw (drop-cons rows i (Text 0) more, ← field-is, e, next-is)
 
     -- a good row: its cell is stored, and the reading goes on
-    pub goes-on : {cell : ℕ} → i < 37 → readRow (getD rows i (Text 0)) (take width (drop at bytes)) ≡ Cell cell
-        → Going rows bytes (set cells i cell) (at + width) (i + 1)
-    goes-on {cell} room e =
-        let in-cells : i < length cells = omega arith in
-        let fits : at + width ≤ length bytes = omega (arith, is-width) in
-        let fewer : 37 - i - 1 ≡ 37 - (i + 1) = omega arith in
-        let rest : drop (i + 1) cells ≡ replicate (37 - i - 1) 0 =
-        sym (drop-drop 1 i cells) ∙ ap (λ (l : List ℕ). drop 1 l) (going .2) ∙ drop-replicate (37 - i) 0 in
-        let zeros : drop (suc i) (set cells i cell) ≡ replicate (37 - suc i) 0 =
-        drop-set-lt (suc i) cells i cell (omega arith) ∙ rw (← add-one i) (rw (← fewer) rest) in
-        rw (add-one i) (fits, length-set cells i cell ∙ going .1, zeros, this-row e ∙ rw (take-suc-set cells i cell in-cells, append-assoc (take i cells)))
+    pub goes-on : {cell : ℕ} → readRow (getD rows i (Text 0)) (take width (drop at bytes)) ≡ Cell cell
+        → Going rows bytes lent (set cells i cell) (at + width) (i + 1)
+    goes-on {cell} e =
+        let place : 0 + length (going .front) ≡ i = omega (arith, going .many) in
+        record {
+          within = omega (arith, is-width, going .within);
+          front = going .front ++ (cell ∷ []);
+          many = simp length-append (omega (arith, going .many));
+          stored = ap (λ (l : List ℕ). set l i cell) (going .stored) ∙ sym (rw place at (sets-append (going .front) (cell ∷ []) lent 0));
+          rest = rw add-one (this-row e ∙ rw (append-assoc (going .front)));
+        }
 
--- a reading that ends after i good rows leaves their cells, and zeros behind them
-pub stands : (rows : List Row) (bytes cells : List ℕ) (at i : ℕ) (verdict : Verdict) → i ≤ 37 → Going rows bytes cells at i
-    → readRows 0 rows bytes ≡ behind (take i cells) (record { cells = []; verdict = verdict })
-    → ReadsRows rows bytes (record { verdict = verdict; cells = cells })
-stands rows bytes cells at i verdict within going e =
-    let front : length (take i cells) ≡ i = length-take-le i cells (omega arith) in
+-- a reading that ends leaves the cells that it has stored
+pub stands : (rows : List Row) (bytes lent cells : List ℕ) (at i : ℕ) (verdict : Verdict) (going : Going rows bytes lent cells at i)
+    → readRows 0 rows bytes ≡ behind (going .front) (record { cells = []; verdict = verdict }) → ReadsRows rows bytes lent verdict cells
+stands rows bytes lent cells at i verdict going e =
     record {
       answers = sym (ap (λ (o : Outcome). o .verdict) e);
-      cells-read =
-          sym (take-append-drop i cells) ∙ rw (going .2) (sym (ap (λ (o : Outcome). filled (o .cells)) e ∙ rw (append-nil (take i cells), front)));
+      cells-stored = going .stored ∙ ap (sets lent 0) (sym (ap (λ (o : Outcome). o .cells) e ∙ append-nil (going .front)));
     }
 
 -- after the last row there is none to be read
-pub all-read : (rows : List Row) (bytes cells : List ℕ) (at i : ℕ) → length rows ≤ i → i ≤ 37 → Going rows bytes cells at i
-    → ReadsRows rows bytes (record { verdict = Good; cells = cells })
-all-read rows bytes cells at i done within going =
-    stands rows bytes cells at i Good within going (going .3 ∙ rw (drop-of-length-le rows {i = i} done))
+pub all-read : (rows : List Row) (bytes lent cells : List ℕ) (at i : ℕ) → length rows ≤ i → Going rows bytes lent cells at i → ReadsRows rows bytes lent Good cells
+all-read rows bytes lent cells at i done going =
+    stands rows bytes lent cells at i Good going (going .rest ∙ rw (drop-of-length-le rows {i = i} done))
+
+-- ---- where every row is good
+
+-- there is a cell for each
+cell-each : (i : ℕ) (rows : List Row) (bytes : List ℕ) → readRows i rows bytes .verdict ≡ Good → length (readRows i rows bytes .cells) ≡ length rows
+cell-each i [] bytes good = refl
+cell-each i (row ∷ rows) bytes good = go (readRow row (take (widthOf row) bytes)) good (cell-each (suc i) rows (drop (widthOf row) bytes))
+  where
+    rest : Outcome
+    rest = readRows (suc i) rows (drop (widthOf row) bytes)
+
+    go : (answer : RowRead) → rowThen answer i rest .verdict ≡ Good → (rest .verdict ≡ Good → length (rest .cells) ≡ length rows)
+        → length (rowThen answer i rest .cells) ≡ suc (length rows)
+    go (Cell cell) good later = ap suc (later good)
+    go Field good later = cc
+    go Range good later = cc
+
+-- the lent cells of the rows are those read, whatever stood there
+pub front-stored : (rows : List Row) (bytes lent : List ℕ) → length rows ≤ length lent → readRows 0 rows bytes .verdict ≡ Good
+    → take (length rows) (sets lent 0 (readRows 0 rows bytes .cells)) ≡ take (length rows) (filled (readRows 0 rows bytes .cells))
+front-stored rows bytes lent room good =
+    let read : List ℕ = readRows 0 rows bytes .cells in
+    let long : length read ≡ length rows = cell-each 0 rows bytes good in
+    ap (take (length rows)) (sets-eq read lent 0 (omega (arith, long))) ∙ take-at read _ (length rows) long ∙ sym (take-at read _ (length rows) long)

@@ -13,7 +13,6 @@ pub use quote::Quote;
 pub use quote::TurnoverCell;
 pub use quote::cells_of;
 pub use quote::quote_of;
-pub use read::RowsRead;
 pub use read::Verdict;
 pub use read::read_update;
 pub use rows::Level;

@@ -27,12 +27,6 @@ pub enum Verdict {
     Range(usize),
 }
 
-// What reading rows answers, with the cells of the good rows in front of the first bad one, and zeros behind them.
-pub struct RowsRead {
-    pub verdict: Verdict,
-    pub cells: [u64; 37],
-}
-
 fn of_number(number: Number) -> RowRead
     ensures { λ r. ⌜ r ≡ ofNumber number ⌝ }
 {
@@ -80,11 +74,10 @@ fn read_row(row: Row, field: &[u8]) -> RowRead
 }
 
 // The rows in turn, each with the bytes behind those of the row before it. It knows no layout: rows are data.
-fn read_rows(rows: [Row; 37], count: usize, data: &[u8]) -> RowsRead
+fn read_rows(rows: [Row; 37], count: usize, data: &[u8], cells: &mut [u64; 37]) -> Verdict
     requires { ⌜ (count ≤ 37) × (count ≤ length rows) ⌝ }
-    ensures { λ r. ⌜ ReadsRows (take count rows) (now («data» .entry)) r ⌝ }
+    ensures { λ r. ⌜ ReadsRows (take count rows) (now («data» .entry)) (now (cells .entry)) r (now (cells .exit)) ⌝ }
 {
-    let mut cells = [0u64; 37];
     let mut at = 0;
     let mut i = 0;
     while i < count {
@@ -95,30 +88,21 @@ fn read_rows(rows: [Row; 37], count: usize, data: &[u8]) -> RowsRead
                 cells[i] = cell;
             }
             RowRead::Field => {
-                return RowsRead {
-                    verdict: Verdict::Field(i),
-                    cells,
-                };
+                return Verdict::Field(i);
             }
             RowRead::Range => {
-                return RowsRead {
-                    verdict: Verdict::Range(i),
-                    cells,
-                };
+                return Verdict::Range(i);
             }
         }
         at = end;
         i += 1;
     }
-    RowsRead {
-        verdict: Verdict::Good,
-        cells,
-    }
+    Verdict::Good
 }
 
-// The rows of an update of that level, a cell each.
-pub fn read_update(level: Level, data: &[u8]) -> RowsRead
-    ensures { λ r. ⌜ ReadsRows (rowsOf level) (now («data» .entry)) r ⌝ }
+// The rows of an update of that level, a cell each: those of the good rows in front of the first bad one are stored.
+pub fn read_update(level: Level, data: &[u8], cells: &mut [u64; 37]) -> Verdict
+    ensures { λ r. ⌜ ReadsRows (rowsOf level) (now («data» .entry)) (now (cells .entry)) r (now (cells .exit)) ⌝ }
 {
-    read_rows(rows::rows_of(level), rows::count_of(level), data)
+    read_rows(rows::rows_of(level), rows::count_of(level), data, cells)
 }

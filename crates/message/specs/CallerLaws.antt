@@ -1,32 +1,32 @@
 -- What a caller may rely on where a message has no fault.
 use Prim.Native.Nat.{ℕ, _≤_}
 use mathlib.Core.Path.{_≡_, refl, ap, sym, _∙_}
-use mathlib.Core.Bool.{true, false≢true}
 use mathlib.Core.Logic.{_↔_}
 use mathlib.Core.List.{List}
 use mathlib.Core.Option.{Option, none, some}
 use native.Mathlib.Omega.{arith}
-use lib.ListN.{length}
+use lib.ListN.{length, take}
+use lib.Seq.{sets, length-sets}
 use Rattle.laws.specs.Choice.{never}
-use Rattle.contracts.specs.Lookup.{segmentOf}
 use Rattle.layout.specs.declared.read.Verdict.{Verdict}
 use Rattle.layout.specs.declared.read.Verdict.the-variants as verdict
 use Rattle.layout.specs.declared.rows.Level.{Level}
 use Rattle.layout.specs.Cells.{filled}
 use Rattle.layout.specs.Read.{readRows}
+use Rattle.layout.specs.ReadLaws.{front-stored}
 use Rattle.layout.specs.Rows.{rowsOf, messageLength}
+use Rattle.layout.specs.RowsLaws.{rows-fit}
 use Rattle.message.specs.declared.body.What.{What}
 use Rattle.message.specs.declared.body.What.the-variants as what
 use Rattle.message.specs.declared.codes.Kind.{Kind}
 use Rattle.message.specs.declared.codes.Kind.the-variants.{Heartbeat, Update, PassedOver}
 use Rattle.message.specs.declared.head.Head.{Head}
 use Rattle.message.specs.declared.head.Head.the-variants.{Good, Bad}
-use Rattle.message.specs.Codes.{levelOf, bareLength}
+use Rattle.message.specs.Codes.{levelOf}
 use Rattle.message.specs.Good.{GoodMessage, HasLength, HasNumber, HasContract}
 use Rattle.message.specs.Fields.{kindIn, lengthOf, numberOf, dataOf}
-use Rattle.message.specs.Head.{framed, isSome, headOf}
+use Rattle.message.specs.Head.{headOf}
 use Rattle.message.specs.CodesLaws.{level-back}
-use Rattle.message.specs.HeadLaws.{framed-exact, listed-exact}
 use Rattle.message.specs.Message.{keyOf, keyPlace, rowsRead, ofKind, ofVerdict, contentsOf, messageOf}
 use Rattle.message.specs.MessageLaws.{good-head, bad-head, length-is}
 use Rattle.message.specs.Numbers.{verdictOf, numberIn}
@@ -86,21 +86,7 @@ module _ (list : List ℕ) (letter : ℕ) (bytes : List ℕ) (good : verdictOf (
   pub contents-good : messageOf list letter bytes ≡ contentsOf list letter bytes
   contents-good = good-head list letter bytes head-good
 
-  pub framed-good : framed bytes ≡ true
-  framed-good = framed-exact bytes .1 (rules .frame)
-
-  -- its letter is a segment's
-  pub segment-there : (segment : ℕ) × (segmentOf list letter ≡ some segment)
-  segment-there = go (segmentOf list letter) refl
-    where
-      go : (found : Option ℕ) → segmentOf list letter ≡ found → (segment : ℕ) × (segmentOf list letter ≡ some segment)
-      go none e = absurd (false≢true (ap isSome (sym e) ∙ listed-exact list letter .1 (rules .code .listed)))
-      go (some segment) e = (segment, e)
-
-  -- so the next message begins further on, and not behind the end
-  pub long-enough : bareLength ≤ messageOf list letter bytes .length
-  long-enough = rw (length-is list letter bytes) (rules .frame .least)
-
+  -- so the next message doesn't begin behind the end
   pub all-there : messageOf list letter bytes .length ≤ length bytes
   all-there = rw (length-is list letter bytes) (rules .frame .within)
 
@@ -137,3 +123,13 @@ module _ (list : List ℕ) (letter : ℕ) (bytes : List ℕ) (good : verdictOf (
         rows-good = rw (p .0, p .2) at rows-good;
         cells-are = rw (p .0, p .2) at (ap (λ m. m .cells) contents-good);
       }
+
+  -- lent cells in which its rows are stored have its cells in front
+  pub cells-stored : (cells cells′ : List ℕ) → cells′ ≡ sets cells 0 (rowsRead bytes .cells) → length cells′ ≡ 37 → (number : ℕ) (level : Level) (place : ℕ)
+      → messageOf list letter bytes .what ≡ what.Update number level place
+      → take (length (rowsOf level)) cells′ ≡ take (length (rowsOf level)) (messageOf list letter bytes .cells)
+  cells-stored cells cells′ stored long number level place e =
+      let u = update-told number level place e in
+      let level-is : levelOf (lengthOf bytes) ≡ level = ap levelOf (u .level-is) ∙ level-back level in
+      let same : length cells′ ≡ length cells = ap length stored ∙ length-sets cells 0 (rowsRead bytes .cells) in
+      rw (stored, u .cells-are, u .kind-is, level-is) (front-stored (rowsOf level) (dataOf bytes) cells (omega (arith, rows-fit level)) (u .rows-good))

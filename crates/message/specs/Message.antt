@@ -1,8 +1,10 @@
 -- What a message is: 01 "The message", and the table's rows 5 to 13 in their order.
 use Prim.Native.Nat.{ℕ}
+use mathlib.Core.Path.{_≡_}
 use mathlib.Core.List.{List, []}
 use mathlib.Core.Option.{Option, none, some}
 use lib.ListN.{take}
+use lib.Seq.{sets}
 use Rattle.contracts.specs.File.{keySize}
 use Rattle.contracts.specs.Lookup.{segmentOf, placeIn}
 use Rattle.layout.specs.declared.rows.Level.{Level}
@@ -14,7 +16,7 @@ use Rattle.layout.specs.Cells.{filled}
 use Rattle.layout.specs.Read.{Outcome, readRows}
 use Rattle.message.specs.declared.body.What.{What}
 use Rattle.message.specs.declared.body.What.the-variants as what
-use Rattle.message.specs.declared.body.Message.{Message}
+use Rattle.message.specs.declared.body.Outline.{Outline}
 use Rattle.message.specs.declared.codes.Kind.{Kind}
 use Rattle.message.specs.declared.codes.Kind.the-variants as kind
 use Rattle.message.specs.declared.head.Fault.the-variants as fault
@@ -64,6 +66,12 @@ ofVerdict verdict.Good good = good
 ofVerdict (verdict.Field row) good = what.Bad (fault.Field row)
 ofVerdict (verdict.Range row) good = what.Bad (fault.Range row)
 
+-- 01 "The message": what a message is, how long it is, and the cells of its rows, with zeros behind them
+pub record Message : Type 0 where
+  pub what : What
+  pub length : ℕ
+  pub cells : List ℕ
+
 -- 01 "The message": what a message with a good head is
 unfoldable pub contentsOf : List ℕ → ℕ → List ℕ → Message
 contentsOf list letter bytes =
@@ -87,3 +95,17 @@ ofHead (head.Bad fault) length contents = bare (what.Bad fault) length
 -- 01, the table's rows 5 to 13 in their order: what the bytes begin with
 unfoldable pub messageOf : List ℕ → ℕ → List ℕ → Message
 messageOf list letter bytes = ofHead (headOf list letter bytes) (lengthOf bytes) (contentsOf list letter bytes)
+
+-- the cells of the rows that are read: none where the head is bad
+abbrev pub cellsRead : Head → List ℕ → List ℕ
+cellsRead head.Good bytes = rowsRead bytes .cells
+cellsRead (head.Bad fault) bytes = []
+
+-- what a message is and how long it is
+abbrev pub outlineOf : Message → Outline
+outlineOf message = record { what = message .what; length = message .length }
+
+-- the answer of reading a message, and the lent cells: those of the rows that are read are stored
+pub record ReadsMessage (message : Message) (read cells : List ℕ) (answer : Outline) (cells′ : List ℕ) : Type 0 where
+  pub told : answer ≡ outlineOf message
+  pub stored : cells′ ≡ sets cells 0 read

@@ -5,9 +5,10 @@ use mathlib.Core.List.{List}
 use mathlib.Core.Option.{Option, none, some}
 use Rattle.laws.specs.Choice.{never}
 use Rattle.contracts.specs.Lookup.{segmentOf, placeIn}
-use Rattle.layout.specs.declared.read.RowsRead.{RowsRead}
+use Rattle.layout.specs.declared.read.Verdict.{Verdict}
+use Rattle.layout.specs.Cells.{filled}
 use Rattle.layout.specs.Rows.{rowsOf}
-use Rattle.layout.specs.Read.{ReadsRows}
+use Rattle.layout.specs.Read.{Outcome, readRows, ReadsRows}
 use Rattle.message.specs.declared.body.What.{What}
 use Rattle.message.specs.declared.body.What.the-variants as what
 use Rattle.message.specs.declared.codes.Kind.the-variants as kind
@@ -17,7 +18,7 @@ use Rattle.message.specs.declared.head.Head.the-variants as head
 use Rattle.message.specs.Codes.{levelOf}
 use Rattle.message.specs.Fields.{kindIn, lengthOf, numberOf, dataOf}
 use Rattle.message.specs.Head.{headOf}
-use Rattle.message.specs.Message.{keyOf, keyPlace, ofPlace, ofVerdict, bare, contentsOf, messageOf}
+use Rattle.message.specs.Message.{keyOf, keyPlace, rowsRead, ofPlace, ofVerdict, bare, contentsOf, messageOf, ReadsMessage}
 
 module _ (list : List ℕ) (letter : ℕ) where
   -- a key is looked up in the segment of its letter, where there is one
@@ -38,20 +39,32 @@ module _ (list : List ℕ) (letter : ℕ) where
       go (some segment) f = (segment, f, sym (key-in key f) ∙ e)
 
   module _ (bytes : List ℕ) where
-    pub heartbeat-is : kindIn bytes ≡ kind.Heartbeat → contentsOf list letter bytes ≡ bare what.Heartbeat (lengthOf bytes)
-    unfolding contentsOf
-    heartbeat-is e = rw e
+    -- a message with no rows leaves the lent cells as they are
+    module _ (whole : ℕ) (long : whole ≡ lengthOf bytes) (cells : List ℕ) where
+      pub heartbeat-reads : kindIn bytes ≡ kind.Heartbeat
+          → ReadsMessage (contentsOf list letter bytes) (rowsRead bytes .cells) cells (record { what = what.Heartbeat; length = whole }) cells
+      unfolding contentsOf
+      heartbeat-reads e = rw (long, e) (record { told = refl; stored = refl })
 
-    pub passed-over-is : kindIn bytes ≡ kind.PassedOver → contentsOf list letter bytes ≡ bare (what.PassedOver (numberOf bytes)) (lengthOf bytes)
-    unfolding contentsOf
-    passed-over-is e = rw e
+      pub passed-over-reads : kindIn bytes ≡ kind.PassedOver
+          → ReadsMessage (contentsOf list letter bytes) (rowsRead bytes .cells) cells (record { what = what.PassedOver (numberOf bytes); length = whole }) cells
+      unfolding contentsOf
+      passed-over-reads e = rw (long, e) (record { told = refl; stored = refl })
 
-    pub update-is : (answer : RowsRead) (whole : ℕ) (w : What) → whole ≡ lengthOf bytes → kindIn bytes ≡ kind.Update
-        → ReadsRows (rowsOf (levelOf (lengthOf bytes))) (dataOf bytes) answer
-        → w ≡ ofVerdict (answer .verdict) (ofPlace (numberOf bytes) (levelOf (lengthOf bytes)) (keyPlace list letter (keyOf bytes)))
-        → contentsOf list letter bytes ≡ record { what = w; length = whole; cells = answer .cells }
-    unfolding contentsOf
-    update-is answer whole w long e read same = rw (long, e, ← read .answers, ← read .cells-read, same)
+    module _ (whole : ℕ) (w : What) (long : whole ≡ lengthOf bytes) (e : kindIn bytes ≡ kind.Update) where
+      -- an update's rows are read, and then its key is looked up
+      pub update-reads : (verdict : Verdict) (cells cells′ : List ℕ) → ReadsRows (rowsOf (levelOf (lengthOf bytes))) (dataOf bytes) cells verdict cells′
+          → w ≡ ofVerdict verdict (ofPlace (numberOf bytes) (levelOf (lengthOf bytes)) (keyPlace list letter (keyOf bytes)))
+          → ReadsMessage (contentsOf list letter bytes) (rowsRead bytes .cells) cells (record { what = w; length = whole }) cells′
+      unfolding contentsOf
+      update-reads verdict cells cells′ read same =
+          record { told = rw (long, e, ← read .answers, same); stored = rw e (read .cells-stored) }
+
+      pub update-is : (read : Outcome) → readRows 0 (rowsOf (levelOf (lengthOf bytes))) (dataOf bytes) ≡ read
+          → w ≡ ofVerdict (read .verdict) (ofPlace (numberOf bytes) (levelOf (lengthOf bytes)) (keyPlace list letter (keyOf bytes)))
+          → contentsOf list letter bytes ≡ record { what = w; length = whole; cells = filled (read .cells) }
+      unfolding contentsOf
+      update-is read same what-is = rw (long, e, same, what-is)
 
     -- a good head leaves the message to its contents
     pub good-head : headOf list letter bytes ≡ head.Good → messageOf list letter bytes ≡ contentsOf list letter bytes

@@ -6,8 +6,8 @@ ghost use Rattle.contracts.specs.Answers.{placeOf};
 ghost use Rattle.contracts.specs.File.{keySize};
 ghost use Rattle.message.specs.Good.{Framed};
 ghost use Rattle.message.specs.Fields.{lengthOf, kindIn};
-ghost use Rattle.message.specs.Head.{framed};
-ghost use Rattle.message.specs.Message.{keyPlace, ofPlace, bare, contentsOf, messageOf};
+ghost use Rattle.message.specs.Head.{framed, headOf};
+ghost use Rattle.message.specs.Message.{keyPlace, ofPlace, rowsRead, cellsRead, contentsOf, messageOf, ReadsMessage};
 use crate::codes;
 use crate::codes::Kind;
 use crate::fields;
@@ -30,11 +30,11 @@ pub enum What {
     Bad(Fault),
 }
 
-// What a message is, how long it is, and an update's cells, by row.
-pub struct Message {
+// What a message is, and how long it is. The cells of its rows are stored where the caller lends them, so that a message with
+// no rows is handed on by these few bytes.
+pub struct Outline {
     pub what: What,
     pub length: usize,
-    pub cells: [u64; 37],
 }
 
 // The place of a key in the segment of a letter.
@@ -67,60 +67,54 @@ fn placed(list: &[u8], letter: u8, data: &[u8], number: u32, level: Level) -> Wh
     }
 }
 
-// A message of which no row is read.
-fn bare(what: What, whole: usize) -> Message
-    ensures { λ r. ⌜ r ≡ bare what whole ⌝ }
-{
-    Message {
-        what,
-        length: whole,
-        cells: [0u64; 37],
-    }
-}
-
 // An update: its first bad row, and then its key.
-fn update(list: &[u8], letter: u8, bytes: &[u8], whole: usize) -> Message
+fn update(list: &[u8], letter: u8, bytes: &[u8], whole: usize, cells: &mut [u64; 37]) -> Outline
     requires { ⌜ Framed (now bytes) × (whole ≡ lengthOf (now bytes)) × (kindIn (now bytes) ≡ Kind.Update) ⌝ }
-    ensures { λ r. ⌜ r ≡ contentsOf (now (list .entry)) letter (now (bytes .entry)) ⌝ }
+    ensures { λ r. ⌜ ReadsMessage (contentsOf (now (list .entry)) letter (now (bytes .entry))) (rowsRead (now (bytes .entry)) .cells) (now (cells .entry)) r (now (cells .exit)) ⌝ }
 {
     let level = codes::level_of(whole);
     let number = fields::number_of(bytes);
     let end = whole - fields::TRAILER;
     let data = &bytes[fields::DATA..end];
-    let rows = layout::read_update(level, data);
-    let cells = rows.cells;
-    let verdict = rows.verdict;
-    let what = match verdict {
+    let what = match layout::read_update(level, data, cells) {
         Verdict::Good => placed(list, letter, data, number, level),
         Verdict::Field(row) => What::Bad(Fault::Field(row)),
         Verdict::Range(row) => What::Bad(Fault::Range(row)),
     };
-    Message {
+    Outline {
         what,
         length: whole,
-        cells,
     }
 }
 
-// What a message with a good head is. It is asked again when a judged batch is applied, and then without the checksum.
-pub fn contents(list: &[u8], letter: u8, bytes: &[u8]) -> Message
+// What a message with a good head is.
+fn contents(list: &[u8], letter: u8, bytes: &[u8], cells: &mut [u64; 37]) -> Outline
     requires { ⌜ framed (now bytes) ≡ true ⌝ }
-    ensures { λ r. ⌜ r ≡ contentsOf (now (list .entry)) letter (now (bytes .entry)) ⌝ }
+    ensures { λ r. ⌜ ReadsMessage (contentsOf (now (list .entry)) letter (now (bytes .entry))) (rowsRead (now (bytes .entry)) .cells) (now (cells .entry)) r (now (cells .exit)) ⌝ }
 {
     let whole = fields::length_of(bytes);
     match codes::kind_of(fields::second_of(bytes)) {
-        Kind::Heartbeat => bare(What::Heartbeat, whole),
-        Kind::Update => update(list, letter, bytes, whole),
-        Kind::PassedOver => bare(What::PassedOver(fields::number_of(bytes)), whole),
+        Kind::Heartbeat => Outline {
+            what: What::Heartbeat,
+            length: whole,
+        },
+        Kind::Update => update(list, letter, bytes, whole, cells),
+        Kind::PassedOver => Outline {
+            what: What::PassedOver(fields::number_of(bytes)),
+            length: whole,
+        },
     }
 }
 
 // The message that begins here; `letter` is the letter of its batch's first message.
-pub fn read(list: &[u8], letter: u8, bytes: &[u8]) -> Message
-    ensures { λ r. ⌜ r ≡ messageOf (now (list .entry)) letter (now (bytes .entry)) ⌝ }
+pub fn read(list: &[u8], letter: u8, bytes: &[u8], cells: &mut [u64; 37]) -> Outline
+    ensures { λ r. ⌜ ReadsMessage (messageOf (now (list .entry)) letter (now (bytes .entry))) (cellsRead (headOf (now (list .entry)) letter (now (bytes .entry))) (now (bytes .entry))) (now (cells .entry)) r (now (cells .exit)) ⌝ }
 {
     match head::judge_head(list, letter, bytes) {
-        Head::Good => contents(list, letter, bytes),
-        Head::Bad(fault) => bare(What::Bad(fault), fields::length_of(bytes)),
+        Head::Good => contents(list, letter, bytes, cells),
+        Head::Bad(fault) => Outline {
+            what: What::Bad(fault),
+            length: fields::length_of(bytes),
+        },
     }
 }

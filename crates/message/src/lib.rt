@@ -4,9 +4,8 @@ mod codes;
 mod fields;
 mod head;
 
-pub use body::Message;
+pub use body::Outline;
 pub use body::What;
-pub use body::contents;
 pub use body::find;
 pub use body::read;
 pub use codes::Kind;

@@ -1,4 +1,5 @@
 // The rows of an update, read and written.
+ghost use Prim.Native.Nat.{_≤_};
 use crate::say::say;
 use crate::say::say_with;
 use layout::Level;
@@ -8,7 +9,9 @@ fn level_of(byte: u8) -> Level {
     if byte == 1 { Level::One } else { Level::Two }
 }
 
-fn rows_of(byte: u8) -> usize {
+fn rows_of(byte: u8) -> usize
+    ensures { λ r. ⌜ r ≤ 37 ⌝ }
+{
     if byte == 1 { 19 } else { 37 }
 }
 
@@ -16,9 +19,11 @@ fn say_cell(cell: u64) {
     say_with(b" ", cell);
 }
 
-fn say_cells(cells: &[u64]) {
+fn say_cells(cells: &[u64; 37], count: usize)
+    requires { ⌜ count ≤ 37 ⌝ }
+{
     let mut i = 0;
-    while i < cells.len() {
+    while i < count {
         say_cell(cells[i]);
         i += 1;
     }
@@ -30,24 +35,14 @@ pub fn say_read(asked: &[u8]) {
     if asked.len() == 0 {
         return;
     }
-    let read = layout::read_update(level_of(level), &asked[1..]);
-    let verdict = read.verdict;
-    let cells = read.cells;
-    match verdict {
+    let mut cells = [0u64; 37];
+    match layout::read_update(level_of(level), &asked[1..], &mut cells) {
         Verdict::Good => {
             say(b"good");
-            say_cells(front(&cells, rows_of(level)));
+            say_cells(&cells, rows_of(level));
         }
         Verdict::Field(row) => say_with(b"field ", row as u64),
         Verdict::Range(row) => say_with(b"range ", row as u64),
-    }
-}
-
-fn front(cells: &[u64], count: usize) -> &[u64] {
-    if count <= cells.len() {
-        &cells[..count]
-    } else {
-        cells
     }
 }
 

@@ -1,18 +1,22 @@
 -- What becomes of a message while a batch is judged, in the terms of what the batch does: the words of the inner contracts.
-use Prim.Native.Nat.{ℕ, suc, _+_, _≤_}
+use Prim.Native.Nat.{ℕ, suc, _+_, _*_, _≤_}
 use mathlib.Core.Path.{_≡_}
 use mathlib.Core.Bool.{Bool, true, false}
 use mathlib.Core.List.{List}
 use lib.ListN.{length}
+use Rattle.contracts.specs.Sound.{Header}
 use Rattle.sequence.specs.Row.{soundRow}
 use Rattle.message.specs.Fields.{lengthOf}
 use Rattle.quotebox.specs.declared.act.Act.{Act}
 use Rattle.quotebox.specs.declared.act.Act.the-variants.{Taken, Old, Heartbeat, Refused}
 use Rattle.quotebox.specs.declared.act.Counts.{Counts}
+use Rattle.quotebox.specs.declared.act.InTurn.{InTurn}
 use Rattle.quotebox.specs.declared.act.Step.{Step}
 use Rattle.quotebox.specs.declared.answers.Judged.{Judged}
 use Rattle.quotebox.specs.Answers.{judgedNumbers}
-use Rattle.quotebox.specs.Batch.{Box, Acted, acted, refused, numberActs, messageActs, messagesAct, actedNumbers}
+use Rattle.quotebox.specs.Batch.{Box, Acted, acted, refused, contractAt, numberActs, messageActs, messagesAct, actedNumbers}
+use Rattle.quotebox.specs.Memory.{recordsWanted}
+use Rattle.quotebox.specs.Stores.{storeCells, made, AllFit, Room, Keeps}
 
 -- 01 "What may be asked": how many messages were taken, old and heartbeats, with one message more
 abbrev pub counted : Act → Counts → Counts
@@ -61,14 +65,37 @@ pub record NumberActs (row : List ℕ) (i number : ℕ) (act : Act) (row′ : Li
       → numberActs (boxAt row records counts) i number changed ≡ actedAs act (boxAt row′ (changedBy act changed records) (counted act counts))
   pub sound : soundRow row′ ≡ true
 
+-- the list, a letter's contracts, a gap row and scratch memory for stores, of which some are kept
+pub record Ready (list : List ℕ) (letter before : ℕ) (row stores : List ℕ) (kept : ℕ) : Type 0 where
+  pub header : Header list
+  pub before-is : before ≡ contractAt list letter 0
+  pub sound : soundRow row ≡ true
+  pub within : storeCells * kept ≤ length stores
+
 -- message i acts, whatever the records and counts are
-pub record MessageActs (list : List ℕ) (letter : ℕ) (row : List ℕ) (i : ℕ) (bytes : List ℕ) (step : Step) (row′ : List ℕ) : Type 0 where
+pub record MessageActs (list : List ℕ) (letter : ℕ) (row stores : List ℕ) (kept i : ℕ) (bytes : List ℕ) (step : Step) (row′ stores′ : List ℕ) : Type 0 where
+  pub changes : List ℕ → List ℕ
   pub acts : (records : List ℕ) (counts : Counts)
-      → (records′ : List ℕ) × (messageActs list letter (boxAt row records counts) i bytes ≡ actedAs (step .act) (boxAt row′ records′ (counted (step .act) counts)))
+      → messageActs list letter (boxAt row records counts) i bytes ≡ actedAs (step .act) (boxAt row′ (changes records) (counted (step .act) counts))
   pub sound : soundRow row′ ≡ true
   pub length-is : step .length ≡ lengthOf bytes
   pub inside : passed (step .act) ≡ true → step .length ≤ length bytes
+  pub keeps : Keeps (recordsWanted list) (step .length) stores kept changes (step .kept) stores′
+
+-- a box that so many messages leave: its row, and its records as the stores make them
+pub record Left (list : List ℕ) (room : Type 0) (records : List ℕ) (box : Box) (kept : ℕ) (row′ stores′ : List ℕ) : Type 0 where
+  pub row-is : box .row ≡ row′
+  pub sound : soundRow row′ ≡ true
+  pub records-are : room → box .records ≡ made kept stores′ records
+  pub fit : AllFit (recordsWanted list) kept stores′
+  pub within : storeCells * kept ≤ length stores′
 
 -- so many messages are judged, whatever the records are
-pub record JudgedMessages (list : List ℕ) (letter : ℕ) (row bytes : List ℕ) (count : ℕ) (answer : Judged) : Type 0 where
-  pub answers : (records : List ℕ) → judgedNumbers answer ≡ actedNumbers (messagesAct count list letter 0 (boxAt row records none) bytes)
+pub record JudgedMessages (list : List ℕ) (letter : ℕ) (row : List ℕ) (cells : ℕ) (bytes : List ℕ) (count : ℕ) (turn : InTurn) (row′ stores′ : List ℕ) : Type 0 where
+  pub answers : (records : List ℕ) → judgedNumbers (turn .answer) ≡ actedNumbers (messagesAct count list letter 0 (boxAt row records none) bytes)
+  pub leaves : (records : List ℕ) (box : Box) → messagesAct count list letter 0 (boxAt row records none) bytes ≡ acted box
+      → Left list (Room cells (length bytes)) records box (turn .kept) row′ stores′
+
+-- what the messages are answered, and how many stores are kept
+abbrev pub turnOf : Judged → ℕ → InTurn
+turnOf answer kept = record { answer = answer; kept = kept }

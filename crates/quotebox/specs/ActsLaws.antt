@@ -1,6 +1,6 @@
 -- Laws of acting: what a number and a message do, by what was answered of them.
-use Prim.Native.Nat.{ℕ, _≤_}
-use mathlib.Core.Path.{_≡_, ap, sym, _∙_}
+use Prim.Native.Nat.{ℕ, _*_, _≤_}
+use mathlib.Core.Path.{_≡_, refl, ap, sym, _∙_}
 use mathlib.Core.Bool.{true, false≢true}
 use mathlib.Core.List.{List}
 use lib.ListN.{length}
@@ -13,21 +13,23 @@ use Rattle.sequence.specs.Row.{gapsOf, laid, soundRow}
 use Rattle.sequence.specs.RowLaws.{laid-self, sound-row-exactly}
 use Rattle.quotebox.specs.declared.act.Act.{Act}
 use Rattle.quotebox.specs.declared.act.Act.the-variants as act
-use Rattle.message.specs.declared.body.Message.{Message}
 use Rattle.message.specs.declared.body.What.{What}
 use Rattle.message.specs.declared.body.What.the-variants as what
 use Rattle.message.specs.declared.head.Fault.{Fault}
 use Rattle.message.specs.declared.head.Head.the-variants.{Good}
 use Rattle.message.specs.CallerLaws.{all-there}
 use Rattle.message.specs.Fields.{lengthOf}
-use Rattle.message.specs.Message.{messageOf}
+use Rattle.message.specs.Message.{Message, messageOf}
 use Rattle.message.specs.MessageLaws.{length-is}
 use Rattle.message.specs.Numbers.{verdictOf}
 use Rattle.quotebox.specs.declared.refusal.Refusal.{Refusal}
 use Rattle.quotebox.specs.declared.refusal.Refusal.the-variants.{Gaps}
 use Rattle.quotebox.specs.Acts.{boxAt, changedBy, NumberActs, MessageActs}
 use Rattle.quotebox.specs.Batch.{Box, numberActs, whatActs, messageActs}
+use Rattle.quotebox.specs.Memory.{recordsWanted}
 use Rattle.quotebox.specs.Refusals.{ofFault}
+use Rattle.quotebox.specs.Stores.{storeCells, Keeps}
+use Rattle.quotebox.specs.StoresLaws.{none-kept}
 
 -- what becomes of message i by what became of its number
 abbrev pub actOf : ℕ → Taken → Act
@@ -65,35 +67,46 @@ module _ (list : List ℕ) (letter : ℕ) (bytes : List ℕ) (message : Message)
   inside : verdictOf w ≡ Good → message .length ≤ length bytes
   inside g = rw is (all-there list letter bytes (ap verdictOf what-is ∙ g))
 
-  module _ (row row′ : List ℕ) (i : ℕ) where
+  module _ (row stores : List ℕ) (kept i : ℕ) where
     -- a message that is numbered
     pub numbered : (a : Act) (number : ℕ) (changed : List ℕ → List ℕ) → verdictOf w ≡ Good
         → ((box : Box) → whatActs list letter box i w (message .cells) ≡ numberActs box i number changed)
-        → NumberActs row i number a row′ → MessageActs list letter row i bytes (record { act = a; length = message .length }) row′
-    numbered a number changed g by n =
+        → (row′ : List ℕ) → NumberActs row i number a row′
+        → (kept′ : ℕ) (stores′ : List ℕ) → Keeps (recordsWanted list) (message .length) stores kept (changedBy a changed) kept′ stores′
+        → MessageActs list letter row stores kept i bytes (record { act = a; length = message .length; kept = kept′ }) row′ stores′
+    numbered a number changed g by row′ n kept′ stores′ k =
         record {
-          acts = λ records counts. (changedBy a changed records, acts-as (boxAt row records counts) i ∙ by (boxAt row records counts) ∙ n .acts changed records counts);
+          changes = changedBy a changed;
+          acts = λ records counts. acts-as (boxAt row records counts) i ∙ by (boxAt row records counts) ∙ n .acts changed records counts;
           sound = n .sound;
           length-is = whole;
           inside = λ p. inside g;
+          keeps = k;
         }
 
-  pub heartbeat-acts : w ≡ what.Heartbeat → (row : List ℕ) (i : ℕ) → soundRow row ≡ true
-      → MessageActs list letter row i bytes (record { act = act.Heartbeat; length = message .length }) row
-  heartbeat-acts h row i s =
-      record {
-        acts = λ records counts. (records, acts-as (boxAt row records counts) i ∙ rw h);
-        sound = s;
-        length-is = whole;
-        inside = λ p. inside (ap verdictOf h);
-      }
+    module _ (sound : soundRow row ≡ true) (within : storeCells * kept ≤ length stores) where
+      none-changed : Keeps (recordsWanted list) (message .length) stores kept (λ records. records) kept stores
+      none-changed = none-kept (recordsWanted list) (message .length) stores kept within (λ records. records) (λ records. refl)
 
-  pub bad-acts : (fault : Fault) → w ≡ what.Bad fault → (refusal : Refusal) (row : List ℕ) (i : ℕ) → refusal ≡ ofFault fault i → soundRow row ≡ true
-      → MessageActs list letter row i bytes (record { act = act.Refused refusal; length = message .length }) row
-  bad-acts fault h refusal row i f s =
-      record {
-        acts = λ records counts. (records, acts-as (boxAt row records counts) i ∙ rw (h, f));
-        sound = s;
-        length-is = whole;
-        inside = λ p. absurd (false≢true p);
-      }
+      pub heartbeat-acts : w ≡ what.Heartbeat → MessageActs list letter row stores kept i bytes (record { act = act.Heartbeat; length = message .length; kept = kept }) row stores
+      heartbeat-acts h =
+          record {
+            changes = λ records. records;
+            acts = λ records counts. acts-as (boxAt row records counts) i ∙ rw h;
+            sound = sound;
+            length-is = whole;
+            inside = λ p. inside (ap verdictOf h);
+            keeps = none-changed;
+          }
+
+      pub bad-acts : (fault : Fault) → w ≡ what.Bad fault → (refusal : Refusal) → refusal ≡ ofFault fault i
+          → MessageActs list letter row stores kept i bytes (record { act = act.Refused refusal; length = message .length; kept = kept }) row stores
+      bad-acts fault h refusal f =
+          record {
+            changes = λ records. records;
+            acts = λ records counts. acts-as (boxAt row records counts) i ∙ rw (h, f);
+            sound = sound;
+            length-is = whole;
+            inside = λ p. absurd (false≢true p);
+            keeps = none-changed;
+          }

@@ -23,7 +23,7 @@ module _ (list rows records batch : List ℕ) where
   inTurn = messagesAct (countOf batch) list (batchLetter batch) 0 (boxOf list (batchLetter batch) rows records) (dataOf batch)
 
   -- a broken rule before the messages refuses the batch
-  rule-refuses : (refusal : Refusal) → firstBroken (stateRules list rows records ++ batchRules batch) ≡ some refusal → batchActs list rows records batch ≡ refused refusal
+  pub rule-refuses : (refusal : Refusal) → firstBroken (stateRules list rows records ++ batchRules batch) ≡ some refusal → batchActs list rows records batch ≡ refused refusal
   unfolding batchActs
   rule-refuses refusal e = ap (λ (o : Option Refusal). unlessBroken o inTurn) e
 

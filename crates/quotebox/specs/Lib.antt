@@ -2,15 +2,13 @@ pub mod Acts
 pub mod ActsLaws
 pub mod Answers
 pub mod AnswersLaws
-pub mod AppliedLaws
-pub mod Applies
-pub mod AppliesLaws
 pub mod Batch
 pub mod BatchLaws
 pub mod CallPromises
 pub mod CallPromisesLaws
 pub mod Calls
 pub mod CallsLaws
+pub mod CheckedLaws
 pub mod Good
 pub mod GoodLaws
 pub mod GoodState
@@ -32,7 +30,10 @@ pub mod StartLaws
 pub mod State
 pub mod StateLaws
 pub mod StepLaws
+pub mod Stores
+pub mod StoresLaws
 pub mod TookLaws
+pub mod UpdateLaws
 pub mod Writer
 pub mod WriterLaws
 pub mod WriterPromises

@@ -1,12 +1,14 @@
-// Judging the messages of a batch in turn, on a copy of their segment's gap row.
+// Judging the messages of a batch in turn, on a copy of their segment's gap row. What they store is kept for later.
 ghost use mathlib.Core.Path.{_≡_};
 ghost use mathlib.Core.Bool.{true};
 ghost use Prim.Native.Nat.{_<_};
 ghost use Rattle.sequence.specs.Row.{soundRow};
-ghost use Rattle.quotebox.specs.Acts.{counted, total, NumberActs, MessageActs, JudgedMessages};
+ghost use Rattle.quotebox.specs.Acts.{counted, none, total, Ready, NumberActs, MessageActs, JudgedMessages, turnOf};
+ghost use lib.ListN.{length};
 use crate::answers::Judged;
 use crate::refusal;
 use crate::refusal::Refusal;
+use crate::stores;
 use message::What;
 use sequence::Taken;
 
@@ -18,10 +20,17 @@ pub enum Act {
     Refused(Refusal),
 }
 
-// With the message's length.
+// With the message's length, and how many stores are kept behind it.
 pub struct Step {
     pub act: Act,
     pub length: usize,
+    pub kept: usize,
+}
+
+// What the messages of a batch are answered, and how many stores are kept.
+pub struct InTurn {
+    pub answer: Judged,
+    pub kept: usize,
 }
 
 // How many messages were taken, old and heartbeats.
@@ -42,27 +51,38 @@ pub(crate) fn number_acts(row: &mut [u32; sequence::CELLS], i: usize, number: u3
     }
 }
 
-// Message i, which begins here.
+// Message i, which begins here; `before` contracts stand in front of its segment, and `cells` is for its rows.
 fn message_acts(
     list: &[u8],
     letter: u8,
+    before: usize,
     row: &mut [u32; sequence::CELLS],
+    stores: &mut [u64],
+    kept: usize,
     i: usize,
     bytes: &[u8],
+    cells: &mut [u64; 37],
 ) -> Step
-    requires { ⌜ soundRow (now row) ≡ true ⌝ }
-    ensures { λ r. ⌜ MessageActs (now (list .entry)) letter (now (row .entry)) i (now (bytes .entry)) r (now (row .exit)) ⌝ }
+    requires { ⌜ Ready (now list) letter before (now row) (now stores) kept ⌝ }
+    ensures { λ r. ⌜ MessageActs (now (list .entry)) letter (now (row .entry)) (now (stores .entry)) kept i (now (bytes .entry)) r (now (row .exit)) (now (stores .exit)) ⌝ }
 {
-    let message = message::read(list, letter, bytes);
+    let message = message::read(list, letter, bytes, cells);
     let length = message.length;
     let what = message.what;
+    let mut kept = kept;
     let act = match what {
         What::Heartbeat => Act::Heartbeat,
         What::PassedOver(number) => number_acts(row, i, number),
-        What::Update(number, _, _) => number_acts(row, i, number),
+        What::Update(number, level, place) => {
+            let act = number_acts(row, i, number);
+            if let Act::Taken = act {
+                kept = stores::keep(stores, kept, before + place, level, number, cells);
+            }
+            act
+        }
         What::Bad(fault) => Act::Refused(refusal::of_fault(fault, i)),
     };
-    Step { act, length }
+    Step { act, length, kept }
 }
 
 fn counted(counts: Counts, act: Act) -> Counts
@@ -92,36 +112,56 @@ fn counted(counts: Counts, act: Act) -> Counts
     }
 }
 
-// The messages in turn, each where the one before it ends; last, bytes left over (4).
-pub(crate) fn judge_messages(
-    list: &[u8],
-    letter: u8,
-    row: &mut [u32; sequence::CELLS],
-    data: &[u8],
-    count: usize,
-) -> Judged
-    requires { ⌜ (soundRow (now row) ≡ true) × (count < 65536) ⌝ }
-    ensures { λ r. ⌜ JudgedMessages (now (list .entry)) letter (now (row .entry)) (now («data» .entry)) count r ⌝ }
+fn answered(answer: Judged, kept: usize) -> InTurn
+    ensures { λ r. ⌜ r ≡ turnOf answer kept ⌝ }
 {
-    let mut counts = Counts {
+    InTurn { answer, kept }
+}
+
+// Before the first message.
+fn none() -> Counts
+    ensures { λ r. ⌜ r ≡ none ⌝ }
+{
+    Counts {
         taken: 0,
         old: 0,
         heartbeats: 0,
-    };
+    }
+}
+
+// The messages in turn, each where the one before it ends; last, bytes left over (4). Of a refused batch no store is kept.
+pub(crate) fn judge_messages(
+    list: &[u8],
+    letter: u8,
+    before: usize,
+    row: &mut [u32; sequence::CELLS],
+    stores: &mut [u64],
+    data: &[u8],
+    count: usize,
+) -> InTurn
+    requires { ⌜ Ready (now list) letter before (now row) (now stores) 0 × (count < 65536) ⌝ }
+    ensures { λ r. ⌜ JudgedMessages (now (list .entry)) letter (now (row .entry)) (length (now (stores .entry))) (now («data» .entry)) count r (now (row .exit)) (now (stores .exit)) ⌝ }
+{
+    let mut cells = [0u64; 37];
+    let mut counts = none();
+    let mut kept = 0;
     let mut at = 0;
     let mut i = 0;
     while i < count {
-        let step = message_acts(list, letter, row, i, &data[at..]);
+        let part = &data[at..];
+        let step = message_acts(list, letter, before, row, stores, kept, i, part, &mut cells);
         let act = step.act;
         if let Act::Refused(refusal) = act {
-            return Judged::Refused(refusal);
+            return answered(Judged::Refused(refusal), 0);
         }
         counts = counted(counts, act);
+        kept = step.kept;
         at += step.length;
         i += 1;
     }
     if at < data.len() {
-        return Judged::Refused(Refusal::Count);
+        return answered(Judged::Refused(Refusal::Count), 0);
     }
-    Judged::Accepted(counts.taken, counts.old, counts.heartbeats)
+    let accepted = Judged::Accepted(counts.taken, counts.old, counts.heartbeats);
+    answered(accepted, kept)
 }

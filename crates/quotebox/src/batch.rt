@@ -1,27 +1,40 @@
 // A batch: judged whole on scratch memory, and applied only where every message has passed.
 ghost use mathlib.Core.Path.{_≡_};
+ghost use mathlib.Core.List.{_++_};
+ghost use lib.ListN.{length};
 ghost use Rattle.laws.specs.Rules.{firstBroken};
 ghost use Rattle.quotebox.specs.State.{checkedRefusal};
-ghost use Rattle.quotebox.specs.Acts.{JudgedMessages};
-ghost use Rattle.quotebox.specs.Batch.{batchRules, rowOfLetter};
-ghost use Rattle.quotebox.specs.Applies.{AcceptedBatch, AppliedBatch};
+ghost use Rattle.quotebox.specs.Batch.{batchRules, contractAt};
+ghost use Rattle.quotebox.specs.Memory.{recordsWanted, stateRules};
 ghost use Rattle.quotebox.specs.Promises.{JudgedBatch, TookBatch};
-ghost use Rattle.quotebox.specs.Scratch.{RowsReady};
-ghost use Rattle.message.specs.Fields.{letterOf};
-ghost use Prim.Native.Nat.{_<_};
+ghost use Rattle.quotebox.specs.Scratch.{DataReady, JudgedData, TookData};
+ghost use Rattle.quotebox.specs.Stores.{Room};
+ghost use Prim.Native.Nat.{_≤_};
 use crate::act;
 use crate::answers::Judged;
-use crate::apply;
 use crate::refusal::Refusal;
 use crate::rows;
 use crate::state;
 use crate::state::Checked;
+use crate::stores;
 use contracts::Found;
 
 // The bytes of flag, data size and number of messages.
 const FRONT: usize = 5;
 
 const MOST_DATA: usize = 32767;
+
+// The bytes of a level 1 update, the shortest.
+const LEAST_UPDATE: usize = 249;
+
+// The updates whose stores find room in the scratch memory of a short batch.
+const FEW: usize = 4;
+
+// The updates that the longest data can hold.
+const MOST: usize = 131;
+
+// Data under so many bytes holds a few updates at most.
+const MANY_DATA: usize = (FEW + 1) * LEAST_UPDATE;
 
 // Under 5 bytes (1), flag (2, 3), the rest of 1, no messages (4).
 fn check(batch: &[u8]) -> Checked
@@ -50,59 +63,103 @@ fn check(batch: &[u8]) -> Checked
     Checked::Good
 }
 
-// The messages, on scratch memory.
+// The state, and then the batch before its messages.
+fn check_all(list: &[u8], rows: &[u32], records: &[u64], batch: &[u8]) -> Checked
+    ensures { λ r. ⌜ checkedRefusal r ≡ firstBroken (stateRules (now (list .entry)) (now (rows .entry)) (now (records .entry)) ++ batchRules (now (batch .entry))) ⌝ }
+{
+    match state::check_state(list, rows, records) {
+        Checked::Refused(refusal) => Checked::Refused(refusal),
+        Checked::Good => check(batch),
+    }
+}
+
+// How many contracts stand in front of a letter's segment.
+fn before_letter(list: &[u8], letter: u8) -> usize
+    ensures { λ r. ⌜ r ≡ contractAt (now (list .entry)) letter 0 ⌝ }
+{
+    match contracts::segment_of(list, letter) {
+        Found::At(segment) => contracts::contracts_before(list, segment),
+        Found::Nowhere => 0,
+    }
+}
+
+// The messages, on scratch memory that has no room for a store.
 fn judge_data(list: &[u8], rows: &[u32], data: &[u8], count: usize) -> Judged
-    requires { ⌜ RowsReady (now list) (now rows) × (0 < count) × (count < 65536) ⌝ }
-    ensures { λ r. ⌜ JudgedMessages (now (list .entry)) (letterOf (now («data» .entry))) (rowOfLetter (now (list .entry)) (letterOf (now («data» .entry))) (now (rows .entry))) (now («data» .entry)) count r ⌝ }
+    requires { ⌜ DataReady (now list) (now rows) count ⌝ }
+    ensures { λ r. ⌜ JudgedData (now (list .entry)) (now (rows .entry)) (now («data» .entry)) count r ⌝ }
 {
     let letter = wire::u8_at(data, 0);
+    let before = before_letter(list, letter);
     let mut row = rows::row_of_letter(list, rows, letter);
-    act::judge_messages(list, letter, &mut row, data, count)
+    let mut stores = [0u64; 1];
+    let turn = act::judge_messages(list, letter, before, &mut row, &mut stores, data, count);
+    turn.answer
 }
 
 pub fn judge(list: &[u8], rows: &[u32], records: &[u64], batch: &[u8]) -> Judged
     ensures { λ r. ⌜ JudgedBatch (now (list .entry)) (now (rows .entry)) (now (records .entry)) (now (batch .entry)) r ⌝ }
 {
-    match state::check_state(list, rows, records) {
+    match check_all(list, rows, records, batch) {
         Checked::Refused(refusal) => Judged::Refused(refusal),
-        Checked::Good => match check(batch) {
-            Checked::Refused(refusal) => Judged::Refused(refusal),
-            Checked::Good => {
-                let count = wire::u16_at(batch, 3) as usize;
-                judge_data(list, rows, &batch[FRONT..], count)
-            }
-        },
-    }
-}
-
-// A batch that was judged good.
-fn apply(list: &[u8], rows: &mut [u32], records: &mut [u64], batch: &[u8])
-    requires { ⌜ AcceptedBatch (now list) (now rows) (now records) (now batch) ⌝ }
-    ensures { λ _. ⌜ AppliedBatch (now (list .entry)) (now (rows .entry)) (now (records .entry)) (now (batch .entry)) (now (rows .exit)) (now (records .exit)) ⌝ }
-{
-    let count = wire::u16_at(batch, 3) as usize;
-    let data = &batch[FRONT..];
-    let letter = wire::u8_at(data, 0);
-    match contracts::segment_of(list, letter) {
-        Found::At(segment) => {
-            let before = contracts::contracts_before(list, segment);
-            let mut row = rows::row_of_letter(list, rows, letter);
-            apply::apply_messages(list, letter, before, &mut row, records, data, count);
-            rows::put_row(rows, segment, &row);
+        Checked::Good => {
+            let count = wire::u16_at(batch, 3) as usize;
+            judge_data(list, rows, &batch[FRONT..], count)
         }
-        Found::Nowhere => {}
     }
 }
 
-// Nothing lent is written before the last message has passed.
+// The messages, on scratch memory with room for their stores. Nothing lent is written before the last message has passed.
+fn take_on(
+    list: &[u8],
+    rows: &mut [u32],
+    records: &mut [u64],
+    stores: &mut [u64],
+    data: &[u8],
+    count: usize,
+) -> Judged
+    requires { ⌜ DataReady (now list) (now rows) count × (recordsWanted (now list) ≤ length (now records)) × Room (length (now stores)) (length (now «data»)) ⌝ }
+    ensures { λ r. ⌜ TookData (now (list .entry)) (now (rows .entry)) (now (records .entry)) (now («data» .entry)) count r (now (rows .exit)) (now (records .exit)) ⌝ }
+{
+    let letter = wire::u8_at(data, 0);
+    let before = before_letter(list, letter);
+    let mut row = rows::row_of_letter(list, rows, letter);
+    let turn = act::judge_messages(list, letter, before, &mut row, stores, data, count);
+    let answer = turn.answer;
+    let kept = turn.kept;
+    if let Judged::Accepted(_, _, _) = answer {
+        rows::put_row_of_letter(list, rows, letter, &row);
+        stores::make_all(records, stores, kept);
+    }
+    answer
+}
+
+// Scratch memory is cleared before it is used, so a short batch gets little.
+fn take_data(
+    list: &[u8],
+    rows: &mut [u32],
+    records: &mut [u64],
+    data: &[u8],
+    count: usize,
+) -> Judged
+    requires { ⌜ DataReady (now list) (now rows) count × (recordsWanted (now list) ≤ length (now records)) × (length (now «data») ≤ 32767) ⌝ }
+    ensures { λ r. ⌜ TookData (now (list .entry)) (now (rows .entry)) (now (records .entry)) (now («data» .entry)) count r (now (rows .exit)) (now (records .exit)) ⌝ }
+{
+    if data.len() < MANY_DATA {
+        let mut few = [0u64; FEW * stores::STORE];
+        return take_on(list, rows, records, &mut few, data, count);
+    }
+    let mut most = [0u64; MOST * stores::STORE];
+    take_on(list, rows, records, &mut most, data, count)
+}
+
 pub fn take(list: &[u8], rows: &mut [u32], records: &mut [u64], batch: &[u8]) -> Judged
     ensures { λ r. ⌜ TookBatch (now (list .entry)) (now (rows .entry)) (now (records .entry)) (now (batch .entry)) r (now (rows .exit)) (now (records .exit)) ⌝ }
 {
-    match judge(list, rows, records, batch) {
-        Judged::Accepted(taken, old, heartbeats) => {
-            apply(list, rows, records, batch);
-            Judged::Accepted(taken, old, heartbeats)
+    match check_all(list, rows, records, batch) {
+        Checked::Refused(refusal) => Judged::Refused(refusal),
+        Checked::Good => {
+            let count = wire::u16_at(batch, 3) as usize;
+            take_data(list, rows, records, &batch[FRONT..], count)
         }
-        Judged::Refused(refusal) => Judged::Refused(refusal),
     }
 }

@@ -1,7 +1,6 @@
 // The public calls over lent memory.
 mod act;
 mod answers;
-mod apply;
 mod batch;
 mod gaps;
 mod record;
@@ -9,6 +8,7 @@ mod refusal;
 mod rows;
 mod starting;
 mod state;
+mod stores;
 mod writing;
 
 pub use answers::Judged;

@@ -2,6 +2,7 @@
 ghost use mathlib.Core.Path.{_≡_};
 ghost use Prim.Native.Nat.{_+_, _*_, _≤_};
 ghost use lib.ListN.{length};
+ghost use Rattle.quotebox.specs.Batch.{withRowOfLetter};
 ghost use Rattle.quotebox.specs.Memory.{rowCells, rowOf, withRow};
 ghost use Rattle.quotebox.specs.Scratch.{RowsReady, ScratchRow};
 use contracts::Found;
@@ -45,5 +46,16 @@ pub(crate) fn row_of_letter(list: &[u8], rows: &[u32], letter: u8) -> [u32; 132]
             sequence::start(&mut row, 1);
             row
         }
+    }
+}
+
+// The gap row of a letter's segment, put back.
+pub(crate) fn put_row_of_letter(list: &[u8], rows: &mut [u32], letter: u8, row: &[u32; 132])
+    requires { ⌜ RowsReady (now list) (now rows) × (length (now row) ≡ rowCells) ⌝ }
+    ensures { λ _. ⌜ now (rows .exit) ≡ withRowOfLetter (now (list .entry)) letter (now (rows .entry)) (now (row .entry)) ⌝ }
+{
+    match contracts::segment_of(list, letter) {
+        Found::At(segment) => put_row(rows, segment, row),
+        Found::Nowhere => {}
     }
 }

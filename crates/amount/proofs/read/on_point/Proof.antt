@@ -7,9 +7,6 @@ use Rattle.amount.proofs.read.on_point.Tie as tie
 enum-told : tie.Need-enum-told
 enum-told c = search needs
 
-enum-known-state : tie.Need-enum-known-state
-enum-known-state c = search needs
-
 enum-told-2 : tie.Need-enum-told-2
 enum-told-2 c = search needs
 
@@ -22,14 +19,17 @@ enum-told-4 c = search needs
 enum-told-5 : tie.Need-enum-told-5
 enum-told-5 c = search needs
 
+enum-told-6 : tie.Need-enum-told-6
+enum-told-6 c = search needs
+
 returns : tie.Need-returns
 returns c = search needs
 
 returns-2 : tie.Need-returns-2
-returns-2 c = rw (c .before .before .state .given .1, eq-eqb _ 0 (c .if1 .taken))
+returns-2 c = rw (c .before .enum-told2 .given .1, eq-eqb _ 0 (c .if1 .taken))
 
 returns-3 : tie.Need-returns-3
-returns-3 c = rw (c .before .before .state .given .1, ne-eqb _ 0 (c .if1 .left))
+returns-3 c = rw (c .before .enum-told2 .given .1, ne-eqb _ 0 (c .if1 .left))
 
 returns-4 : tie.Need-returns-4
 returns-4 c = search needs
@@ -48,11 +48,11 @@ on-point-spec =
     tie.close
     (tie.spec
     enum-told
-    enum-known-state
     enum-told-2
     enum-told-3
     enum-told-4
     enum-told-5
+    enum-told-6
     returns
     returns-2
     returns-3

@@ -13,18 +13,18 @@ use Rattle.layout.specs.declared.read.Verdict.{Verdict}
 use Rattle.layout.specs.declared.read.Verdict.the-variants.{Field, Range}
 use Rattle.layout.specs.Rows.{widthOf}
 use Rattle.layout.specs.Read.{Outcome, readRow, rowThen, ReadsRows}
-use Rattle.layout.specs.ReadLaws.{behind, Going, this-row, goes-on, stands, all-read}
+use Rattle.layout.specs.ReadLaws.{behind, Going, begins, this-row, goes-on, stands, all-read}
 use Rattle.layout.proofs.read.read_rows.Statement.{statement}
 use Rattle.layout.proofs.read.read_rows.Tie as tie
 
 abbrev Inv-loop : tie.InvT-loop
-Inv-loop count «data» rows cells₀ at₀ i₀ cells at i = (i ≤ count) × Going (take count rows) «data» cells at i
+Inv-loop count «data» cells₀ rows at₀ i₀ cells at i = (i ≤ count) × Going (take count rows) «data» cells₀ cells at i
 
 abbrev μ-loop : tie.MeasureT-loop
-μ-loop count «data» rows cells₀ at₀ i₀ cells at i = count - i
+μ-loop count «data» cells₀ rows at₀ i₀ cells at i = count - i
 
 loop-holds : tie.Need-loop-holds Inv-loop μ-loop
-loop-holds c = (omega arith, (omega arith, refl, refl, refl))
+loop-holds c = (omega arith, begins _ _ _)
 
 mul-row : tie.Need-mul-row Inv-loop μ-loop
 mul-row c = omega arith
@@ -62,8 +62,8 @@ enum-known-cell c = search needs
 mul-cells : tie.Need-mul-cells Inv-loop μ-loop
 mul-cells c = omega arith
 
-array-write-cells : tie.Need-array-write-cells Inv-loop μ-loop
-array-write-cells c = omega arith
+element-write-cells : tie.Need-element-write-cells Inv-loop μ-loop
+element-write-cells c = omega arith
 
 enum-told : tie.Need-enum-told Inv-loop μ-loop
 enum-told c = search needs
@@ -82,6 +82,9 @@ module _ (c : tie.After-read-row Inv-loop μ-loop) where
   abbrev cells : List ℕ
   cells = c .before .before .before .before .before .before .loop .cells
 
+  abbrev lent : List ℕ
+  lent = c .before .before .before .before .before .before .before .before .args .cells .now
+
   abbrev rows : List Row
   rows = c .before .before .before .before .before .before .before .before .args .t1
 
@@ -91,7 +94,7 @@ module _ (c : tie.After-read-row Inv-loop μ-loop) where
   abbrev bytes : List ℕ
   bytes = c .before .before .before .before .before .before .before .before .args .«data» .now
 
-  abbrev going : Going (take count rows) bytes cells at i
+  abbrev going : Going (take count rows) bytes lent cells at i
   going = c .before .before .before .before .before .before .loop .inv .1
 
   more : i < length (take count rows)
@@ -110,10 +113,10 @@ module _ (c : tie.After-read-row Inv-loop μ-loop) where
 
   ended : (verdict : Verdict) {answer : RowRead} → c .read-row .result ≡ answer
       → ((rest : Outcome) → rowThen answer i rest ≡ record { cells = []; verdict = verdict })
-      → ReadsRows (take count rows) bytes (record { verdict = verdict; cells = cells })
+      → ReadsRows (take count rows) bytes lent verdict cells
   ended verdict e none =
-      stands (take count rows) bytes cells at i verdict (omega arith) going
-      (this-row (take count rows) bytes cells at i width more is-width going (row-read ∙ e) ∙ ap (behind (take i cells)) (none _))
+      stands (take count rows) bytes lent cells at i verdict going
+      (this-row (take count rows) bytes lent cells at i width more is-width going (row-read ∙ e) ∙ ap (behind (going .front)) (none _))
 
 returns : tie.Need-returns Inv-loop μ-loop
 returns c = ended (c .before .before) (Field _) (c .enum-told .given .1) (λ rest. refl)
@@ -133,12 +136,12 @@ loop-less c = omega arith
 loop-again : tie.Need-loop-again Inv-loop μ-loop
 loop-again c =
     let d = c .before .before .before in
-    (omega arith, goes-on (take (count d) (rows d)) (bytes d) (cells d) (at d) (i d) (width d) (more d) (is-width d) (going d) (omega arith) (row-read d ∙ c .before .cell .given .1))
+    (omega arith, goes-on (take (count d) (rows d)) (bytes d) (lent d) (cells d) (at d) (i d) (width d) (more d) (is-width d) (going d) (row-read d ∙ c .before .cell .given .1))
 
 returns-3 : tie.Need-returns-3 Inv-loop μ-loop
 returns-3 c =
     let a = c .before .before .before .args in
-    all-read (take (a .count) (a .t1)) (a .«data» .now) (c .before .loop .cells) (c .before .loop .at) (c .before .loop .i) (rw (length-take (a .count) (a .t1)) (omega arith)) (omega arith) (c .before .loop .inv .1)
+    all-read (take (a .count) (a .t1)) (a .«data» .now) (a .cells .now) (c .before .loop .cells) (c .before .loop .at) (c .before .loop .i) (rw (length-take (a .count) (a .t1)) (omega arith)) (c .before .loop .inv .1)
 
 pub read-rows-spec : {M : Type 1} → statement M
 read-rows-spec =
@@ -159,7 +162,7 @@ read-rows-spec =
     read-row-requires
     enum-known-cell
     mul-cells
-    array-write-cells
+    element-write-cells
     enum-told
     returns
     enum-told-2

@@ -15,14 +15,14 @@ count-of-requires c κs = search needs
 
 read-rows-requires : tie.Need-read-rows-requires
 read-rows-requires c κs =
-    let level = c .before .before .before .args .level in
+    let level = c .before .before .before .before .args .level in
     let fit : length (rowsOf level) ≤ 37 = rows-fit level in
-    rw (c .count-of .ensures, c .before .rows-of .ensures, padded-length level) (fit, fit)
+    rw (c .before .count-of .ensures, c .before .before .rows-of .ensures, padded-length level) (fit, fit)
 
 returns : tie.Need-returns
 returns c =
-    let level = c .before .before .before .before .args .level in
-    rw (c .before .count-of .ensures, c .before .before .rows-of .ensures, padded-rows level) at (c .read-rows .ensures)
+    let level = c .before .before .before .before .before .args .level in
+    rw (c .before .before .count-of .ensures, c .before .before .before .rows-of .ensures, padded-rows level) at (c .read-rows .ensures)
 
 pub read-update-spec : {M : Type 1} → statement M
 read-update-spec =

@@ -3,7 +3,7 @@ use mathlib.Core.Path.{_≡_, sym, _∙_}
 use borrow.Author.Needs.{needs}
 use Rattle.message.specs.Fields.{lengthOf, kindIn}
 use Rattle.message.specs.HeadLaws.{framed-exact}
-use Rattle.message.specs.MessageLaws.{heartbeat-is, passed-over-is}
+use Rattle.message.specs.MessageLaws.{heartbeat-reads, passed-over-reads}
 use Rattle.message.proofs.body.contents.Statement.{statement}
 use Rattle.message.proofs.body.contents.Tie as tie
 
@@ -19,9 +19,6 @@ kind-of-requires c κs = search needs
 enum-told : tie.Need-enum-told
 enum-told c = search needs
 
-bare-requires : tie.Need-bare-requires
-bare-requires c κs = search needs
-
 enum-told-2 : tie.Need-enum-told-2
 enum-told-2 c = search needs
 
@@ -30,9 +27,6 @@ enum-told-3 c = search needs
 
 number-of-requires : tie.Need-number-of-requires
 number-of-requires c κs = search needs
-
-bare-requires-2 : tie.Need-bare-requires-2
-bare-requires-2 c κs = search needs
 
 whole-is : (c : tie.After-kind-of) → c .before .before .length-of .result ≡ lengthOf (c .before .before .before .before .before .args .bytes .now)
 whole-is c = c .before .before .length-of .ensures
@@ -43,24 +37,23 @@ kind-is c = sym (rw (← c .before .second-of .ensures) (c .kind-of .ensures))
 
 update-requires : tie.Need-update-requires
 update-requires c κs =
-    let d = c .before .before in
-    (framed-exact _ .0 (d .before .before .before .before .before .pre), whole-is d, kind-is d ∙ c .enum-told2 .given .1)
+    let d = c .before .before .before in
+    (framed-exact _ .0 (d .before .before .before .before .before .pre), whole-is d, kind-is d ∙ c .before .enum-told2 .given .1)
 
 returns : tie.Need-returns
 returns c =
-    let d = c .before .before .before in
+    let d = c .before .before in
     let a = d .before .before .before .before .before .args in
-    sym (heartbeat-is (a .list .now) (a .letter) (a .bytes .now) (kind-is d ∙ c .before .enum-told .given .1) ∙ rw (← whole-is d) (sym (c .bare .ensures)))
+    heartbeat-reads (a .list .now) (a .letter) (a .bytes .now) _ (whole-is d) (a .cells .now) (kind-is d ∙ c .enum-told .given .1)
 
 returns-2 : tie.Need-returns-2
 returns-2 c = search needs
 
 returns-3 : tie.Need-returns-3
 returns-3 c =
-    let d = c .before .before .before .before in
+    let d = c .before .before .before in
     let a = d .before .before .before .before .before .args in
-    sym
-    (passed-over-is (a .list .now) (a .letter) (a .bytes .now) (kind-is d ∙ c .before .before .enum-told3 .given .1) ∙ rw (← whole-is d, ← c .before .number-of .ensures) (sym (c .bare2 .ensures)))
+    rw (c .number-of .ensures) (passed-over-reads (a .list .now) (a .letter) (a .bytes .now) _ (whole-is d) (a .cells .now) (kind-is d ∙ c .before .enum-told3 .given .1))
 
 pub contents-spec : {M : Type 1} → statement M
 contents-spec =
@@ -70,12 +63,10 @@ contents-spec =
     second-of-requires
     kind-of-requires
     enum-told
-    bare-requires
     enum-told-2
     update-requires
     enum-told-3
     number-of-requires
-    bare-requires-2
     returns
     returns-2
     returns-3)

@@ -1,5 +1,9 @@
 -- The head, and then the contents.
-use mathlib.Core.Path.{sym, _∙_}
+use Prim.Native.Nat.{ℕ}
+use mathlib.Core.Path.{_≡_, refl, sym, _∙_}
+use mathlib.Core.List.{List}
+use Rattle.message.specs.declared.head.Head.{Head}
+use Rattle.message.specs.Head.{headOf}
 use Rattle.message.specs.HeadLaws.{good-framed}
 use Rattle.message.specs.MessageLaws.{good-head, bad-head}
 use borrow.Author.Needs.{needs}
@@ -12,9 +16,24 @@ judge-head-requires c κs = search needs
 enum-told : tie.Need-enum-told
 enum-told c = search needs
 
+-- what is known once the head is judged
+module _ (c : tie.After-judge-head) where
+  abbrev list : List ℕ
+  list = c .before .before .before .args .list .now
+
+  abbrev letter : ℕ
+  letter = c .before .before .before .args .letter
+
+  abbrev bytes : List ℕ
+  bytes = c .before .before .before .args .bytes .now
+
+  head-is : {h : Head} → c .judge-head .result ≡ h → headOf list letter bytes ≡ h
+  head-is e = sym (c .judge-head .ensures) ∙ e
+
 contents-requires : tie.Need-contents-requires
-contents-requires c κs = let a = c .before .before .before .before .before .args in
-    good-framed (a .list .now) (a .letter) (a .bytes .now) (sym (c .before .before .judge-head .ensures) ∙ c .enum-told .given .1)
+contents-requires c κs =
+    let d = c .before .before .before in
+    good-framed (list d) (letter d) (bytes d) (head-is d (c .before .enum-told .given .1))
 
 enum-known-fault : tie.Need-enum-known-fault
 enum-known-fault c = search needs
@@ -22,16 +41,17 @@ enum-known-fault c = search needs
 length-of-requires : tie.Need-length-of-requires
 length-of-requires c κs = search needs
 
-bare-requires : tie.Need-bare-requires
-bare-requires c κs = search needs
-
 returns : tie.Need-returns
-returns c = let a = c .before .before .before .before .before .before .args in
-    c .contents .ensures ∙ sym (good-head (a .list .now) (a .letter) (a .bytes .now) (sym (c .before .before .before .judge-head .ensures) ∙ c .before .enum-told .given .1))
+returns c =
+    let d = c .before .before .before .before in
+    let h = head-is d (c .before .before .enum-told .given .1) in
+    rw (good-head (list d) (letter d) (bytes d) h, h) (c .contents .ensures)
 
 returns-2 : tie.Need-returns-2
-returns-2 c = let a = c .before .before .before .before .before .before .before .before .args in
-    rw (c .before .length-of .ensures) at (c .bare .ensures) ∙ sym (bad-head (a .list .now) (a .letter) (a .bytes .now) _ (sym (c .before .before .before .before .before .judge-head .ensures) ∙ c .before .before .before .fault .given .1))
+returns-2 c =
+    let d = c .before .before .before .before in
+    let h = head-is d (c .before .before .fault .given .1) in
+    rw (bad-head (list d) (letter d) (bytes d) _ h, h, c .length-of .ensures) (record { told = refl; stored = refl })
 
 pub read-spec : {M : Type 1} → statement M
 read-spec =
@@ -42,6 +62,5 @@ read-spec =
     contents-requires
     enum-known-fault
     length-of-requires
-    bare-requires
     returns
     returns-2)

@@ -1,15 +1,14 @@
 -- Each cell is read inside.
 use Prim.Native.Nat.{_≤_, _-_}
 use native.Mathlib.Omega.{arith}
-use lib.ListN.{length}
 use Rattle.parts.proofs.rows.say_cells.Statement.{statement}
 use Rattle.parts.proofs.rows.say_cells.Tie as tie
 
 abbrev Inv-loop : tie.InvT-loop
-Inv-loop cells i₀ i = i ≤ length cells
+Inv-loop cells count i₀ i = i ≤ count
 
 abbrev μ-loop : tie.MeasureT-loop
-μ-loop cells i₀ i = length cells - i
+μ-loop cells count i₀ i = count - i
 
 loop-holds : tie.Need-loop-holds Inv-loop μ-loop
 loop-holds c = omega arith
@@ -17,8 +16,8 @@ loop-holds c = omega arith
 mul-say-cell : tie.Need-mul-say-cell Inv-loop μ-loop
 mul-say-cell c = omega arith
 
-shared-slice-read-say-cell : tie.Need-shared-slice-read-say-cell Inv-loop μ-loop
-shared-slice-read-say-cell c = omega arith
+element-copy-out-say-cell : tie.Need-element-copy-out-say-cell Inv-loop μ-loop
+element-copy-out-say-cell c = omega arith
 
 say-cell-requires : tie.Need-say-cell-requires Inv-loop μ-loop
 say-cell-requires c κs = tt
@@ -43,7 +42,7 @@ say-cells-spec =
     μ-loop
     loop-holds
     mul-say-cell
-    shared-slice-read-say-cell
+    element-copy-out-say-cell
     say-cell-requires
     add-i
     loop-less

@@ -1,7 +1,7 @@
--- The loop's invariant: all messages before message i have passed, and left this row and these counts.
+-- The loop's invariant: all messages before message i have passed, and left this row, these stores and these counts.
 use borrow.Author.Needs.{needs}
 use Prim.Native.Nat.{ℕ, _+_, _-_, _≤_}
-use mathlib.Core.Path.{_≡_, refl}
+use mathlib.Core.Path.{_≡_, refl, _∙_}
 use mathlib.Core.Bool.{true}
 use mathlib.Core.List.{List}
 use mathlib.Core.Logic.{_⊎_, ⊎-elim}
@@ -12,51 +12,48 @@ use Rattle.sequence.specs.Row.{soundRow}
 use Rattle.quotebox.specs.declared.act.Act.{Act}
 use Rattle.quotebox.proofs.act.Act.{the-type}
 use Rattle.quotebox.specs.declared.act.Act.the-variants.{Taken, Old, Heartbeat, Refused}
-use Rattle.quotebox.specs.declared.answers.Judged.the-variants as judged
-use Rattle.quotebox.specs.declared.refusal.Refusal.{Refusal}
-use Rattle.quotebox.specs.Acts.{total, passed, counted, MessageActs, JudgedMessages}
+use Rattle.quotebox.specs.declared.act.Step.{Step}
+use Rattle.quotebox.specs.Acts.{total, passed, counted, MessageActs}
 use Rattle.quotebox.specs.MessagesLaws.{Going, begins, going-on, going-refused, going-over, going-ends, counted-one, rest-is}
 use Rattle.quotebox.proofs.act.judge_messages.Statement.{statement}
 use Rattle.quotebox.proofs.act.judge_messages.Tie as tie
 
 abbrev Inv-loop : tie.InvT-loop
-Inv-loop list letter row₀ «data» count counts₀ at₀ i₀ row counts at i =
-    (i ≤ count) × (at ≤ length «data») × (soundRow row ≡ true) × (total counts ≡ i) × Going list letter row₀ «data» count row counts at i
+Inv-loop list letter before row₀ stores₀ «data» count cells₀ counts₀ kept₀ at₀ i₀ row stores cells counts kept at i =
+    (i ≤ count) × (at ≤ length «data») × (soundRow row ≡ true) × (total counts ≡ i) × (length stores ≡ length stores₀) × Going list letter row₀ (length stores₀) «data» count row stores kept counts at i
 
 abbrev μ-loop : tie.MeasureT-loop
-μ-loop list letter row₀ «data» count counts₀ at₀ i₀ row counts at i = count - i
+μ-loop list letter before row₀ stores₀ «data» count cells₀ counts₀ kept₀ at₀ i₀ row stores cells counts kept at i =
+    count - i
 
 -- what is known once a message has acted
 module _ (c : tie.After-message-acts Inv-loop μ-loop) where
+  abbrev turn : tie.In-loop Inv-loop μ-loop
+  turn = c .before .before .before .before .before
+
   abbrev head : tie.At-loop Inv-loop μ-loop
-  head = c .before .before .before .before
+  head = turn .before
 
   abbrev start : tie.Start Inv-loop μ-loop
-  start = head .before .before .before
+  start = head .before .before .before .before .before
 
   abbrev bytes : List ℕ
   bytes = start .args .«data» .now
 
-  abbrev row′ : List ℕ
-  row′ = c .message-acts .last .1 .1 .0
+  abbrev step : Step
+  step = c .message-acts .result
 
-  acts : MessageActs (start .args .list .now) (start .args .letter) (head .loop .row) (head .loop .i) (drop (head .loop .at) bytes) (c .message-acts .result) row′
+  abbrev row′ : List ℕ
+  row′ = c .message-acts .last .1 .1 .1 .0
+
+  abbrev stores′ : List ℕ
+  stores′ = c .message-acts .last .1 .1 .1 .1 .0
+
+  acts : MessageActs (start .args .list .now) (start .args .letter) (head .loop .row) (head .loop .stores) (head .loop .kept) (head .loop .i) (drop (head .loop .at) bytes) step row′ stores′
   acts = rw (rest-is bytes (head .loop .at) (head .loop .inv .1)) at (c .message-acts .ensures)
 
-  pub inside : passed (c .message-acts .result .act) ≡ true → head .loop .at + c .message-acts .result .length ≤ length bytes
+  inside : passed (step .act) ≡ true → head .loop .at + step .length ≤ length bytes
   inside p = omega (arith, head .loop .inv .1, acts .inside p, length-drop (head .loop .at) bytes)
-
-  refused-here : (refusal : Refusal) → c .message-acts .result .act ≡ Refused refusal
-      → JudgedMessages (start .args .list .now) (start .args .letter) (start .args .row .now) bytes (start .args .count) (judged.Refused refusal)
-  refused-here =
-      going-refused (start .args .list .now) (start .args .letter) (start .args .row .now) bytes (start .args .count) (head .loop .row)
-      (head .loop .counts) (head .loop .at) (head .loop .i) (head .loop .inv .4) (c .before .before .before .loop-test .taken) (c .message-acts .result) row′ acts
-
-  goes-on : passed (c .message-acts .result .act) ≡ true
-      → Going (start .args .list .now) (start .args .letter) (start .args .row .now) bytes (start .args .count) row′ (counted (c .message-acts .result .act) (head .loop .counts)) (head .loop .at + c .message-acts .result .length) (head .loop .i + 1)
-  goes-on =
-      going-on (start .args .list .now) (start .args .letter) (start .args .row .now) bytes (start .args .count) (head .loop .row)
-      (head .loop .counts) (head .loop .at) (head .loop .i) (head .loop .inv .4) (c .before .before .before .loop-test .taken) (c .message-acts .result) row′ acts
 
 -- only a refusal doesn't pass
 passes : (act : Act) → (tagOf the-type act ≡ 0) ⊎ ((tagOf the-type act ≡ 1) ⊎ (tagOf the-type act ≡ 2)) → passed act ≡ true
@@ -65,63 +62,97 @@ passes Old t = refl
 passes Heartbeat t = refl
 passes (Refused refusal) t = absurd (⊎-elim (λ (h : 3 ≡ 0). omega arith) (⊎-elim (λ (h : 3 ≡ 1). omega arith) (λ (h : 3 ≡ 2). omega arith)) t)
 
-passed-on : (c : tie.At-match-keys2 Inv-loop μ-loop) → passed (c .before .message-acts .result .act) ≡ true
-passed-on c = passes (c .before .message-acts .result .act) (c .match .keys2)
+passed-on : (c : tie.At-match-keys2 Inv-loop μ-loop) → passed (step (c .before .before .before) .act) ≡ true
+passed-on c = passes (step (c .before .before .before) .act) (c .match .keys2)
+
+none-requires : tie.Need-none-requires Inv-loop μ-loop
+none-requires c κs = search needs
 
 loop-holds : tie.Need-loop-holds Inv-loop μ-loop
-loop-holds c = (omega arith, omega arith, c .before .before .pre .0, refl, begins _ _ _ _ _)
+loop-holds c = rw (c .none .ensures) (omega arith, omega arith, c .before .before .before .before .pre .0 .sound, refl, refl, begins _ _ _ _ _ _ _)
 
-sub-message-acts : tie.Need-sub-message-acts Inv-loop μ-loop
-sub-message-acts c = c .before .before .loop .inv .1
+sub-part : tie.Need-sub-part Inv-loop μ-loop
+sub-part c = c .before .loop .inv .1
 
-part-message-acts-start : tie.Need-part-message-acts-start Inv-loop μ-loop
-part-message-acts-start c = search needs
+part-part-start : tie.Need-part-part-start Inv-loop μ-loop
+part-part-start c = omega (arith, c .before .loop .inv .1)
 
-part-message-acts-end : tie.Need-part-message-acts-end Inv-loop μ-loop
-part-message-acts-end c = search needs
+part-part-end : tie.Need-part-part-end Inv-loop μ-loop
+part-part-end c = search needs
 
 message-acts-requires : tie.Need-message-acts-requires Inv-loop μ-loop
-message-acts-requires c κs = c .before .before .before .loop .inv .2
+message-acts-requires c κs =
+    let h = c .before .before .before .before .before in
+    let l = h .loop in
+    let s = h .before .before .before .before .before in
+    record { header = s .pre .0 .header; before-is = s .pre .0 .before-is; sound = l .inv .2; within = omega (arith, l .inv .4, l .inv .5 .within) }
 
 enum-known-act : tie.Need-enum-known-act Inv-loop μ-loop
 enum-known-act c = search needs
 
+answered-requires : tie.Need-answered-requires Inv-loop μ-loop
+answered-requires c κs = search needs
+
+same-length : tie.Need-same-length Inv-loop μ-loop
+same-length c = let d = c .before .before .before .before .before .before in d .message-acts .kept .1 .1 .1 .1 .0 ∙ head d .loop .inv .4
+
 returns : tie.Need-returns Inv-loop μ-loop
-returns c = refused-here (c .before .before .before) _ (c .before .act .given .1)
+returns c =
+    let d = c .before .before .before .before .before .before in
+    rw (c .answered .ensures)
+    (going-refused _ _ _ _ _ _ (head d .loop .row) (head d .loop .stores) (head d .loop .kept) (head d .loop .counts) (head d .loop .at) (head d .loop .i) (head d .loop .inv .5) (turn d .loop-test .taken)
+    (step d) (row′ d) (stores′ d) (acts d) _ (c .before .before .act .given .1) _ _)
 
 counted-requires : tie.Need-counted-requires Inv-loop μ-loop
-counted-requires c κs = omega (arith, c .before .before .before .before .before .loop .inv .3, c .before .before .before .before .loop-test .taken, (start (c .before)) .pre .1)
+counted-requires c κs = let d = c .before .before .before in omega (arith, head d .loop .inv .3, turn d .loop-test .taken, start d .pre .1)
 
 add-at : tie.Need-add-at Inv-loop μ-loop
-add-at c = omega (arith, inside (c .before .before .before) (passed-on (c .before .before)), start (c .before .before .before) .good)
+add-at c = let d = c .before .before .before .before .before in omega (arith, inside d (passed-on (c .before .before)), start d .good)
 
 add-i : tie.Need-add-i Inv-loop μ-loop
-add-i c = omega (arith, c .before .before .before .before .before .before .loop-test .taken, start (c .before .before .before) .pre .1)
+add-i c = let d = c .before .before .before .before .before in omega (arith, turn d .loop-test .taken, start d .pre .1)
 
 loop-less : tie.Need-loop-less Inv-loop μ-loop
-loop-less c = omega (arith, c .before .before .before .before .before .before .loop-test .taken)
+loop-less c = omega (arith, turn (c .before .before .before .before .before) .loop-test .taken)
 
 loop-again : tie.Need-loop-again Inv-loop μ-loop
 loop-again c =
-    let d = c .before .before .before in
+    let d = c .before .before .before .before .before in
+    let l = head d .loop in
     let p = passed-on (c .before .before) in
-    let more = counted-one (d .message-acts .result .act) (head d .loop .counts) p in (
-      omega (arith, d .before .before .before .loop-test .taken),
+    let more = counted-one (step d .act) (l .counts) p in (
+      omega (arith, turn d .loop-test .taken),
       inside d p,
       acts d .sound,
-      rw (c .before .counted .ensures) (omega (arith, head d .loop .inv .3)),
-      rw (c .before .counted .ensures) (goes-on d p),
+      rw (c .before .counted .ensures) (omega (arith, l .inv .3)),
+      d .message-acts .kept .1 .1 .1 .1 .0 ∙ l .inv .4,
+      rw (c .before .counted .ensures)
+          (going-on _ _ _ _ _ _ (l .row) (l .stores) (l .kept) (l .counts) (l .at) (l .i) (l .inv .5) (turn d .loop-test .taken) (step d) (row′ d) (stores′ d) (acts d) (l .inv .4) p (inside d p)),
     )
+
+answered-requires-2 : tie.Need-answered-requires-2 Inv-loop μ-loop
+answered-requires-2 c κs = search needs
+
+same-length-2 : tie.Need-same-length-2 Inv-loop μ-loop
+same-length-2 c = c .before .before .before .loop .inv .4
 
 returns-2 : tie.Need-returns-2 Inv-loop μ-loop
 returns-2 c =
-    let l = c .before .before .loop in
-    going-over _ _ _ _ _ (l .row) (l .counts) (l .at) (l .i) (l .inv .4) (c .before .loop-test .left) (c .if1 .taken)
+    let l = c .before .before .before .loop in
+    rw (c .answered2 .ensures)
+    (going-over _ _ _ _ _ _ (l .row) (l .stores) (l .kept) (l .counts) (l .at) (l .i) (l .inv .5) (c .before .before .loop-test .left) (c .before .if1 .taken) _ _)
+
+answered-requires-3 : tie.Need-answered-requires-3 Inv-loop μ-loop
+answered-requires-3 c κs = search needs
+
+same-length-3 : tie.Need-same-length-3 Inv-loop μ-loop
+same-length-3 c = c .before .before .before .loop .inv .4
 
 returns-3 : tie.Need-returns-3 Inv-loop μ-loop
 returns-3 c =
-    let l = c .before .before .loop in
-    going-ends _ _ _ _ _ (l .row) (l .counts) (l .at) (l .i) (l .inv .4) (c .before .loop-test .left) (c .if1 .left)
+    let l = c .before .before .before .loop in
+    rw (c .answered3 .ensures)
+    (going-ends _ _ _ _ _ _ (l .row) (l .stores) (l .kept) (l .counts) (l .at) (l .i) (l .inv .5) (c .before .before .loop-test .left) (c .before .if1 .left) (l .inv .2) (l .inv .4))
 
 pub judge-messages-spec : {M : Type 1} → statement M
 judge-messages-spec =
@@ -129,17 +160,24 @@ judge-messages-spec =
     (tie.spec
     Inv-loop
     μ-loop
+    none-requires
     loop-holds
-    sub-message-acts
-    part-message-acts-start
-    part-message-acts-end
+    sub-part
+    part-part-start
+    part-part-end
     message-acts-requires
     enum-known-act
+    answered-requires
+    same-length
     returns
     counted-requires
     add-at
     add-i
     loop-less
     loop-again
+    answered-requires-2
+    same-length-2
     returns-2
+    answered-requires-3
+    same-length-3
     returns-3)

@@ -1,34 +1,52 @@
--- Judged first, and applied where the batch is accepted.
-use mathlib.Core.Path.{_≡_, ap, sym, _∙_}
-use Rattle.quotebox.specs.declared.answers.Judged.the-variants.{Accepted, Refused}
-use Rattle.quotebox.specs.Answers.{judgedNumbers}
-use Rattle.quotebox.specs.Batch.{Acted, batchActs, batchLetter, actedNumbers, rowsAfter, recordsAfter}
-use Rattle.quotebox.specs.BatchLaws.{accepted-box, refused-is}
+-- The rules before the messages, and then the messages.
+use native.Mathlib.Omega.{arith}
+use Rattle.quotebox.specs.CheckedLaws.{checked-state, checked-front, data-short, data-ready, refused-took, took-batch}
+use Rattle.quotebox.specs.Good.{GoodFront}
 use borrow.Author.Needs.{needs}
 use Rattle.quotebox.proofs.batch.take.Statement.{statement}
 use Rattle.quotebox.proofs.batch.take.Tie as tie
 
--- what the batch does
-abbrev acts : tie.After-judge → Acted
-acts c = let a = c .before .before .before .before .before .before .before .args in batchActs (a .list .now) (a .rows .now) (a .records .now) (a .batch .now)
+-- no rule before the messages is broken
+module _ (c : tie.After-enum-told) where
+  abbrev start : tie.Start
+  start = c .before .before .before .before .before .before .before .before .before
 
-accepted : (c : tie.After-taken) → judgedNumbers (Accepted (c .taken .given .0 .0) (c .taken .given .0 .1 .0) (c .taken .given .0 .1 .1 .0)) ≡ actedNumbers (acts (c .before .before))
-accepted c = ap judgedNumbers (sym (c .taken .given .1)) ∙ c .before .before .judge .ensures .answers
+  front : GoodFront (start .args .batch .now)
+  front = checked-front (start .args .list .now) (start .args .rows .now) (start .args .records .now) (start .args .batch .now) _ (c .before .before .check-all .ensures) (c .enum-told .given .1)
 
-refused : (c : tie.After-refusal) → judgedNumbers (Refused (c .refusal .given .0 .0)) ≡ actedNumbers (acts (c .before .before))
-refused c = ap judgedNumbers (sym (c .refusal .given .1)) ∙ c .before .before .judge .ensures .answers
-
-judge-requires : tie.Need-judge-requires
-judge-requires c κs = search needs
-
-enum-known-taken : tie.Need-enum-known-taken
-enum-known-taken c = search needs
-
-apply-requires : tie.Need-apply-requires
-apply-requires c κs = let d = c .before .before .before in let b = accepted-box (acts (d .before .before)) (accepted d) in record { box = b .0; accepted = b .1 }
+check-all-requires : tie.Need-check-all-requires
+check-all-requires c κs = search needs
 
 enum-known-refusal : tie.Need-enum-known-refusal
 enum-known-refusal c = search needs
+
+enum-told : tie.Need-enum-told
+enum-told c = search needs
+
+u16-at-requires : tie.Need-u16-at-requires
+u16-at-requires c κs = search needs
+
+cast-count : tie.Need-cast-count
+cast-count c = search needs
+
+sub-take-data : tie.Need-sub-take-data
+sub-take-data c = front (c .before .before .before) .begun
+
+part-take-data-start : tie.Need-part-take-data-start
+part-take-data-start c = omega (arith, front (c .before .before .before) .begun)
+
+part-take-data-end : tie.Need-part-take-data-end
+part-take-data-end c = search needs
+
+take-data-requires : tie.Need-take-data-requires
+take-data-requires c κs =
+    let u = c .before .before .before in
+    let d = u .before in
+    let a = start d .args in (
+      data-ready (a .list .now) (a .rows .now) (a .records .now) (a .batch .now) _ (d .before .before .check-all .ensures) (d .enum-told .given .1) _ (u .u16-at .ensures) (omega (arith, u .u16-at .ok)),
+      checked-state (a .list .now) (a .rows .now) (a .records .now) (a .batch .now) _ (d .before .before .check-all .ensures) (d .enum-told .given .1) .records-lent,
+      data-short (a .list .now) (a .rows .now) (a .records .now) (a .batch .now) _ (d .before .before .check-all .ensures) (d .enum-told .given .1),
+    )
 
 same-length : tie.Need-same-length
 same-length c = search needs
@@ -37,7 +55,7 @@ same-length-2 : tie.Need-same-length-2
 same-length-2 c = search needs
 
 returns : tie.Need-returns
-returns c = let d = c .before .before .before .before .before .before .before .before in record { answers = accepted d; rows-left = c .before .before .before .before .apply .ensures .rows-left; records-left = c .before .before .before .before .apply .ensures .records-left }
+returns c = let d = c .before .before .before in refused-took _ _ _ _ _ (d .check-all .ensures) _ (c .before .refusal .given .1)
 
 same-length-3 : tie.Need-same-length-3
 same-length-3 c = search needs
@@ -46,16 +64,26 @@ same-length-4 : tie.Need-same-length-4
 same-length-4 c = search needs
 
 returns-2 : tie.Need-returns-2
-returns-2 c = let a = c .before .before .before .before .before .before .before .before .before .before .args in let r = refused-is (acts (c .before .before .before)) (c .before .refusal .given .0 .0) (refused (c .before)) in record { answers = refused (c .before); rows-left = ap (rowsAfter (a .list .now) (batchLetter (a .batch .now)) (a .rows .now)) (sym (r .1)); records-left = ap (recordsAfter (a .records .now)) (sym (r .1)) }
+returns-2 c =
+    let t = c .before .before .before .before in
+    let u = t .before .before .before .before in
+    let d = u .before in
+    let a = start d .args in
+    took-batch (a .list .now) (a .rows .now) (a .records .now) (a .batch .now) _ (d .before .before .check-all .ensures) (d .enum-told .given .1) _ (u .u16-at .ensures) _ _ _ (t .take-data .ensures)
 
 pub take-spec : {M : Type 1} → statement M
 take-spec =
     tie.close
     (tie.spec
-    judge-requires
-    enum-known-taken
-    apply-requires
+    check-all-requires
     enum-known-refusal
+    enum-told
+    u16-at-requires
+    cast-count
+    sub-take-data
+    part-take-data-start
+    part-take-data-end
+    take-data-requires
     same-length
     same-length-2
     returns

@@ -1,12 +1,12 @@
 -- 01 "Cases": P1 to P14 as one statement. Each is evaluated by the definitions that the promises cite, and P11 to P13 also by
--- what the past of their calls says.
+-- what the past of their calls says. Behind them, in the same way, the refusals that they leave out.
 use Prim.Native.Nat.{ℕ, zero, suc, _+_}
 use Prim.Native.String.{String}
 use mathlib.Core.Path.{_≡_, refl}
 use mathlib.Core.Bool.{Bool, cond}
 use mathlib.Core.List.{List, [], _∷_, _++_, map}
 use mathlib.Core.Option.{none}
-use lib.ListN.{length, replicate}
+use lib.ListN.{length, replicate, drop}
 use Rattle.laws.specs.Rules.{firstBroken}
 use Rattle.laws.specs.Texts.{codes}
 use Rattle.wire.specs.Checksum.{bitStep, byteStep, sumOf, checksumOf}
@@ -219,3 +219,38 @@ sayings = map (λ (c : Case). c .says)
 pub P1-to-P14 : answered cases ≡ sayings cases
 unfolding cases answered sayings bitStep byteStep step walk readText segmentsOf letterAt zeroAt countAt offsetAt contractsBefore segmentOf entrySound headerSound gapsOf laid soundRow takesLength levelOf letterOf secondOf lengthOf numberOf dataIn sumSent endByte kindIn rightSum framed coded trailed summed headOf keyOf keyPlace contentsOf messageOf flagOf sizeOf countOf messageActs messagesAct batchActs gapsOfLetter listRules runsPut writeOffRules rowsWrittenOff rowsStarted recordsCleared segmentRules writeRules lengthWritten dataWritten rowsOf rowText quoteOf cellsOf textOf size sizeIn
 P1-to-P14 = refl
+
+-- ---- the table of refusals, where P1 to P14 are silent
+
+-- a message of these parts, with no data: code, length, number below 256, first byte of the sum, end byte
+abbrev bare : ℕ → ℕ → ℕ → ℕ → ℕ → ℕ → List ℕ
+bare letter second long number low end = letter ∷ second ∷ 0 ∷ long ∷ 0 ∷ 0 ∷ 0 ∷ number ∷ low ∷ 0 ∷ end ∷ []
+
+-- P5's heartbeat
+abbrev heartbeat : List ℕ
+heartbeat = bare 68 72 11 0 0 13
+
+-- a batch of so many messages that are these bytes
+abbrev batch : ℕ → List ℕ → Asked
+batch count bytes = call [] (take (plainBatch count bytes))
+
+-- 01, the table of refusals: P5's batch with one thing wrong, too few cells for P11's gaps, and a write-off with none
+unfoldable pub refusals : List Case
+refusals =
+    record { asked = call [] (take (0 ∷ drop 1 p5)); says = 2 ∷ 0 ∷ 0 ∷ 0 ∷ [] }
+    ∷ record { asked = call [] (take (2 ∷ drop 1 p5)); says = 3 ∷ 0 ∷ 0 ∷ 0 ∷ [] }
+    ∷ record { asked = batch 0 heartbeat; says = 4 ∷ 0 ∷ 0 ∷ 0 ∷ [] }
+    ∷ record { asked = batch 1 (heartbeat ++ (0 ∷ [])); says = 4 ∷ 0 ∷ 0 ∷ 0 ∷ [] }  -- a byte left over
+    ∷ record { asked = batch 2 heartbeat; says = 5 ∷ 1 ∷ 0 ∷ 0 ∷ [] }  -- at the message that isn't there
+    ∷ record { asked = batch 1 (bare 88 72 11 0 0 13); says = 6 ∷ 0 ∷ 0 ∷ 0 ∷ [] }
+    ∷ record { asked = batch 1 (bare 68 72 11 0 0 14); says = 7 ∷ 0 ∷ 0 ∷ 0 ∷ [] }
+    ∷ record { asked = batch 1 (bare 68 78 11 0 0 13); says = 8 ∷ 0 ∷ 0 ∷ 0 ∷ [] }
+    ∷ record { asked = batch 1 (bare 68 72 11 0 1 13); says = 9 ∷ 0 ∷ 0 ∷ 0 ∷ [] }
+    ∷ record { asked = batch 1 (bare 68 72 11 1 0 13); says = 10 ∷ 0 ∷ 0 ∷ 0 ∷ [] }
+    ∷ record { asked = call p11 (gapsIn 3); says = 15 ∷ 0 ∷ 0 ∷ 4 ∷ 0 ∷ 0 ∷ 0 ∷ [] }  -- and three cells as before
+    ∷ record { asked = call [] (writeOff T); says = 17 ∷ 0 ∷ 0 ∷ 0 ∷ [] }
+    ∷ []
+
+pub refusals-told : answered refusals ≡ sayings refusals
+unfolding refusals answered sayings segmentsOf letterAt zeroAt countAt offsetAt contractsBefore segmentOf entrySound headerSound gapsOf laid soundRow takesLength letterOf secondOf lengthOf numberOf dataIn sumSent endByte kindIn rightSum framed coded trailed summed headOf contentsOf messageOf flagOf sizeOf countOf messageActs messagesAct batchActs gapsOfLetter listRules runsPut writeOffRules rowsStarted recordsCleared segmentRules rowsOf
+refusals-told = refl

@@ -70,7 +70,8 @@ enum {
     QUOTEBOX_MEMORY = 15,    /* cells wanted: too few are lent. First the gap rows, then the records, then the call's own */
     QUOTEBOX_LIST = 16,      /* the contract list is malformed; after start only its contents, counts, offsets and size are looked at */
     QUOTEBOX_NO_GAP = 17,    /* a write-off where the segment has no gap */
-    QUOTEBOX_STATE = 18      /* a gap row that is handed back is none that a call left */
+    QUOTEBOX_STATE = 18      /* a listed segment's gap row is handed back with start 0, highest under start - 1, over 64 runs, or runs
+                                that are not ascending, touch, or lie outside start to highest */
 };
 
 /* Starts the box: each listed segment, in list order, at its start number, 1 or more. Every gap row and record is cleared.
@@ -167,7 +168,8 @@ uint32_t quotebox_read_level2(const uint8_t *list, size_t list_length, const uin
 /* Writes a message for a test bench, an update of level 1 or 2 or a heartbeat, into out, from its first byte on.
  * code: "DN" or "TN" for an update, "DH" or "TH" for a heartbeat.
  * number: the sequence number, 1 or more; of a heartbeat 0.
- * key, values: as quotebox_read_level1 and 2 have them; values[QUOTEBOX_NUMBER] is not looked at, and of a heartbeat nothing is.
+ * key, values: as quotebox_read_level1 and 2 have them. values[QUOTEBOX_NUMBER] changes nothing, and for a heartbeat no byte of key and
+ * values does, but both point to their memory all the same.
  * out: written where it is accepted, one byte for each of the message's; 505 are always enough.
  * Accepted: the message's length.
  * Refused: QUOTEBOX_CODE, QUOTEBOX_NUMBERING, QUOTEBOX_FIELD and QUOTEBOX_RANGE by row, QUOTEBOX_MEMORY (the bytes of out), in this order.

@@ -1,4 +1,4 @@
--- 01 "The message": the table of codes. Later requests add codes, letters and rules here.
+-- 01 "The message": the table of codes. Later requests add codes and rules here, and letters to the list's.
 use Prim.Native.Nat.{ℕ}
 use mathlib.Core.Bool.{Bool, true, cond, _&&_, _||_}
 use lib.Dec.{leb, eqb}

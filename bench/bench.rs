@@ -36,10 +36,7 @@ struct Memory {
 }
 
 fn told(result: Result<reference::Counts, reference::Refusal>) -> Answered {
-    match result {
-        Ok(counts) => (0, [counts.taken, counts.old, counts.heartbeats, 0]),
-        Err(refusal) => (refusal.number as u32, [refusal.message as u64, refusal.row as u64, refusal.cells as u64, 0]),
-    }
+    result.map_or_else(|refusal| refusal.told(), |counts| counts.told())
 }
 
 impl Box {

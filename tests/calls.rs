@@ -137,7 +137,7 @@ fn paper(options: &Options, held: &mut Held) {
     let list = Book { segments: vec![(b'D', vec![CASE_KEY])] }.bytes();
     for (name, asked, lines) in batch_cases().into_iter().chain(gap_cases()) {
         let mut bench = Bench::new(Some(&list));
-        let by_reference: Vec<String> = asked.iter().filter_map(|ask| bench.answer(ask)).collect();
+        let by_reference: Vec<String> = asked.iter().filter_map(|ask| bench.line(ask)).collect();
         held.hold(by_reference == lines, || format!("reference: {name}: {by_reference:?}"));
         let input: Vec<u8> = asked.iter().flat_map(|ask| ask.bytes()).collect();
         let lines: Vec<String> = lines.into_iter().chain(["end".into()]).collect();
@@ -154,7 +154,7 @@ fn files(options: &Options, held: &mut Held) {
     for (i, contracts) in all.enumerate() {
         let asked = [Ask::Start(vec![1]), numbered(b'D', [2, 3]), Ask::Gaps { letter: b'D', cells: 2 }, price_case("1.5"), Ask::Off { letter: b'D' }];
         let mut bench = Bench::new(contracts.bytes());
-        let lines: Vec<String> = asked.iter().filter_map(|ask| bench.answer(ask)).chain(["end".into()]).collect();
+        let lines: Vec<String> = asked.iter().filter_map(|ask| bench.line(ask)).chain(["end".into()]).collect();
         let input: Vec<u8> = asked.iter().flat_map(|ask| ask.bytes()).collect();
         held.lines(&lines, &options.run(contracts, &input), |line| format!("calls: file {i}, line {line}"));
         for piece in [1, 7] {

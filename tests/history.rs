@@ -91,7 +91,7 @@ impl History {
 
     fn ask(&mut self, ask: Ask, seen: &mut Seen) -> Option<String> {
         self.input.extend(ask.bytes());
-        let line = self.bench.answer(&ask);
+        let line = self.bench.line(&ask);
         if let Some(line) = &line {
             self.lines.push((self.asked.len(), line.clone()));
             note(&ask, line, seen);

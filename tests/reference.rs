@@ -28,6 +28,11 @@ impl Refusal {
     pub fn memory(cells: usize) -> Refusal {
         Refusal { cells, ..Refusal::plain(15) }
     }
+
+    // What a host is told: the number returned, and the four of the answer.
+    pub fn told(&self) -> (u32, [u64; 4]) {
+        (self.number as u32, [self.message as u64, self.row as u64, self.cells as u64, 0])
+    }
 }
 
 // ---- the checksum, as the two bytes sent
@@ -476,6 +481,13 @@ pub struct Counts {
     pub taken: u64,
     pub old: u64,
     pub heartbeats: u64,
+}
+
+impl Counts {
+    // What a host is told of an accepted batch.
+    pub fn told(&self) -> (u32, [u64; 4]) {
+        (0, [self.taken, self.old, self.heartbeats, 0])
+    }
 }
 
 // An update taken: where its record begins, its number and rows.

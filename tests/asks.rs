@@ -153,7 +153,7 @@ impl Bench {
             }
             Ask::Record { letter, level, key } => Said::Record(reference::read_record(list, rows, records, *letter, key, *level)?),
             Ask::Write { code, level, number, key, room, values } => {
-                let values = written_values(*level, values);
+                let values = reference::readings(*level, values);
                 Said::Written(reference::write_message(*code, *level, *number, key, &values, (*room as usize).min(ROOM))?)
             }
             Ask::Lend { rows, records } => {
@@ -173,15 +173,4 @@ impl Bench {
             }
         }))
     }
-}
-
-// A market type or status is a byte's number, above 255 as 0.
-fn written_values(level: usize, values: &[u64]) -> Vec<u64> {
-    let rows = &reference::layout(level)[reference::MARKET_TYPE_ROW..];
-    let value = |(&v, &(row, _)): (&u64, &(reference::Row, usize))| match row {
-        reference::Row::Number(_) => v,
-        _ if v > 255 => 0,
-        _ => v,
-    };
-    values.iter().zip(rows).map(value).collect()
 }

@@ -10,10 +10,12 @@ mod random;
 mod reference;
 
 use asks::{Ask, Bench, Said};
+use feed::Book;
 use history::{History, Seen};
 use library::{Answer, Values};
 use program::{Held, Options};
-use reference::{Refusal, GAP_ROW};
+use random::Random;
+use reference::{Refusal, GAP_ROW, LEVEL1_CELLS, NONE, PRICE};
 use std::fmt::Debug;
 
 const UNTOUCHED: u64 = 0x5AFE_5AFE_5AFE_5AFE;
@@ -127,21 +129,74 @@ fn wrong(bench: &mut Bench, ask: &Ask) -> Option<String> {
     Some(differences.into_iter().flatten().collect())
 }
 
+fn hold(held: &mut Held, bench: &mut Bench, ask: &Ask, origin: impl Fn() -> String) {
+    if let Some(wrong) = wrong(bench, ask) {
+        held.hold(wrong.is_empty(), || format!("host: {} {:02x?}:{wrong}", origin(), ask.bytes()));
+    }
+}
+
+// ---- records handed back as no call leaves them
+
+const NUMBER: u32 = 7;
+const NUMBERS: [u64; 10] = [0, 1, 6, 7, 8, 1 << 32, (1 << 32) + 6, (1 << 32) + 8, NONE - 1, NONE];
+const CELLS: [u64; 10] = [0, b'N' as u64, b'S' as u64, 255, 256, 256 + b'N' as u64, 1 << 32, PRICE.largest + 1, NONE - 1, NONE];
+
+// A record with any number and any cells is read, meets an update, and is read again.
+fn damaged_records(held: &mut Held) {
+    let mut r = Random::new(1);
+    let key = feed::a_key(&mut r);
+    let list = Book { segments: vec![(b'D', vec![key])] }.bytes();
+    for level in 1..=2 {
+        let batch = feed::batch(&[feed::an_update(&mut r, b'D', level, NUMBER, &key)]);
+        let read = Ask::Record { letter: b'D', level, key };
+        for (number, cell) in NUMBERS.iter().flat_map(|&number| CELLS.map(|cell| (number, cell))) {
+            let mut bench = Bench::new(Some(&list));
+            let mut hold = |bench: &mut Bench, ask: &Ask| hold(held, bench, ask, || format!("a record numbered {number} of cells {cell}"));
+            hold(&mut bench, &Ask::Start(vec![1]));
+            bench.records.fill(cell);
+            bench.records[LEVEL1_CELLS * (level - 1)] = number;
+            for ask in [read.clone(), Ask::Judge(batch.clone()), Ask::Take(batch.clone()), read.clone()] {
+                hold(&mut bench, &ask);
+            }
+        }
+    }
+}
+
+// Some of the cells, or all, with numbers about those that the feed has come to.
+fn damage_records(r: &mut Random, bench: &mut Bench) {
+    let one_in = r.pick(&[1, 4, 40]);
+    for cell in &mut bench.records {
+        if r.one_in(one_in) {
+            let near = r.pick(&[bench.rows[1], bench.rows[GAP_ROW + 1]]) as u64 + r.below(6);
+            let any = [r.next(), r.next() >> 32, r.pick(&CELLS), r.pick(&NUMBERS), near, near + (1 << 32)];
+            *cell = r.pick(&any);
+        }
+    }
+}
+
 const HISTORIES: u64 = 40;
 
-fn main() {
-    let options = Options::read();
-    let mut held = Held { passed: 0, failed: 0 };
+// Every second one has its records damaged now and then.
+fn histories(options: &Options, held: &mut Held) {
     let mut seen = Seen::new();
     for number in 0..HISTORIES * options.times {
         let h = History::held(options.seed.wrapping_add(1_000), number, &mut seen);
         let mut bench = Bench::new(h.contracts.as_deref());
+        let mut r = Random::new(options.seed.wrapping_add(number));
         for (command, ask) in h.asked.iter().enumerate() {
-            if let Some(wrong) = wrong(&mut bench, ask) {
-                held.hold(wrong.is_empty(), || format!("host: seed {} history {number} command {command} {:02x?}:{wrong}", options.seed, ask.bytes()));
+            if number % 2 == 1 && r.one_in(6) {
+                damage_records(&mut r, &mut bench);
             }
+            hold(held, &mut bench, ask, || format!("seed {} history {number} command {command}", options.seed));
         }
     }
-    println!("host: {} histories, {} calls", HISTORIES * options.times, held.passed + held.failed);
+    println!("host: {} histories", HISTORIES * options.times);
+}
+
+fn main() {
+    let options = Options::read();
+    let mut held = Held { passed: 0, failed: 0 };
+    damaged_records(&mut held);
+    histories(&options, &mut held);
     held.end();
 }

@@ -13,7 +13,7 @@ mod reference;
 use feed::Book;
 use random::Random;
 use reference::{Sum, GAP_ROW, RECORD};
-use std::hint::black_box;
+use std::ptr;
 use std::time::Instant;
 
 const LETTER: u8 = b'D';
@@ -29,6 +29,11 @@ enum Box {
 }
 
 const BOXES: [Box; 3] = [Box::Ours, Box::Independent(reference::sum_by_bytes), Box::Independent(reference::sum_by_sixteens)];
+
+// The same value, of which the compiler knows nothing. std's own is newer than the oldest rustc that we compile with, Debian 12's.
+fn unknown<T: Copy>(value: T) -> T {
+    unsafe { ptr::read_volatile(&value) }
+}
 
 struct Memory {
     rows: Vec<u32>,
@@ -143,7 +148,7 @@ fn timed(feed: &Feed, memory: &mut Memory, call: impl Fn(&[u8], &mut Memory, &[u
     for piece in feed.batches.chunks(PIECE) {
         let begun = Instant::now();
         for batch in piece {
-            answers.push(call(black_box(&feed.list), memory, black_box(batch)));
+            answers.push(call(unknown(&feed.list), memory, unknown(batch)));
         }
         times.push(begun.elapsed().as_nanos() as f64);
     }
@@ -152,7 +157,7 @@ fn timed(feed: &Feed, memory: &mut Memory, call: impl Fn(&[u8], &mut Memory, &[u
 
 // Nanoseconds a message for each box: the best of the rounds for each piece, the boxes in turn so that all meet the same machine.
 fn best(feed: &Feed, contracts: usize, rounds: usize, call: impl Fn(Box, &[u8], &mut Memory, &[u8]) -> Answered) -> [f64; 3] {
-    let pieces = feed.batches.len().div_ceil(PIECE);
+    let pieces = feed.batches.chunks(PIECE).len();
     let mut best = [vec![f64::INFINITY; pieces], vec![f64::INFINITY; pieces], vec![f64::INFINITY; pieces]];
     for _ in 0..rounds {
         let mut right = None;
@@ -173,7 +178,7 @@ fn checksum_alone(length: usize, rounds: usize) -> f64 {
     let one = |_| {
         let begun = Instant::now();
         for _ in 0..1_000 {
-            black_box(reference::sum_by_sixteens(black_box(&text)));
+            unknown(reference::sum_by_sixteens(unknown(&text)));
         }
         begun.elapsed().as_nanos() as f64 / 1_000.0
     };

@@ -199,7 +199,7 @@ fn writes(options: &Options, held: &mut Held) {
             let line = said.next().unwrap_or("");
             let message = line.strip_prefix(&format!("write ok {} ", reference::LENGTHS[level - 1])).map(from_hex);
             let back = message.and_then(|message| read_back(*letter, *level, *number, key, message));
-            let right = back.as_ref().is_some_and(|back| back[0] == *number as u64 && back[1..] == values[..]);
+            let right = back == Some([&[*number as u64], &values[..]].concat());
             held.hold(right, || format!("calls: seed {} write {run}/{i}: wrote {values:?}, the line {line:?} reads back as {back:?}", options.seed));
         }
         held.hold(said.next() == Some("end"), || format!("calls: seed {} write {run}: no end", options.seed));

@@ -332,7 +332,7 @@ impl History {
         self.poke_row(place, &cells, seen);
         let letter = self.r.pick(&self.book.letters());
         let line = self.ask(Ask::Gaps { letter, cells: 128 }, seen);
-        if line.is_some_and(|l| l == "gaps refused 18 0 0 0") {
+        if line.as_deref() == Some("gaps refused 18 0 0 0") {
             *seen.entry(format!("18 for {}", UNSOUND[way])).or_default() += 1;
         }
         for _ in 0..1 + self.r.below(4) {

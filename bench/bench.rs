@@ -13,12 +13,12 @@ mod reference;
 use feed::Book;
 use random::Random;
 use reference::{Sum, GAP_ROW, RECORD};
-use std::hint::black_box;
+use std::ptr;
 use std::time::Instant;
 
 const LETTER: u8 = b'D';
-const BATCHES: usize = 24;
-const MESSAGES: usize = 64; // in a batch
+const MESSAGES: usize = 1_536; // of a feed; a mix has some more
+const BATCH: usize = 64; // messages in a batch of the table
 
 type Answered = (u32, [u64; 4]);
 
@@ -30,16 +30,18 @@ enum Box {
 
 const BOXES: [Box; 3] = [Box::Ours, Box::Independent(reference::sum_by_bytes), Box::Independent(reference::sum_by_sixteens)];
 
+// The same value, of which the compiler knows nothing. std's own is newer than the oldest rustc that we compile with, Debian 12's.
+fn unknown<T: Copy>(value: T) -> T {
+    unsafe { ptr::read_volatile(&value) }
+}
+
 struct Memory {
     rows: Vec<u32>,
     records: Vec<u64>,
 }
 
 fn told(result: Result<reference::Counts, reference::Refusal>) -> Answered {
-    match result {
-        Ok(counts) => (0, [counts.taken, counts.old, counts.heartbeats, 0]),
-        Err(refusal) => (refusal.number as u32, [refusal.message as u64, refusal.row as u64, refusal.cells as u64, 0]),
-    }
+    result.map_or_else(|refusal| refusal.told(), |counts| counts.told())
 }
 
 impl Box {
@@ -64,10 +66,7 @@ struct Feed {
     list: Vec<u8>,
     batches: Vec<Vec<u8>>,
     messages: usize,
-}
-
-fn batches(messages: impl Iterator<Item = Vec<u8>>) -> Vec<Vec<u8>> {
-    messages.collect::<Vec<_>>().chunks(MESSAGES).map(feed::batch).collect()
+    piece: usize, // batches timed in one piece
 }
 
 // An update as an exchange sends it: every row filled, prices to four places.
@@ -97,7 +96,7 @@ fn late_and_missing(count: usize) -> Vec<u32> {
 // Updates of both levels, and now and then a message that is passed over or a heartbeat, which takes no number.
 fn a_mix(r: &mut Random, keys: &[feed::Key]) -> Vec<Vec<u8>> {
     let mut messages = vec![];
-    for number in late_and_missing(BATCHES * MESSAGES) {
+    for number in late_and_missing(MESSAGES) {
         let key = r.pick(keys);
         match r.below(10) {
             0 => messages.extend([feed::sealed([LETTER, b'H'], 0, &[]), feed::sealed([LETTER, b'O'], number, b"N")]),
@@ -105,28 +104,40 @@ fn a_mix(r: &mut Random, keys: &[feed::Key]) -> Vec<Vec<u8>> {
             _ => messages.push(an_update(r, 2, number, &key)),
         }
     }
-    batches(messages.into_iter())
+    messages
 }
 
-fn feeds(r: &mut Random, contracts: usize) -> Vec<(&'static str, Feed)> {
-    let keys = feed::keys(r, contracts);
+const LEVEL_2: &str = "level 2";
+const HEARTBEATS: &str = "heartbeats";
+const PASSED_OVER: &str = "passed over, 505 bytes";
+
+// In batches of so many messages.
+fn feeds(contracts: usize, batch: usize) -> Vec<(&'static str, Feed)> {
+    let mut r = Random::new(contracts as u64);
+    let keys = feed::keys(&mut r, contracts);
     let list = Book { segments: vec![(LETTER, keys.clone())] }.bytes();
-    let numbers = || 1..=(BATCHES * MESSAGES) as u32;
-    let mut updates = |level| {
-        batches(numbers().map(|number| {
+    let numbers = || 1..=MESSAGES as u32;
+    let mut updates = |level| -> Vec<Vec<u8>> {
+        let update = |number| {
             let key = r.pick(&keys);
-            an_update(r, level, number, &key)
-        }))
+            an_update(&mut r, level, number, &key)
+        };
+        numbers().map(update).collect()
     };
     let all = [
         ("level 1", updates(1)),
-        ("level 2", updates(2)),
-        ("heartbeats", batches(numbers().map(|_| feed::sealed([LETTER, b'H'], 0, &[])))),
-        ("a mix, late and missing", a_mix(r, &keys)),
-        ("passed over, 505 bytes", batches(numbers().map(|number| feed::sealed([LETTER, b'B'], number, &[b'x'; 494])))),
+        (LEVEL_2, updates(2)),
+        (HEARTBEATS, numbers().map(|_| feed::sealed([LETTER, b'H'], 0, &[])).collect()),
+        ("a mix, late and missing", a_mix(&mut r, &keys)),
+        (PASSED_OVER, numbers().map(|number| feed::sealed([LETTER, b'B'], number, &[b'x'; 494])).collect()),
     ];
-    let counted = |batches: &[Vec<u8>]| batches.iter().map(|b| u16::from_be_bytes([b[3], b[4]]) as usize).sum();
-    all.into_iter().map(|(name, batches)| (name, Feed { list: list.clone(), messages: counted(&batches), batches })).collect()
+    let cut = |messages: Vec<Vec<u8>>| Feed {
+        list: list.clone(),
+        batches: messages.chunks(batch).map(feed::batch).collect(),
+        messages: messages.len(),
+        piece: PIECE / batch,
+    };
+    all.into_iter().map(|(name, messages)| (name, cut(messages))).collect()
 }
 
 fn started(feed: &Feed, contracts: usize) -> Memory {
@@ -135,18 +146,18 @@ fn started(feed: &Feed, contracts: usize) -> Memory {
     memory
 }
 
-// Batches timed in one piece. On a busy machine a process is put aside every few milliseconds: a piece must be much shorter, or
+// Messages timed in one piece. On a busy machine a process is put aside every few milliseconds: a piece must be much shorter, or
 // the slower box meets that in every round and the faster one in few.
-const PIECE: usize = 4;
+const PIECE: usize = 256;
 
 // One round: all batches in turn, the nanoseconds of each piece and what was answered.
 fn timed(feed: &Feed, memory: &mut Memory, call: impl Fn(&[u8], &mut Memory, &[u8]) -> Answered) -> (Vec<f64>, Vec<Answered>) {
     let mut answers = Vec::with_capacity(feed.batches.len());
     let mut times = vec![];
-    for piece in feed.batches.chunks(PIECE) {
+    for piece in feed.batches.chunks(feed.piece) {
         let begun = Instant::now();
         for batch in piece {
-            answers.push(call(black_box(&feed.list), memory, black_box(batch)));
+            answers.push(call(unknown(&feed.list), memory, unknown(batch)));
         }
         times.push(begun.elapsed().as_nanos() as f64);
     }
@@ -155,7 +166,7 @@ fn timed(feed: &Feed, memory: &mut Memory, call: impl Fn(&[u8], &mut Memory, &[u
 
 // Nanoseconds a message for each box: the best of the rounds for each piece, the boxes in turn so that all meet the same machine.
 fn best(feed: &Feed, contracts: usize, rounds: usize, call: impl Fn(Box, &[u8], &mut Memory, &[u8]) -> Answered) -> [f64; 3] {
-    let pieces = feed.batches.len().div_ceil(PIECE);
+    let pieces = feed.batches.chunks(feed.piece).len();
     let mut best = [vec![f64::INFINITY; pieces], vec![f64::INFINITY; pieces], vec![f64::INFINITY; pieces]];
     for _ in 0..rounds {
         let mut right = None;
@@ -176,31 +187,57 @@ fn checksum_alone(length: usize, rounds: usize) -> f64 {
     let one = |_| {
         let begun = Instant::now();
         for _ in 0..1_000 {
-            black_box(reference::sum_by_sixteens(black_box(&text)));
+            unknown(reference::sum_by_sixteens(unknown(&text)));
         }
         begun.elapsed().as_nanos() as f64 / 1_000.0
     };
     (0..rounds).map(one).fold(f64::INFINITY, f64::min)
 }
 
+// The two rows of a feed: judging and taking, ns a message for each box.
+fn shown(name: &str, feed: &Feed, contracts: usize, rounds: usize) -> [[f64; 3]; 2] {
+    let times = [best(feed, contracts, rounds, Box::judge), best(feed, contracts, rounds, Box::take)];
+    for (what, [ours, bytes, sixteens]) in ["judge", "take"].into_iter().zip(times) {
+        println!("{name:<24} {contracts:>9} {what:>6} {ours:>8.0} {bytes:>8.0} {sixteens:>8.0} {:>7.2} {:>7.2}", ours / bytes, ours / sixteens);
+    }
+    times
+}
+
+// What judging and taking cost beside the two things that must be done for an update: its checksum, and reading its rows once.
+fn batches_of_one(rounds: usize) {
+    const CONTRACTS: usize = 64;
+    println!("batches of one message, ns a batch");
+    let feeds = feeds(CONTRACTS, 1);
+    let ours = |wanted: &str| {
+        let (name, feed) = feeds.iter().find(|(name, _)| *name == wanted).expect("it is one of the feeds");
+        shown(name, feed, CONTRACTS, rounds).map(|[ours, ..]| ours)
+    };
+    let ([judge, take], [passed_over, _], [heartbeat, _]) = (ours(LEVEL_2), ours(PASSED_OVER), ours(HEARTBEATS));
+    let (checksum, rows) = (passed_over - heartbeat, judge - passed_over);
+    let ratio = |time: f64| time / (checksum + rows);
+    println!(
+        "judged, the checksum of 502 bytes is {checksum:.0} (passed over less heartbeat), rows and key {rows:.0} (level 2 less passed over); to both: \
+         judge {:.2}, take {:.2}, judge and take {:.2}",
+        ratio(judge),
+        ratio(take),
+        ratio(judge + take)
+    );
+}
+
 fn main() {
     let rounds = std::env::args().nth(1).and_then(|n| n.parse().ok()).unwrap_or(60);
-    println!("ns a message, best of {rounds} rounds for each {PIECE} of {BATCHES} batches of {MESSAGES}; the ratio is ours to the independent one's,");
+    println!("ns a message, best of {rounds} rounds for each {PIECE} of {MESSAGES} messages, {BATCH} a batch; the ratio is ours to the independent one's,");
     println!("whose checksum takes one byte or sixteen a step");
     println!("{:<24} {:>9} {:>6} {:>8} {:>8} {:>8} {:>7} {:>7}", "messages", "contracts", "", "ours", "by 1", "by 16", "ratio 1", "16");
     let mut worst: (f64, f64) = (0.0, 0.0);
     for contracts in [1, 64, 4_096] {
-        let mut r = Random::new(contracts as u64);
-        for (name, feed) in feeds(&mut r, contracts) {
-            let judged = best(&feed, contracts, rounds, Box::judge);
-            let taken = best(&feed, contracts, rounds, Box::take);
-            for (what, [ours, bytes, sixteens]) in [("judge", judged), ("take", taken)] {
-                let ratios = (ours / bytes, ours / sixteens);
-                worst = (worst.0.max(ratios.0), worst.1.max(ratios.1));
-                println!("{name:<24} {contracts:>9} {what:>6} {ours:>8.0} {bytes:>8.0} {sixteens:>8.0} {:>7.2} {:>7.2}", ratios.0, ratios.1);
+        for (name, feed) in feeds(contracts, BATCH) {
+            for [ours, bytes, sixteens] in shown(name, &feed, contracts, rounds) {
+                worst = (worst.0.max(ours / bytes), worst.1.max(ours / sixteens));
             }
         }
     }
     println!("largest ratio {:.2} to one byte a step, {:.2} to sixteen", worst.0, worst.1);
     println!("the checksum alone, sixteen bytes a step: {:.0} ns for 246 bytes, {:.0} for 502", checksum_alone(246, rounds), checksum_alone(502, rounds));
+    batches_of_one(rounds);
 }

@@ -216,7 +216,10 @@ fn show_gaps(quotes: &QuoteBox, letter: u8) {
 
 fn main() {
     let words: Vec<String> = std::env::args().collect();
-    let [_, contracts, batches] = &words[..] else { fail("screen CONTRACTS BATCHES") };
+    let (contracts, batches) = match &words[..] {
+        [_, contracts, batches] => (contracts, batches),
+        _ => fail("screen CONTRACTS BATCHES"),
+    };
     let mut quotes = start(read_file(contracts));
     take_all(&mut quotes, &read_file(batches));
     let list = quotes.list.clone();

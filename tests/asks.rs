@@ -2,7 +2,7 @@
 #![allow(dead_code)] // each test uses a part
 
 use crate::feed::Key;
-use crate::reference::{self, Refusal, GAP_ROW, NONE, RECORD};
+use crate::reference::{self, Counts, Refusal, GAP_ROW, NONE, RECORD};
 
 pub const MEMORY_ROWS: usize = 2 * GAP_ROW;
 pub const MEMORY_RECORDS: usize = 128 * RECORD;
@@ -70,6 +70,44 @@ impl Ask {
     }
 }
 
+// What an accepted call answers.
+#[derive(Clone, Debug)]
+pub enum Said {
+    Started,
+    Judged(Counts),
+    Listed { highest: u32, runs: Vec<(u32, u32)> },
+    WrittenOff { first: u32, last: u32 },
+    Record(Option<Vec<u64>>),
+    Written(Vec<u8>),
+}
+
+fn hex(bytes: &[u8]) -> String {
+    bytes.iter().map(|b| format!("{b:02x}")).collect()
+}
+
+fn numbers(values: &[u64]) -> String {
+    let text = |&v: &u64| if v == NONE { "-".into() } else { v.to_string() };
+    values.iter().map(text).collect::<Vec<String>>().join(" ")
+}
+
+impl Said {
+    // Behind the call's name on its line.
+    fn words(&self) -> String {
+        match self {
+            Said::Started => "ok".into(),
+            Said::Judged(Counts { taken, old, heartbeats }) => format!("ok {taken} {old} {heartbeats}"),
+            Said::Listed { highest, runs } => {
+                let each: String = runs.iter().map(|(first, last)| format!(" {first}-{last}")).collect();
+                format!("ok {highest} {}{each}", runs.len())
+            }
+            Said::WrittenOff { first, last } => format!("ok {first} {last}"),
+            Said::Record(None) => "none".into(),
+            Said::Record(Some(values)) => format!("ok {}", numbers(values)),
+            Said::Written(message) => format!("ok {} {}", message.len(), hex(message)),
+        }
+    }
+}
+
 // The test bench's memory and what of it is lent.
 #[derive(Clone)]
 pub struct Bench {
@@ -78,15 +116,6 @@ pub struct Bench {
     pub records: Vec<u64>,
     pub lent_rows: usize,
     pub lent_records: usize,
-}
-
-pub fn hex(bytes: &[u8]) -> String {
-    bytes.iter().map(|b| format!("{b:02x}")).collect()
-}
-
-fn numbers(values: &[u64]) -> String {
-    let text = |&v: &u64| if v == NONE { "-".into() } else { v.to_string() };
-    values.iter().map(text).collect::<Vec<String>>().join(" ")
 }
 
 impl Bench {
@@ -98,61 +127,50 @@ impl Bench {
     }
 
     // The line that answers a call; None for a command that makes none.
-    pub fn answer(&mut self, ask: &Ask) -> Option<String> {
-        match ask {
+    pub fn line(&mut self, ask: &Ask) -> Option<String> {
+        let words = match self.answer(ask) {
+            Ok(said) => said?.words(),
+            Err(Refusal { number, message, row, cells }) => format!("refused {number} {message} {row} {cells}"),
+        };
+        Some(format!("{} {words}", ask.name()))
+    }
+
+    // What the reference answers; None to a command that makes no call.
+    pub fn answer(&mut self, ask: &Ask) -> Result<Option<Said>, Refusal> {
+        let (list, rows, records) = (&self.list[..], &mut self.rows[..self.lent_rows], &mut self.records[..self.lent_records]);
+        let sum = reference::sum_by_bits;
+        Ok(Some(match ask {
+            Ask::Start(starts) => reference::start(list, starts, rows, records).map(|()| Said::Started)?,
+            Ask::Judge(batch) => Said::Judged(reference::judge(sum, list, rows, records, batch)?),
+            Ask::Take(batch) => Said::Judged(reference::take(sum, list, rows, records, batch)?),
+            Ask::Gaps { letter, cells } => {
+                let (highest, runs) = reference::list_gaps(list, rows, records, *letter, *cells as usize)?;
+                Said::Listed { highest, runs }
+            }
+            Ask::Off { letter } => {
+                let (first, last) = reference::write_off(list, rows, records, *letter)?;
+                Said::WrittenOff { first, last }
+            }
+            Ask::Record { letter, level, key } => Said::Record(reference::read_record(list, rows, records, *letter, key, *level)?),
+            Ask::Write { code, level, number, key, room, values } => {
+                let values = reference::readings(*level, values);
+                Said::Written(reference::write_message(*code, *level, *number, key, &values, (*room as usize).min(ROOM))?)
+            }
             Ask::Lend { rows, records } => {
                 self.lent_rows = (*rows as usize).min(MEMORY_ROWS);
                 self.lent_records = (*records as usize).min(MEMORY_RECORDS);
+                return Ok(None);
             }
-            Ask::List(list) => self.list = list.clone(),
+            Ask::List(list) => {
+                self.list = list.clone();
+                return Ok(None);
+            }
             Ask::Poke { cell, value } => {
                 if let Some(at) = self.rows.get_mut(*cell as usize) {
                     *at = *value;
                 }
+                return Ok(None);
             }
-            _ => {
-                let said = self.call(ask).unwrap_or_else(|Refusal { number, message, row, cells }| format!("refused {number} {message} {row} {cells}"));
-                return Some(format!("{} {said}", ask.name()));
-            }
-        }
-        None
+        }))
     }
-
-    fn call(&mut self, ask: &Ask) -> Result<String, Refusal> {
-        let (list, rows, records) = (&self.list[..], &mut self.rows[..self.lent_rows], &mut self.records[..self.lent_records]);
-        let counted = |c: reference::Counts| format!("ok {} {} {}", c.taken, c.old, c.heartbeats);
-        let sum = reference::sum_by_bits;
-        match ask {
-            Ask::Start(starts) => reference::start(list, starts, rows, records).map(|_| "ok".into()),
-            Ask::Judge(batch) => reference::judge(sum, list, rows, records, batch).map(counted),
-            Ask::Take(batch) => reference::take(sum, list, rows, records, batch).map(counted),
-            Ask::Gaps { letter, cells } => {
-                let (highest, runs) = reference::list_gaps(list, rows, records, *letter, *cells as usize)?;
-                let each: String = runs.iter().map(|(first, last)| format!(" {first}-{last}")).collect();
-                Ok(format!("ok {highest} {}{each}", runs.len()))
-            }
-            Ask::Off { letter } => reference::write_off(list, rows, records, *letter).map(|(first, last)| format!("ok {first} {last}")),
-            Ask::Record { letter, level, key } => {
-                let record = reference::read_record(list, rows, records, *letter, key, *level)?;
-                Ok(record.map_or("none".into(), |cells| format!("ok {}", numbers(&cells))))
-            }
-            Ask::Write { code, level, number, key, room, values } => {
-                let values = written_values(*level, values);
-                let message = reference::write_message(*code, *level, *number, key, &values, (*room as usize).min(ROOM))?;
-                Ok(format!("ok {} {}", message.len(), hex(&message)))
-            }
-            Ask::Lend { .. } | Ask::List(_) | Ask::Poke { .. } => unreachable!("these make no call"),
-        }
-    }
-}
-
-// A market type or status is a byte's number, above 255 as 0.
-fn written_values(level: usize, values: &[u64]) -> Vec<u64> {
-    let rows = &reference::layout(level)[reference::MARKET_TYPE_ROW..];
-    let value = |(&v, &(row, _)): (&u64, &(reference::Row, usize))| match row {
-        reference::Row::Number(_) => v,
-        _ if v > 255 => 0,
-        _ => v,
-    };
-    values.iter().zip(rows).map(value).collect()
 }

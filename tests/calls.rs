@@ -137,7 +137,7 @@ fn paper(options: &Options, held: &mut Held) {
     let list = Book { segments: vec![(b'D', vec![CASE_KEY])] }.bytes();
     for (name, asked, lines) in batch_cases().into_iter().chain(gap_cases()) {
         let mut bench = Bench::new(Some(&list));
-        let by_reference: Vec<String> = asked.iter().filter_map(|ask| bench.answer(ask)).collect();
+        let by_reference: Vec<String> = asked.iter().filter_map(|ask| bench.line(ask)).collect();
         held.hold(by_reference == lines, || format!("reference: {name}: {by_reference:?}"));
         let input: Vec<u8> = asked.iter().flat_map(|ask| ask.bytes()).collect();
         let lines: Vec<String> = lines.into_iter().chain(["end".into()]).collect();
@@ -154,7 +154,7 @@ fn files(options: &Options, held: &mut Held) {
     for (i, contracts) in all.enumerate() {
         let asked = [Ask::Start(vec![1]), numbered(b'D', [2, 3]), Ask::Gaps { letter: b'D', cells: 2 }, price_case("1.5"), Ask::Off { letter: b'D' }];
         let mut bench = Bench::new(contracts.bytes());
-        let lines: Vec<String> = asked.iter().filter_map(|ask| bench.answer(ask)).chain(["end".into()]).collect();
+        let lines: Vec<String> = asked.iter().filter_map(|ask| bench.line(ask)).chain(["end".into()]).collect();
         let input: Vec<u8> = asked.iter().flat_map(|ask| ask.bytes()).collect();
         held.lines(&lines, &options.run(contracts, &input), |line| format!("calls: file {i}, line {line}"));
         for piece in [1, 7] {
@@ -199,7 +199,7 @@ fn writes(options: &Options, held: &mut Held) {
             let line = said.next().unwrap_or("");
             let message = line.strip_prefix(&format!("write ok {} ", reference::LENGTHS[level - 1])).map(from_hex);
             let back = message.and_then(|message| read_back(*letter, *level, *number, key, message));
-            let right = back.as_ref().is_some_and(|back| back[0] == *number as u64 && back[1..] == values[..]);
+            let right = back == Some([&[*number as u64], &values[..]].concat());
             held.hold(right, || format!("calls: seed {} write {run}/{i}: wrote {values:?}, the line {line:?} reads back as {back:?}", options.seed));
         }
         held.hold(said.next() == Some("end"), || format!("calls: seed {} write {run}: no end", options.seed));

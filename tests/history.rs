@@ -91,7 +91,7 @@ impl History {
 
     fn ask(&mut self, ask: Ask, seen: &mut Seen) -> Option<String> {
         self.input.extend(ask.bytes());
-        let line = self.bench.answer(&ask);
+        let line = self.bench.line(&ask);
         if let Some(line) = &line {
             self.lines.push((self.asked.len(), line.clone()));
             note(&ask, line, seen);
@@ -332,7 +332,7 @@ impl History {
         self.poke_row(place, &cells, seen);
         let letter = self.r.pick(&self.book.letters());
         let line = self.ask(Ask::Gaps { letter, cells: 128 }, seen);
-        if line.is_some_and(|l| l == "gaps refused 18 0 0 0") {
+        if line.as_deref() == Some("gaps refused 18 0 0 0") {
             *seen.entry(format!("18 for {}", UNSOUND[way])).or_default() += 1;
         }
         for _ in 0..1 + self.r.below(4) {

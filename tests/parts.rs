@@ -143,7 +143,7 @@ fn lists(asked: &mut Asked, r: &mut Random, count: usize) {
         let sound = book.bytes();
         let list = if r.one_in(2) { feed::damaged_list(r, &sound) } else { sound.clone() };
         let header = reference::header(&list);
-        let whole = header.as_ref().is_some_and(|h| reference::bodies_sound(&list, h));
+        let whole = matches!(&header, Some(h) if reference::bodies_sound(&list, h));
         asked.ask(b'L', &list, format!("sound {whole} header {}", header.is_some()), "lists");
         for _ in 0..4 {
             let letter = r.pick(b"DTDTF");

@@ -28,6 +28,11 @@ impl Refusal {
     pub fn memory(cells: usize) -> Refusal {
         Refusal { cells, ..Refusal::plain(15) }
     }
+
+    // What a host is told: the number returned, and the four of the answer.
+    pub fn told(&self) -> (u32, [u64; 4]) {
+        (self.number as u32, [self.message as u64, self.row as u64, self.cells as u64, 0])
+    }
 }
 
 // ---- the checksum, as the two bytes sent
@@ -227,6 +232,16 @@ pub fn read_rows(level: usize, data: &[u8], cells: &mut [u64; MOST_CELLS]) -> Re
         cells[k] = read.map_err(|number| (number, MARKET_TYPE_ROW + k))?;
     }
     Ok(())
+}
+
+// What any cells of the rows from the market type on stand for: a market type or status is a byte's number, above 255 as 0.
+pub fn readings(level: usize, cells: &[u64]) -> Vec<u64> {
+    let reading = |(&cell, &(row, _)): (&u64, &(Row, usize))| match row {
+        Row::Number(_) => cell,
+        _ if cell > 255 => 0,
+        _ => cell,
+    };
+    cells.iter().zip(&layout(level)[MARKET_TYPE_ROW..]).map(reading).collect()
 }
 
 pub fn write_rows(level: usize, key: &[u8; KEY], values: &[u64]) -> Result<Vec<u8>, (u8, usize)> {
@@ -478,6 +493,13 @@ pub struct Counts {
     pub heartbeats: u64,
 }
 
+impl Counts {
+    // What a host is told of an accepted batch.
+    pub fn told(&self) -> (u32, [u64; 4]) {
+        (0, [self.taken, self.old, self.heartbeats, 0])
+    }
+}
+
 // An update taken: where its record begins, its number and rows.
 struct Update {
     at: usize,
@@ -625,8 +647,8 @@ pub fn read_record(list: &[u8], rows: &[u32], records: &[u64], letter: u8, key: 
     let contract = find(body(list, &header.segments()[place]), key).ok_or(Refusal::plain(13))?;
     let before: usize = header.segments()[..place].iter().map(|s| s.count).sum();
     let at = RECORD * (before + contract) + LEVEL1_CELLS * (level - 1);
-    let record = &records[at..at + 1 + layout(level).len() - MARKET_TYPE_ROW];
-    Ok(if record[0] == 0 { None } else { Some(record.to_vec()) })
+    let cells = &records[at + 1..at + 1 + layout(level).len() - MARKET_TYPE_ROW];
+    Ok(if records[at] == 0 { None } else { Some([&[records[at]], &readings(level, cells)[..]].concat()) })
 }
 
 // The message; `values` are its rows from the market type on.

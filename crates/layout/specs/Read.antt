@@ -53,12 +53,14 @@ readRow (Price width) field = numberCell price field
 readRow (Quantity width) field = numberCell quantity field
 readRow (Turnover width) field = numberCell turnover field
 
--- what reading rows gives: the cells of the good rows in front of the first bad one, and the verdict
+-- 01, the order of checks: what reading rows gives: the cells of the good rows in front of the first bad one, and the
+-- verdict
 pub record Outcome : Type 0 where
   pub cells : List ℕ
   pub verdict : Verdict
 
--- a good row's cell stands in front of those of the rows behind it; a bad row ends the reading at its place
+-- 01, the order of checks: a good row's cell stands in front of those of the rows behind it; a bad row ends the reading at
+-- its place
 abbrev pub rowThen : RowRead → ℕ → Outcome → Outcome
 rowThen (Cell cell) i rest = record { cells = cell ∷ rest .cells; verdict = rest .verdict }
 rowThen Field i rest = record { cells = []; verdict = FieldAt i }
@@ -70,7 +72,8 @@ readRows i [] bytes = record { cells = []; verdict = Good }
 readRows i (row ∷ rows) bytes =
     rowThen (readRow row (take (widthOf row) bytes)) i (readRows (suc i) rows (drop (widthOf row) bytes))
 
--- the answer of reading rows, and the lent cells: those of the good rows in front of the first bad one are stored
+-- lent memory: the answer of reading rows, and the lent cells: those of the good rows in front of the first bad one are
+-- stored
 pub record ReadsRows (rows : List Row) (bytes cells : List ℕ) (answer : Verdict) (cells′ : List ℕ) : Type 0 where
   pub answers : answer ≡ readRows 0 rows bytes .verdict
   pub cells-stored : cells′ ≡ sets cells 0 (readRows 0 rows bytes .cells)

@@ -9,7 +9,6 @@ use lib.Seq.{sets}
 use Rattle.wire.specs.Number.{numberAt}
 use Rattle.amount.specs.declared.Number.{Number}
 use Rattle.amount.specs.declared.Number.the-variants.{None, Amount, Malformed, OutOfRange}
-use Rattle.amount.specs.Read.{readText}
 use Rattle.layout.specs.declared.cells.Held.the-variants.{Nothing, Units}
 use Rattle.layout.specs.declared.rows.Row.{Row}
 use Rattle.layout.specs.declared.rows.Row.the-variants.{Text, MarketType, Status, Price, Quantity, Turnover}
@@ -17,7 +16,7 @@ use Rattle.layout.specs.declared.read.RowRead.{RowRead}
 use Rattle.layout.specs.declared.read.RowRead.the-variants.{Cell, Field, Range}
 use Rattle.layout.specs.declared.read.Verdict.{Verdict}
 use Rattle.layout.specs.declared.read.Verdict.the-variants.{Good, Field as FieldAt, Range as RangeAt}
-use Rattle.amount.specs.Kinds.{Kind, price, quantity, turnover}
+use Rattle.amount.specs.Kinds.{Kind, price, quantity, turnover, readAs}
 use Rattle.layout.specs.Rows.{widthOf}
 use Rattle.layout.specs.Cells.{cellOf}
 
@@ -42,7 +41,7 @@ letterCell taken byte = cond (taken byte) (Cell byte) Field
 
 -- 01 "Numbers in text": a field as a number of its kind
 abbrev pub numberCell : Kind → List ℕ → RowRead
-numberCell kind field = ofNumber (readText (kind .places) (kind .most) field)
+numberCell kind field = ofNumber (readAs kind field)
 
 -- 01 "The message": one row's field; a key's text is only looked up, and its cell is 0
 unfoldable pub readRow : Row → List ℕ → RowRead

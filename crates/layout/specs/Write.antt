@@ -7,7 +7,7 @@ use lib.Dec.{leb}
 use lib.ListN.{length, getD, take, drop}
 use Rattle.amount.specs.declared.write.Put.{Put}
 use Rattle.amount.specs.declared.write.Put.the-variants as amount
-use Rattle.amount.specs.Write.{written, blankText, Written, filled, refused}
+use Rattle.amount.specs.Write.{blankText, Written, filled, refused}
 use Rattle.layout.specs.declared.cells.Held.{Held}
 use Rattle.layout.specs.declared.cells.Held.the-variants.{Nothing, Units}
 use Rattle.layout.specs.declared.rows.Row.{Row}
@@ -17,7 +17,7 @@ use Rattle.layout.specs.declared.read.Verdict.the-variants.{Good, Field 
 use Rattle.layout.specs.declared.write.RowsWritten.{RowsWritten}
 use Rattle.layout.specs.declared.write.RowPut.{RowPut}
 use Rattle.layout.specs.declared.write.RowPut.the-variants.{Fits, Field, Range}
-use Rattle.amount.specs.Kinds.{Kind, price, quantity, turnover}
+use Rattle.amount.specs.Kinds.{Kind, price, quantity, turnover, writtenAs}
 use Rattle.layout.specs.Cells.{heldIn}
 use Rattle.layout.specs.Read.{isMarketType, isStatus}
 
@@ -52,7 +52,7 @@ ofWritten refused = out-of-range
 -- 01 "Numbers in text": a number, as its kind is written: "none" is all spaces
 abbrev pub heldText : Kind → ℕ → Held → RowText
 heldText kind width Nothing = text (blankText width)
-heldText kind width (Units n) = ofWritten (written (kind .places) (kind .most) width n)
+heldText kind width (Units n) = ofWritten (writtenAs kind width n)
 
 -- 01 "The message": the text of one row: from what is left of the key, or from the row's cell
 unfoldable pub rowText : Row → List ℕ → ℕ → RowText

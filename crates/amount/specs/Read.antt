@@ -40,13 +40,13 @@ onDigit (Fraction n k) d = Fraction (n * 10 + d) (k + 1)
 onDigit (Behind n k) d = Bad
 onDigit Bad d = Bad
 
--- by the character first, then by what was read before it
+-- 01 "Numbers in text": one character more: by the character first, then by what was read before it
 unfoldable pub step : ℕ → State → ℕ → State
 step places s c =
     cond (eqb c space) (onSpace s)
     (cond (eqb c point) (onPoint places s) (cond (isDigit c) (onDigit s (c - digitChar 0)) Bad))
 
--- a text in turn, from what was read before it
+-- 01 "Numbers in text": the characters of a text in turn, from what was read before them
 unfoldable pub walk : ℕ → State → List ℕ → State
 walk places s [] = s
 walk places s (c ∷ text) = walk places (step places s c) text

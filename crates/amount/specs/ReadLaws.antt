@@ -1,5 +1,5 @@
 -- What reading answers is what the text denotes, in both directions: demand 2 of 01 for numbers in text.
-use Prim.Native.Nat.{ℕ, _+_, _<_, _≤_}
+use Prim.Native.Nat.{ℕ, _<_, _≤_}
 use mathlib.Core.Path.{_≡_, refl, sym, _∙_, ap, subst}
 use mathlib.Core.List.{List}
 use mathlib.Core.Logic.{_↔_, _⊎_, inl, inr, ⊎-elim}
@@ -8,7 +8,7 @@ use lib.ListN.{length, replicate, length-replicate}
 use borrow.Author.Tests.{le-leb, lt-leb}
 use Rattle.laws.specs.Choice.{cond-same, clash}
 use Rattle.laws.specs.Order.{order}
-use Rattle.amount.specs.Denotes.{space, Shape, units, FineEnough, Denotes, AllSpaces}
+use Rattle.amount.specs.Denotes.{space, Shape, units, FineEnough, AllSpaces}
 use Rattle.amount.specs.Answers.{Beyond, Says}
 use Rattle.amount.specs.Read.{walk, answer, readText}
 use Rattle.amount.specs.WalkLaws.{shape-reads, spaces-read}
@@ -86,11 +86,3 @@ module _ (places max : ℕ) (t : List ℕ) where
   -- each answer is given exactly where what it says of the text is so
   pub reads-exactly : (r : Number) → (readText places max t ≡ r) ↔ Says places max t r
   reads-exactly r = (λ e. subst (Says places max t) e (says sorted), said sorted r)
-
-  -- so a text has one answer
-  pub says-one : (r r′ : Number) → Says places max t r → Says places max t r′ → r ≡ r′
-  says-one r r′ h h′ = cc (reads-exactly r .1 h, reads-exactly r′ .1 h′)
-
--- a text denotes one amount
-pub denotes-one : (places : ℕ) (t : List ℕ) (n m : ℕ) → Denotes places t n → Denotes places t m → n ≡ m
-denotes-one places t n m h k = cc (says-one places (n + m) t (Amount n) (Amount m) (h, omega arith) (k, omega arith))

@@ -9,17 +9,18 @@ use Rattle.amount.specs.Denotes.{space, digitChar, pointed, Denotes}
 use Rattle.amount.specs.declared.write.Put.{Put}
 use Rattle.amount.specs.declared.write.Put.the-variants.{Fits, OutOfRange}
 
--- the digits of n at its last k places, the highest place first
+-- 01 "Numbers in text": the digits of n at its last k places, the highest place first
 abbrev pub lastDigits : ℕ → ℕ → List ℕ
 lastDigits zero n = []
 lastDigits (suc k) n = n / 10 ^ k % 10 ∷ lastDigits k n
 
--- how many digits a number has: one below ten, and from there on one more than its tens have; so many steps are enough
+-- 01 "Numbers in text": how many digits a number has, with no needless zero in front: one below ten, and from there on one
+-- more than its tens have; so many steps are enough
 unfoldable pub sizeIn : ℕ → ℕ → ℕ
 sizeIn zero n = 1
 sizeIn (suc steps) n = let more = suc (sizeIn steps (n / 10)) in cond (ltb n 10) 1 more
 
--- how many digits a number has
+-- 01 "Numbers in text": how many digits a number has, with no needless zero in front
 unfoldable pub size : ℕ → ℕ
 unfolding sizeIn
 size n = sizeIn n n
@@ -28,7 +29,7 @@ size n = sizeIn n n
 abbrev pub digits : ℕ → List ℕ
 digits n = lastDigits (size n) n
 
--- a digit and those kept behind it: a zero with none behind it is needless
+-- 01 "Numbers in text": a digit and those kept behind it: a zero with none behind it is needless
 abbrev pub kept : ℕ → List ℕ → List ℕ
 kept zero [] = []
 kept (suc d) [] = suc d ∷ []
@@ -88,7 +89,7 @@ abbrev pub fieldAfter : Written → List ℕ → List ℕ
 fieldAfter (filled text) field = text
 fieldAfter refused field = field
 
--- what the writer promises of its answer and of the lent field
+-- 01 "What may be asked": the writer's answer, and the lent field: a refusal leaves it as it was
 pub record Wrote (w : Written) (before : List ℕ) (answer : Put) (after : List ℕ) : Type 0 where
   pub answers : putNumber answer ≡ refusal w
   pub leaves : after ≡ fieldAfter w before

@@ -6,11 +6,11 @@ use Rattle.laws.specs.Texts.{codes}
 use Rattle.amount.specs.Kinds.{Kind, price, quantity, turnover, writtenAs}
 use Rattle.amount.specs.Write.{sizeIn, size, textOf, Written, filled, refused}
 
--- a kind, a width, units; and what becomes of the field
+-- 01 "Cases": a kind, a width, units; and what becomes of the field
 abbrev Case : Type 0
 Case = Kind × ℕ × ℕ × Written
 
--- P14 is the first
+-- 01 "Cases": P14 is the first; the others are worked by hand
 abbrev pub cases : List Case
 cases =
     (price, 17, 999_999_999_999_999_999, refused)

@@ -194,14 +194,7 @@ putNumber-apart Fits OutOfRange e = absurd (omega arith)
 putNumber-apart OutOfRange Fits e = absurd (omega arith)
 putNumber-apart OutOfRange OutOfRange e = refl
 
--- it leaves one answer and one field
-pub wrote-one : {w : Written} {before after after′ : List ℕ} {answer answer′ : Put} →
-    Wrote w before answer after → Wrote w before answer′ after′ → (answer ≡ answer′) × (after ≡ after′)
-wrote-one {answer} {answer′} p p′ =
-    (putNumber-apart answer answer′ (p .answers ∙ sym (p′ .answers)), p .leaves ∙ sym (p′ .leaves))
-
--- by its answer: refused exactly where the amount is over the largest or no text of the field's width denotes it, and otherwise the
--- field afterwards is right
+-- by its answer: refused exactly where the amount is over the largest or no text of the field's width denotes it
 module _ (places max n : ℕ) (before after : List ℕ) (answer : Put) (p : Wrote (written places max (length before) n) before answer after) where
   pub refused-exactly : (answer ≡ OutOfRange) ↔ ((max < n) ⊎ NoText places (length before) n)
   refused-exactly = (
@@ -213,14 +206,6 @@ module _ (places max n : ℕ) (before after : List ℕ) (answer : Put) (p : Wrot
           (max < n) ⊎ NoText places (length before) n
       why _ (fills h) q e = absurd (omega (arith, ap putNumber e, q .answers))
       why _ (stops h) q e = h
-
-  pub fits-right : answer ≡ Fits → Right places max (length before) n after
-  fits-right = go (written places max (length before) n) (outcome places max (length before) n) p
-    where
-      go : (w : Written) → Outcome places max (length before) n w → Wrote w before answer after → answer ≡ Fits →
-          Right places max (length before) n after
-      go _ (fills h) q e = rw (q .leaves) h
-      go _ (stops h) q e = absurd (omega (arith, ap putNumber e, q .answers))
 
 -- ---- none
 

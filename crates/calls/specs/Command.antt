@@ -4,6 +4,6 @@ use mathlib.Core.List.{List}
 use Rattle.console.specs.Desk.{Fits}
 use Rattle.calls.specs.declared.command.Command.{Command}
 
--- all its bytes are there
+-- a word of our own: all its bytes are there
 abbrev pub Ready : Command → List ℕ → List ℕ → Type 0
 Ready command room page = Fits (command .desk) room page × (command .desk .at + command .length ≤ command .desk .end)

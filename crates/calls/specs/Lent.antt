@@ -4,6 +4,6 @@ use mathlib.Core.List.{List}
 use lib.ListN.{length}
 use Rattle.calls.specs.declared.keep.Lent.{Lent}
 
--- no more than there is
+-- a word of our own: no more than there is
 abbrev pub Within : Lent → List ℕ → List ℕ → List ℕ → Type 0
 Within lent list rows records = (lent .list ≤ length list) × (lent .rows ≤ length rows) × (lent .records ≤ length records)

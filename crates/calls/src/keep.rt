@@ -1,5 +1,6 @@
 // The commands that make no call: what of the memory is lent, which list is handed over, and a gap-row cell stored.
-ghost use Prim.Native.Nat.{_≤_};
+ghost use mathlib.Core.Path.{_≡_};
+ghost use Prim.Native.Nat.{_≤_, min};
 ghost use lib.ListN.{length};
 ghost use Rattle.calls.specs.Lent.{Within};
 use crate::command;
@@ -13,7 +14,7 @@ pub struct Lent {
 
 // Cells beyond the program's memory count as all of it.
 pub fn least(a: usize, b: usize) -> usize
-    ensures { λ r. ⌜ (r ≤ a) × (r ≤ b) ⌝ }
+    ensures { λ r. ⌜ r ≡ min a b ⌝ }
 {
     if a < b { a } else { b }
 }

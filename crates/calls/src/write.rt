@@ -1,5 +1,5 @@
 // Writing a message.
-ghost use Prim.Native.Nat.{_+_, _*_, _≤_};
+ghost use Prim.Native.Nat.{_≤_};
 ghost use lib.ListN.{length};
 use crate::command;
 use crate::keep::least;
@@ -10,14 +10,6 @@ use layout::Quote;
 use quotebox::Code;
 use quotebox::Written;
 
-fn number_at(bytes: &[u8], at: usize) -> u64
-    requires { ⌜ at ≤ 65535 ⌝ }
-{
-    let high = wire::u32_at(bytes, at) as u64;
-    let low = wire::u32_at(bytes, at + 4) as u64;
-    high * 4_294_967_296 + low
-}
-
 // The cells of so many rows from the market type on.
 fn cells_in(bytes: &[u8], rows: usize) -> [u64; 37]
     requires { ⌜ rows ≤ 32 ⌝ }
@@ -25,7 +17,7 @@ fn cells_in(bytes: &[u8], rows: usize) -> [u64; 37]
     let mut cells = [0u64; 37];
     let mut i = 0;
     while i < rows {
-        cells[lines::KEY_ROWS + i] = number_at(bytes, command::WRITE_FRONT + 8 * i);
+        cells[lines::KEY_ROWS + i] = wire::u64_at(bytes, command::WRITE_FRONT + 8 * i);
         i += 1;
     }
     cells

@@ -4,7 +4,7 @@ use mathlib.Core.Option.{Option, none, some}
 use Rattle.contracts.specs.declared.lookup.Found.{Found}
 use Rattle.contracts.specs.declared.lookup.Found.the-variants.{At, Nowhere}
 
--- the value of an answer: the place
+-- a word of our own: the place that an answer gives, if it gives one
 abbrev pub placeOf : Found → Option ℕ
 placeOf (At place) = some place
 placeOf Nowhere = none

@@ -3,22 +3,22 @@ use Prim.Native.Nat.{ℕ, zero, suc, _+_}
 use mathlib.Core.Bool.{Bool, true, cond, _&&_}
 use mathlib.Core.Option.{Option, none, some}
 
--- every number below n passes
+-- a word of our own: every number below n passes
 abbrev pub allBelow : ℕ → (ℕ → Bool) → Bool
 allBelow zero p = true
 allBelow (suc n) p = allBelow n p && p n
 
--- what the numbers below n give, added up
+-- a word of our own: what the numbers below n give, added up
 abbrev pub sumBelow : ℕ → (ℕ → ℕ) → ℕ
 sumBelow zero f = 0
 sumBelow (suc n) f = sumBelow n f + f n
 
--- the first of two that is there
+-- a word of our own: the first of two that is there
 abbrev pub orElse : Option ℕ → Option ℕ → Option ℕ
 orElse none other = other
 orElse (some i) other = some i
 
--- the first number below n that passes
+-- a word of our own: the first number below n that passes
 abbrev pub firstBelow : ℕ → (ℕ → Bool) → Option ℕ
 firstBelow zero p = none
 firstBelow (suc n) p = orElse (firstBelow n p) (cond (p n) (some n) none)

@@ -111,11 +111,3 @@ module _ (f : ℕ → ℕ) where
       let rest : sumBelow n f ≤ n * m = sum-under n m (λ i h. each i (omega arith)) in
       let here : f n ≤ m = each n (omega arith) in
       rw (suc-mul n m) (omega arith)
-
-  -- a number below a sum lies in one of its parts
-  pub sum-part : (n r : ℕ) → r < sumBelow n f → (i : ℕ) × (i < n) × (sumBelow i f ≤ r) × (r < sumBelow i f + f i)
-  sum-part zero r h = absurd (omega arith)
-  sum-part (suc n) r h =
-      ⊎-elim (λ (k : sumBelow n f ≤ r). (n, omega arith, k, h))
-      (λ (k : r < sumBelow n f). let p = sum-part n r k in (p .0, omega arith, p .2, p .3))
-      (order (sumBelow n f) r)

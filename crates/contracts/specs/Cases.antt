@@ -11,11 +11,11 @@ use Rattle.contracts.specs.Lookup.{segmentOf, lookup, placeIn}
 use Rattle.contracts.specs.Records.{recordAt}
 use Rattle.contracts.specs.Sound.{entrySound, headerSound, bytesSound, keySound, bodySound, sound}
 
--- a key of one byte throughout
+-- 01 "The contract list": a 39-byte key of one byte throughout
 abbrev pub keyOfBytes : ℕ → List ℕ
 keyOfBytes byte = replicate keySize byte
 
--- an entry of the contents, for a letter, a count below 256 and an offset below 256
+-- 01 "The contract list": an entry of the contents, for a letter, a count below 256 and an offset below 256
 abbrev pub entryOf : ℕ → ℕ → ℕ → List ℕ
 entryOf letter count offset = letter ∷ 0 ∷ 0 ∷ count ∷ 0 ∷ 0 ∷ 0 ∷ offset ∷ []
 
@@ -23,11 +23,11 @@ entryOf letter count offset = letter ∷ 0 ∷ 0 ∷ count ∷ 0 ∷ 0 ∷ 0 ∷
 abbrev pub oneT : List ℕ
 oneT = 0 ∷ 1 ∷ entryOf 84 1 10 ++ keyOfBytes 65
 
--- two segments of one and two contracts, of these letters, offsets and keys
+-- 01 "The contract list": two segments of one and two contracts, of these letters, offsets and keys
 abbrev pub twoOf : ℕ → ℕ → ℕ → ℕ → List ℕ → List ℕ
 twoOf letter other offset next keys = 0 ∷ 2 ∷ entryOf letter 1 offset ++ entryOf other 2 next ++ keys
 
--- a body of one key and, behind it, one of two that ascend
+-- 01 "The contract list": a body of one key and, behind it, one of two that ascend
 abbrev pub threeKeys : List ℕ
 threeKeys = keyOfBytes 65 ++ keyOfBytes 32 ++ keyOfBytes 126
 

@@ -21,7 +21,7 @@ which Same = inl refl
 which Below = inr (inl refl)
 which Above = inr (inr refl)
 
--- the binary digits of n are the least exponent of two that n is under
+-- n is under two to the power of its binary digits
 holds : (t n : ℕ) → n ≤ t → n < 2 ^ digitsIn t n
 holds zero n h = omega arith
 holds (suc t) zero h = omega arith
@@ -32,18 +32,6 @@ holds (suc t) (suc m) h =
 
 pub digits-hold : (n : ℕ) → n < 2 ^ digits n
 digits-hold n = holds n n (omega arith)
-
-least : (t n d : ℕ) → n < 2 ^ d → digitsIn t n ≤ d
-least zero n d h = omega arith
-least (suc t) zero d h = omega arith
-least (suc t) (suc m) zero h = absurd (omega arith)
-least (suc t) (suc m) (suc d) h =
-    let double : 2 ^ suc d ≡ 2 ^ d + 2 ^ d = two-pow-succ d in
-    let rest : digitsIn t (suc m / 2) ≤ d = least t (suc m / 2) d (omega arith) in
-    omega arith
-
-pub digits-least : (n d : ℕ) → n < 2 ^ d → digits n ≤ d
-digits-least n d h = least n n d h
 
 module _ (stands : ℕ → Order) where
   module _ (turns low m : ℕ) where

@@ -11,17 +11,17 @@ use Rattle.contracts.specs.Below.{allBelow}
 use Rattle.contracts.specs.File.{segmentsOf, entryAt}
 use Rattle.contracts.specs.Sound.{entrySound, bodySound}
 
--- a place that reads as the entry of segment i does
+-- a word of our own: a place that reads as the entry of segment i does
 pub record EntryPlace (list : List ℕ) (i place : ℕ) : Type 0 where
   pub reads : (width ahead : ℕ) → numberAt width list (place + ahead) ≡ numberAt width list (entryAt i + ahead)
   -- so that a few bytes on is still a place
   pub near : place ≤ length list + 2
 
--- the test of segment i, of its entry or of its body
+-- a word of our own: the test of segment i, of its entry or of its body
 abbrev pub partSound : List ℕ → Part → ℕ → Bool
 partSound list Entry i = entrySound list i
 partSound list Body i = bodySound list i
 
--- the test of every segment
+-- a word of our own: the test of every segment
 abbrev pub eachSound : List ℕ → Part → Bool
 eachSound list part = allBelow (segmentsOf list) (partSound list part)

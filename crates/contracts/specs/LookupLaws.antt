@@ -1,13 +1,12 @@
 -- Laws of the lookups: what is found is what is listed, and 6 and 13 are given exactly when it isn't.
 use Prim.Native.Nat.{ℕ, _≤_, _<_}
 use mathlib.Core.Path.{_≡_, refl, sym, ap, _∙_}
-use mathlib.Core.Logic.{_↔_, ⊎-elim}
+use mathlib.Core.Logic.{_↔_}
 use mathlib.Core.List.{List}
 use mathlib.Core.Option.{Option, none, some}
 use native.Mathlib.Omega.{arith}
 use borrow.Author.Tests.{eqb-true, eqb-false}
 use lib.Dec.{eqb}
-use Rattle.laws.specs.Order.{three}
 use Rattle.laws.specs.Choice.{never}
 use Rattle.contracts.specs.declared.lookup.Found.{Found}
 use Rattle.contracts.specs.declared.lookup.Found.the-variants.{At, Nowhere}
@@ -95,11 +94,3 @@ module _ (list : List ℕ) where
     key-refused s l r e =
         refused-exact (placeIn list i key) (λ k. (k < countAt list i) × (keyOf list i k ≡ key)) (key-exact s l)
         contractRefused (omega arith) r e
-
-  -- no key stands twice in a segment
-  pub keys-apart : Sound list → (i j k : ℕ) → i < segmentsOf list → j < countAt list i → k < countAt list i
-      → keyOf list i j ≡ keyOf list i k → j ≡ k
-  keys-apart s i j k l m n e =
-      ⊎-elim (λ (h : j < k). cc (keys-climb list s i j k l h n, key-same (keyOf list i j)))
-      (⊎-elim (λ (h : k < j). cc (keys-climb list s i k j l h m, key-same (keyOf list i j))) (λ (h : j ≡ k). h))
-      (three j k)

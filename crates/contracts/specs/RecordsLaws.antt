@@ -1,11 +1,11 @@
--- Every listed contract has a record of its own, and every record belongs to one.
-use Prim.Native.Nat.{ℕ, _+_, _-_, _≤_, _<_}
+-- Every listed contract has a record of its own.
+use Prim.Native.Nat.{ℕ, _+_, _≤_, _<_}
 use mathlib.Core.Path.{_≡_, ap}
 use mathlib.Core.Logic.{⊎-elim}
 use mathlib.Core.List.{List}
 use native.Mathlib.Omega.{arith}
 use Rattle.laws.specs.Order.{three}
-use Rattle.contracts.specs.BelowLaws.{sum-reaches, sum-part}
+use Rattle.contracts.specs.BelowLaws.{sum-reaches}
 use Rattle.contracts.specs.File.{segmentsOf, countAt, contractsBefore, contractsOf}
 use Rattle.contracts.specs.FileLaws.{before-sum, before-reaches}
 use Rattle.contracts.specs.Records.{Listed, recordAt}
@@ -26,11 +26,3 @@ module _ (list : List ℕ) where
       (⊎-elim (λ (m : j < i). absurd (omega (arith, g .place, segments-apart j i m (h .segment))))
       (λ (m : i ≡ j). (m, omega (arith, ap (contractsBefore list) m))))
       (three i j)
-
-  -- every record that is kept is some contract's
-  pub record-owned : (r : ℕ) → r < contractsOf list → (i : ℕ) × (k : ℕ) × Listed list i k × (recordAt list i k ≡ r)
-  record-owned r h =
-      let p = sum-part (countAt list) (segmentsOf list) r (rw (← before-sum list (segmentsOf list) (omega arith)) h) in
-      let i : ℕ = p .0 in
-      let before : contractsBefore list i ≡ _ = before-sum list i (omega (arith, p .1)) in
-      (i, r - contractsBefore list i, record { segment = p .1; place = omega (arith, p .2, p .3) }, omega (arith, p .2))

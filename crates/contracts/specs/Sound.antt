@@ -58,7 +58,7 @@ pub record Sound (list : List ℕ) : Type 0 where
       → (lowestByte ≤ getD (keyOf list i k) b 0) × (getD (keyOf list i k) b 0 ≤ highestByte)
   pub keys-ascend : (i k : ℕ) → i < segmentsOf list → k + 1 < countAt list i → orderOf (keyOf list i k) (keyOf list i (k + 1)) ≡ Below
 
--- n is not under `low` and not above `high`
+-- a word of our own: n is not under `low` and not above `high`
 abbrev pub within : ℕ → ℕ → ℕ → Bool
 within low high n = leb low n && leb n high
 

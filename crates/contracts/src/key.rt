@@ -1,7 +1,6 @@
 ghost use mathlib.Core.Path.{_≡_};
-ghost use Prim.Native.Nat.{_+_, _≤_};
+ghost use Prim.Native.Nat.{_≤_};
 ghost use lib.ListN.{length, drop};
-ghost use Rattle.wire.specs.Number.{numberAt};
 ghost use Rattle.contracts.specs.File.{keyFrom};
 ghost use Rattle.contracts.specs.Keys.{orderOf};
 
@@ -13,14 +12,6 @@ pub enum Order {
     Below,
     Same,
     Above,
-}
-
-// Eight bytes as one number: so keys are compared eight bytes at a time.
-fn word_at(s: &[u8], at: usize) -> u64
-    requires { ⌜ at + 8 ≤ length (now s) ⌝ }
-    ensures { λ r. ⌜ r ≡ numberAt 8 (now (s .entry)) at ⌝ }
-{
-    (wire::u32_at(s, at) as u64) * 4294967296 + (wire::u32_at(s, at + 4) as u64)
 }
 
 // The order of what is left of two keys from a byte on.
@@ -48,14 +39,14 @@ fn order_from(a: &[u8], b: &[u8], from: usize) -> Order
     }
 }
 
-// By the first byte in which they differ; what a longer one begins with stands below it.
+// By the first byte in which they differ; what a longer one begins with stands below it. Eight bytes are compared as one number.
 pub(crate) fn order_of(a: &[u8], b: &[u8]) -> Order
     ensures { λ r. ⌜ r ≡ orderOf (now (a .entry)) (now (b .entry)) ⌝ }
 {
     let mut i = 0;
     while (i + 8 <= a.len()) & (i + 8 <= b.len()) {
-        let x = word_at(a, i);
-        let y = word_at(b, i);
+        let x = wire::u64_at(a, i);
+        let y = wire::u64_at(b, i);
         if x < y {
             return Order::Below;
         }

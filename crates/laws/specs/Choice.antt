@@ -11,11 +11,6 @@ pub cond-same {ℓ} : {A : Type ℓ} (b : Bool) (x : A) → cond b x x ≡ x
 cond-same true x = refl
 cond-same false x = refl
 
--- what is done with a choice is chosen
-pub cond-ap {ℓ κ} : {A : Type ℓ} {B : Type κ} (f : A → B) (b : Bool) (x y : A) → f (cond b x y) ≡ cond b (f x) (f y)
-cond-ap f true x y = refl
-cond-ap f false x y = refl
-
 -- for `cc`, which proves equations alone: two answers that differ
 pub clash : _≡_ {A = ℕ} 0 1 → ⊥
 clash e = omega arith

@@ -4,6 +4,6 @@ use Prim.Native.Char.{code}
 use Prim.Native.String.{String}
 use mathlib.Core.List.{List, [], _∷_}
 
--- the codes of a quoted text's characters
+-- 01 "Cases": texts are quoted: the codes of a quoted text's characters
 abbrev pub codes : String → List ℕ
 codes = elim [ String.[] ↦ [] | String._∷_ c (s → cs) ↦ code c ∷ cs ]

@@ -35,11 +35,11 @@ rowAt rows k = getD rows k (Text 0)
 abbrev pub fieldAt : List Row → List ℕ → ℕ → List ℕ
 fieldAt rows bytes k = take (widthOf (rowAt rows k)) (drop (offsetOf rows k) bytes)
 
--- what row k reads as
+-- 01 "The message": what row k reads as
 abbrev pub rowRead : List Row → List ℕ → ℕ → RowRead
 rowRead rows bytes k = readRow (rowAt rows k) (fieldAt rows bytes k)
 
--- what row k is to hold, from the bytes of the key that the rows in front leave and from its cell
+-- 01 "The message": what row k is to hold, from the bytes of the key that the rows in front leave and from its cell
 abbrev pub rowWritten : List Row → List ℕ → List ℕ → ℕ → RowText
 rowWritten rows key cells k = rowText (rowAt rows k) (drop (total keyUsed (take k rows)) key) (getD cells k 0)
 

@@ -1,11 +1,9 @@
 -- The verdict of reading rows, and of writing them, is that of the first bad row; and there is one such verdict.
 use Prim.Native.Nat.{ℕ, zero, suc, _+_, _≤_, _<_}
-use mathlib.Core.Path.{_≡_, refl, ap, sym, _∙_}
-use mathlib.Core.List.{List, [], _∷_}
+use mathlib.Core.Path.{_≡_, refl, ap}
+use mathlib.Core.List.{List}
 use mathlib.Core.Logic.{_↔_, ⊎-elim}
 use native.Mathlib.Omega.{arith}
-use mathlib.Core.Bool.{cond}
-use lib.Dec.{eqb}
 use native.Mathlib.Nat.{add-zero}
 use native.Mathlib.Numerals.{add-one}
 use borrow.Author.Count.{below-more}
@@ -22,24 +20,9 @@ use Rattle.layout.specs.Rows.{widthOf, total, offsetOf}
 use Rattle.layout.specs.RowsLaws.{total-suc}
 use Rattle.layout.specs.Read.{rowThen, readRows}
 use Rattle.layout.specs.Write.{RowText, text, malformed, out-of-range, keyUsed, textThen, writeRows}
-use Rattle.layout.specs.FirstBad.{field, range, rowAt, rowRead, rowWritten, readRefusal, writeRefusal, refusalRead, refusalWritten, verdictNumbers, FirstAt, FirstBad}
+use Rattle.layout.specs.FirstBad.{field, range, rowAt, rowRead, rowWritten, readRefusal, writeRefusal, refusalRead, refusalWritten, FirstAt, FirstBad}
 
 -- ---- one verdict
-
--- a verdict's numbers tell it
-verdictOf : List ℕ → Verdict
-verdictOf [] = Good
-verdictOf (number ∷ []) = Good
-verdictOf (number ∷ row ∷ rest) = cond (eqb number field) (FieldAt row) (RangeAt row)
-
-numbered : (v : Verdict) → verdictOf (verdictNumbers v) ≡ v
-unfolding verdictOf
-numbered Good = refl
-numbered (FieldAt row) = refl
-numbered (RangeAt row) = refl
-
-pub numbers-tell : (v w : Verdict) → verdictNumbers v ≡ verdictNumbers w → v ≡ w
-numbers-tell v w e = sym (numbered v) ∙ ap verdictOf e ∙ numbered w
 
 module _ (refusal : ℕ → ℕ) (count : ℕ) where
   one-place : {m n i j : ℕ} → 0 < m → 0 < n → FirstAt refusal count m i → FirstAt refusal count n j → i ≡ j

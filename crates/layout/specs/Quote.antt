@@ -24,7 +24,7 @@ abbrev pub priceOf : Held → PriceCell
 priceOf Nothing = price.None
 priceOf (Units n) = price.Amount (record { 0 = n })
 
--- the same back: the number of a price, or none
+-- 01 "Numbers in text": the same back: the number of a price, or none
 abbrev pub heldPrice : PriceCell → Held
 heldPrice price.None = Nothing
 heldPrice (price.Amount amount) = Units (amount .0)
@@ -42,7 +42,7 @@ abbrev pub quantityOf : Held → QuantityCell
 quantityOf Nothing = quantity.None
 quantityOf (Units n) = quantity.Amount (record { 0 = n })
 
--- the same back: the number of a quantity, or none
+-- 01 "Numbers in text": the same back: the number of a quantity, or none
 abbrev pub heldQuantity : QuantityCell → Held
 heldQuantity quantity.None = Nothing
 heldQuantity (quantity.Amount amount) = Units (amount .0)
@@ -60,7 +60,7 @@ abbrev pub turnoverOf : Held → TurnoverCell
 turnoverOf Nothing = turnover.None
 turnoverOf (Units n) = turnover.Amount (record { 0 = n })
 
--- the same back: the number of a turnover, or none
+-- 01 "Numbers in text": the same back: the number of a turnover, or none
 abbrev pub heldTurnover : TurnoverCell → Held
 heldTurnover turnover.None = Nothing
 heldTurnover (turnover.Amount amount) = Units (amount .0)
@@ -104,17 +104,17 @@ orderCells (suc depth) orders =
 abbrev pub lastRow : Level → ℕ
 lastRow level = 6 + 4 * depthOf level
 
--- 01 "The message": the row of the turnover: the last
+-- 000 sections 4.4 and 4.5, 003 sections 4.5 and 4.6: the row of the turnover: the last
 abbrev pub turnoverRow : Level → ℕ
 turnoverRow One = 18
 turnoverRow Two = 36
 
--- 01 "The message": level 1 has neither side's total
+-- 000 sections 4.4 and 4.5, 003 sections 4.5 and 4.6: level 1 has neither side's total
 abbrev pub totalIn : Level → ℕ → QuantityCell
 totalIn One cell = quantity.None
 totalIn Two cell = quantityIn cell
 
--- 01 "The message": the rows of an update by name, one cell a row, as they are laid out
+-- 000 sections 4.4 and 4.5, 003 sections 4.5 and 4.6: the rows of an update by name, one cell a row, as they are laid out
 unfoldable pub quoteOf : Level → List ℕ → Quote
 quoteOf level cells =
     record {
@@ -138,13 +138,13 @@ quoteOf level cells =
 abbrev pub tradeCells : Quote → List ℕ
 tradeCells quote = cellOfPrice (quote .last) ∷ cellOfQuantity (quote .traded) ∷ quote .status ∷ []
 
--- 01 "The message": opening, high, low, close and average price
+-- 000 sections 4.4 and 4.5, 003 sections 4.5 and 4.6: opening, high, low, close and average price
 abbrev pub dayCells : Quote → List ℕ
 dayCells quote =
     cellOfPrice (quote .opening) ∷ cellOfPrice (quote .high) ∷ cellOfPrice (quote .low) ∷ cellOfPrice (quote .close)
     ∷ cellOfPrice (quote .average) ∷ []
 
--- 01 "The message": all buyers' and all sellers' quantity at level 2, and the turnover
+-- 000 sections 4.4 and 4.5, 003 sections 4.5 and 4.6: all buyers' and all sellers' quantity at level 2, and the turnover
 abbrev pub endCells : Level → Quote → List ℕ
 endCells One quote = cellOfTurnover (quote .turnover) ∷ []
 endCells Two quote = cellOfQuantity (quote .buyers) ∷ cellOfQuantity (quote .sellers) ∷ cellOfTurnover (quote .turnover) ∷ []
@@ -163,7 +163,7 @@ abbrev pub firstOrders : ℕ → List Order → List Order
 firstOrders zero orders = []
 firstOrders (suc depth) orders = getD orders 0 noOrder ∷ firstOrders depth (drop 1 orders)
 
--- 01 "The message": level 1 has neither side's total
+-- 000 sections 4.4 and 4.5, 003 sections 4.5 and 4.6: level 1 has neither side's total
 abbrev pub seenTotal : Level → QuantityCell → QuantityCell
 seenTotal One total = quantity.None
 seenTotal Two total = total

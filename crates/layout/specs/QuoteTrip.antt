@@ -136,10 +136,11 @@ module _ (level : Level) (quote : Quote) (key : List ℕ) (good : writeRows 0 (r
       zeros-held rows (37 - length rows) (rows-held 0 (rowsOf level) key (cellsOf level quote) good) in
       quote-back level quote (small .0) (small .1) (rw same-cells at held)
 
-  -- what is written from a quote reads back as that quote
+  -- a word of our own: what is written from a quote, read again
   abbrev read-again : Outcome
   read-again = readRows 0 (rowsOf level) (writeRows 0 (rowsOf level) key (cellsOf level quote) .bytes)
 
+  -- what is written from a quote reads back as that quote
   pub written-back : (read-again .verdict ≡ Good) × (quoteOf level (filled (read-again .cells)) ≡ seenQuote level quote)
   written-back =
       let back : read-again ≡ record { cells = seenCells (rowsOf level) (cellsOf level quote); verdict = Good } =

@@ -9,7 +9,6 @@ use lib.Seq.{sets}
 use Rattle.wire.specs.Number.{numberAt}
 use Rattle.amount.specs.declared.Number.{Number}
 use Rattle.amount.specs.declared.Number.the-variants.{None, Amount, Malformed, OutOfRange}
-use Rattle.amount.specs.Read.{readText}
 use Rattle.layout.specs.declared.cells.Held.the-variants.{Nothing, Units}
 use Rattle.layout.specs.declared.rows.Row.{Row}
 use Rattle.layout.specs.declared.rows.Row.the-variants.{Text, MarketType, Status, Price, Quantity, Turnover}
@@ -17,7 +16,7 @@ use Rattle.layout.specs.declared.read.RowRead.{RowRead}
 use Rattle.layout.specs.declared.read.RowRead.the-variants.{Cell, Field, Range}
 use Rattle.layout.specs.declared.read.Verdict.{Verdict}
 use Rattle.layout.specs.declared.read.Verdict.the-variants.{Good, Field as FieldAt, Range as RangeAt}
-use Rattle.amount.specs.Kinds.{Kind, price, quantity, turnover}
+use Rattle.amount.specs.Kinds.{Kind, price, quantity, turnover, readAs}
 use Rattle.layout.specs.Rows.{widthOf}
 use Rattle.layout.specs.Cells.{cellOf}
 
@@ -42,7 +41,7 @@ letterCell taken byte = cond (taken byte) (Cell byte) Field
 
 -- 01 "Numbers in text": a field as a number of its kind
 abbrev pub numberCell : Kind → List ℕ → RowRead
-numberCell kind field = ofNumber (readText (kind .places) (kind .most) field)
+numberCell kind field = ofNumber (readAs kind field)
 
 -- 01 "The message": one row's field; a key's text is only looked up, and its cell is 0
 unfoldable pub readRow : Row → List ℕ → RowRead
@@ -53,12 +52,14 @@ readRow (Price width) field = numberCell price field
 readRow (Quantity width) field = numberCell quantity field
 readRow (Turnover width) field = numberCell turnover field
 
--- what reading rows gives: the cells of the good rows in front of the first bad one, and the verdict
+-- 01, the order of checks: what reading rows gives: the cells of the good rows in front of the first bad one, and the
+-- verdict
 pub record Outcome : Type 0 where
   pub cells : List ℕ
   pub verdict : Verdict
 
--- a good row's cell stands in front of those of the rows behind it; a bad row ends the reading at its place
+-- 01, the order of checks: a good row's cell stands in front of those of the rows behind it; a bad row ends the reading at
+-- its place
 abbrev pub rowThen : RowRead → ℕ → Outcome → Outcome
 rowThen (Cell cell) i rest = record { cells = cell ∷ rest .cells; verdict = rest .verdict }
 rowThen Field i rest = record { cells = []; verdict = FieldAt i }
@@ -70,7 +71,8 @@ readRows i [] bytes = record { cells = []; verdict = Good }
 readRows i (row ∷ rows) bytes =
     rowThen (readRow row (take (widthOf row) bytes)) i (readRows (suc i) rows (drop (widthOf row) bytes))
 
--- the answer of reading rows, and the lent cells: those of the good rows in front of the first bad one are stored
+-- lent memory: the answer of reading rows, and the lent cells: those of the good rows in front of the first bad one are
+-- stored
 pub record ReadsRows (rows : List Row) (bytes cells : List ℕ) (answer : Verdict) (cells′ : List ℕ) : Type 0 where
   pub answers : answer ≡ readRows 0 rows bytes .verdict
   pub cells-stored : cells′ ≡ sets cells 0 (readRows 0 rows bytes .cells)

@@ -69,7 +69,7 @@ printable-append (b ∷ s) t p q =
     let both = and-eq-true-iff (printable b) (allPrintable s) .0 p in
     and-eq-true-iff (printable b) (allPrintable (s ++ t)) .1 (both .0, printable-append s t (both .1) q)
 
--- rows of text in front are those of the key, and its bytes may be written
+-- 01 "The message": rows of text in front are those of the key, and its bytes may be written
 pub record KeyInFront (size : ℕ) (key bytes : List ℕ) : Type 0 where
   pub has-it : size ≤ length key
   pub may-be-written : allPrintable (take size key) ≡ true

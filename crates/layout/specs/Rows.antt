@@ -20,21 +20,21 @@ orders price (suc depth) = Price price ∷ Quantity 12 ∷ orders price depth
 abbrev pub traded : ℕ → List Row
 traded price = Price price ∷ Quantity 12 ∷ []
 
--- 01 "The message": opening, high, low, close and average price
+-- 000 sections 4.4 and 4.5, 003 sections 4.5 and 4.6: opening, high, low, close and average price
 abbrev pub dayPrices : ℕ → List Row
 dayPrices price = Price price ∷ Price price ∷ Price price ∷ Price price ∷ Price price ∷ []
 
--- 01 "The message": orders a side
+-- 000 sections 4.4 and 4.5, 003 sections 4.5 and 4.6: orders a side
 abbrev pub depthOf : Level → ℕ
 depthOf One = 1
 depthOf Two = 5
 
--- 01 "The message": all buyers' and all sellers' quantity: level 2 alone
+-- 000 section 4.5, 003 section 4.6: all buyers' and all sellers' quantity: level 2 alone
 abbrev pub sideTotals : Level → List Row
 sideTotals One = []
 sideTotals Two = Quantity 12 ∷ Quantity 12 ∷ []
 
--- 01 "The message": the rows behind the key, in the order in which they are laid out
+-- 000 sections 4.4 and 4.5, 003 sections 4.5 and 4.6: the rows behind the key, in the order in which they are laid out
 abbrev pub recordRows : Level → List Row
 recordRows level =
     (MarketType ∷ orders 17 (depthOf level)) ++ orders 17 (depthOf level) ++ traded 17 ++ (Status ∷ dayPrices 17) ++ sideTotals level
@@ -53,7 +53,7 @@ widthOf (Price width) = width
 widthOf (Quantity width) = width
 widthOf (Turnover width) = width
 
--- what rows have of something, added up
+-- a word of our own: what rows have of something, added up
 abbrev pub total : (Row → ℕ) → List Row → ℕ
 total each [] = 0
 total each (row ∷ rows) = each row + total each rows
@@ -70,6 +70,6 @@ messageLength rows = dataLength rows + 11
 abbrev pub offsetOf : List Row → ℕ → ℕ
 offsetOf rows i = dataLength (take i rows)
 
--- rows with empty ones behind them, as many as the longest layout has
+-- a word of our own: rows with empty ones behind them, as many as the longest layout has
 abbrev pub padded : List Row → List Row
 padded rows = rows ++ replicate (37 - length rows) (Text 0)

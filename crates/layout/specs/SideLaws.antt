@@ -10,8 +10,6 @@ use lib.Seq.{getD-drop, set-at, sets}
 use Rattle.laws.specs.Lists.{sets-append}
 use Rattle.layout.specs.declared.rows.Level.{Level}
 use Rattle.layout.specs.declared.rows.Level.the-variants.{One, Two}
-use Rattle.layout.specs.declared.quote.PriceCell.the-variants as price
-use Rattle.layout.specs.declared.quote.QuantityCell.the-variants as quantity
 use Rattle.layout.specs.declared.quote.Order.{Order}
 use Rattle.layout.specs.declared.quote.Quote.{Quote}
 use Rattle.layout.specs.Rows.{depthOf, orders}

@@ -7,7 +7,7 @@ use lib.Dec.{leb}
 use lib.ListN.{length, getD, take, drop}
 use Rattle.amount.specs.declared.write.Put.{Put}
 use Rattle.amount.specs.declared.write.Put.the-variants as amount
-use Rattle.amount.specs.Write.{written, blankText, Written, filled, refused}
+use Rattle.amount.specs.Write.{blankText, Written, filled, refused}
 use Rattle.layout.specs.declared.cells.Held.{Held}
 use Rattle.layout.specs.declared.cells.Held.the-variants.{Nothing, Units}
 use Rattle.layout.specs.declared.rows.Row.{Row}
@@ -17,7 +17,7 @@ use Rattle.layout.specs.declared.read.Verdict.the-variants.{Good, Field 
 use Rattle.layout.specs.declared.write.RowsWritten.{RowsWritten}
 use Rattle.layout.specs.declared.write.RowPut.{RowPut}
 use Rattle.layout.specs.declared.write.RowPut.the-variants.{Fits, Field, Range}
-use Rattle.amount.specs.Kinds.{Kind, price, quantity, turnover}
+use Rattle.amount.specs.Kinds.{Kind, price, quantity, turnover, writtenAs}
 use Rattle.layout.specs.Cells.{heldIn}
 use Rattle.layout.specs.Read.{isMarketType, isStatus}
 
@@ -30,7 +30,7 @@ abbrev pub allPrintable : List ℕ → Bool
 allPrintable [] = true
 allPrintable (b ∷ bs) = printable b && allPrintable bs
 
--- what one row's field is to hold, or what is wrong with what is to be written
+-- 01, the table's rows 11 and 12: what one row's field is to hold, or what is wrong with what is to be written
 pub data RowText : Type 0 where
   text : List ℕ → RowText
   malformed : RowText
@@ -52,7 +52,7 @@ ofWritten refused = out-of-range
 -- 01 "Numbers in text": a number, as its kind is written: "none" is all spaces
 abbrev pub heldText : Kind → ℕ → Held → RowText
 heldText kind width Nothing = text (blankText width)
-heldText kind width (Units n) = ofWritten (written (kind .places) (kind .most) width n)
+heldText kind width (Units n) = ofWritten (writtenAs kind width n)
 
 -- 01 "The message": the text of one row: from what is left of the key, or from the row's cell
 unfoldable pub rowText : Row → List ℕ → ℕ → RowText
@@ -63,7 +63,7 @@ rowText (Price width) key cell = heldText price width (heldIn cell)
 rowText (Quantity width) key cell = heldText quantity width (heldIn cell)
 rowText (Turnover width) key cell = heldText turnover width (heldIn cell)
 
--- what a row takes of the key
+-- 01 "The message": what a row takes of the key
 abbrev pub keyUsed : Row → ℕ
 keyUsed (Text width) = width
 keyUsed MarketType = 0
@@ -72,12 +72,14 @@ keyUsed (Price width) = 0
 keyUsed (Quantity width) = 0
 keyUsed (Turnover width) = 0
 
--- what writing rows gives: the bytes of the good rows in front of the first bad one, and the verdict
+-- 01, the order of checks: what writing rows gives: the bytes of the good rows in front of the first bad one, and the
+-- verdict
 pub record Laid : Type 0 where
   pub bytes : List ℕ
   pub verdict : Verdict
 
--- a good row's text stands in front of those of the rows behind it; a bad row ends the writing at its place
+-- 01, the order of checks: a good row's text stands in front of those of the rows behind it; a bad row ends the writing at
+-- its place
 abbrev pub textThen : RowText → ℕ → Laid → Laid
 textThen (text characters) i rest = record { bytes = characters ++ rest .bytes; verdict = rest .verdict }
 textThen malformed i rest = record { bytes = []; verdict = FieldAt i }
@@ -101,21 +103,21 @@ fieldAfter (text characters) before = characters
 fieldAfter malformed before = before
 fieldAfter out-of-range before = before
 
--- the answer of the number writer
+-- 01, the table's row 12: the answer of the number writer, as a row's
 abbrev pub ofPut : Put → RowPut
 ofPut amount.Fits = Fits
 ofPut amount.OutOfRange = Range
 
--- what the writer of one row promises: its answer, and the field afterwards
+-- 01 "What may be asked": what the writer of one row promises: its answer, and the field afterwards
 pub record PutsRow (t : RowText) (before : List ℕ) (answer : RowPut) (after : List ℕ) : Type 0 where
   pub answers : answer ≡ putOf t
   pub leaves : after ≡ fieldAfter t before
 
--- bytes laid over the front of a field, as many as it has room for
+-- lent memory: bytes laid over the front of a field, as many as it has room for
 abbrev pub laid : List ℕ → List ℕ → List ℕ
 laid bytes field = take (length field) bytes ++ drop (length bytes) field
 
--- the answer of writing rows: the bytes stand in front
+-- a word of our own: the answer of writing rows: the bytes stand in front
 pub record WritesRows (rows : Laid) (answer : RowsWritten) : Type 0 where
   pub answers : answer .verdict ≡ rows .verdict
   pub in-front : take (length (rows .bytes)) (answer .bytes) ≡ rows .bytes

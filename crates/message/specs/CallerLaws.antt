@@ -1,7 +1,6 @@
 -- What a caller may rely on where a message has no fault.
 use Prim.Native.Nat.{ℕ, _≤_}
 use mathlib.Core.Path.{_≡_, refl, ap, sym, _∙_}
-use mathlib.Core.Logic.{_↔_}
 use mathlib.Core.List.{List}
 use mathlib.Core.Option.{Option, none, some}
 use native.Mathlib.Omega.{arith}
@@ -48,7 +47,7 @@ rows-pass verdict.Good w e = refl
 rows-pass (verdict.Field row) w e = absurd (unlike e)
 rows-pass (verdict.Range row) w e = absurd (unlike e)
 
--- number 0 is a heartbeat's alone
+-- a message counts in the sequence by its number field
 module _ (level : Level) where
   kind-number : (kind : Kind) (number : ℕ) (place : Option ℕ) → HasNumber kind number → HasContract kind place
       → numberIn (ofKind kind number level place) ≡ number
@@ -56,12 +55,6 @@ module _ (level : Level) where
   kind-number PassedOver number place h k = refl
   kind-number Update number none h k = absurd (never (k .1))
   kind-number Update number (some p) h k = refl
-
-  kind-heartbeat : (kind : Kind) (number : ℕ) (place : Option ℕ) → HasNumber kind number → ofKind kind number level place ≡ what.Heartbeat ↔ number ≡ 0
-  kind-heartbeat Heartbeat number place h = ((λ e. h), (λ e. refl))
-  kind-heartbeat PassedOver number place h = ((λ e. cc), (λ e. absurd (omega arith)))
-  kind-heartbeat Update number none h = ((λ e. cc), (λ e. absurd (omega arith)))
-  kind-heartbeat Update number (some p) h = ((λ e. cc), (λ e. absurd (omega arith)))
 
 -- only an update with its key listed is answered as one
 kind-update : (kind : Kind) (n : ℕ) (l : Level) (found : Option ℕ) {number : ℕ} {level : Level} {place : ℕ}
@@ -98,15 +91,10 @@ module _ (list : List ℕ) (letter : ℕ) (bytes : List ℕ) (good : verdictOf (
   unfolding contentsOf
   what-is = ap (λ m. m .what) contents-good ∙ rw rows-good
 
-  -- its number is the number field, and 0 exactly for a heartbeat
+  -- its number is the number field
   pub number-is : numberIn (messageOf list letter bytes .what) ≡ numberOf bytes
   number-is =
       ap numberIn what-is ∙ kind-number (levelOf (lengthOf bytes)) (kindIn bytes) (numberOf bytes) (keyPlace list letter (keyOf bytes)) (rules .numbering) (rules .contract)
-
-  pub heartbeat-exact : messageOf list letter bytes .what ≡ what.Heartbeat ↔ numberIn (messageOf list letter bytes .what) ≡ 0
-  heartbeat-exact =
-      rw (number-is, what-is)
-      (kind-heartbeat (levelOf (lengthOf bytes)) (kindIn bytes) (numberOf bytes) (keyPlace list letter (keyOf bytes)) (rules .numbering))
 
   pub update-told : (number : ℕ) (level : Level) (place : ℕ) → messageOf list letter bytes .what ≡ what.Update number level place
       → IsUpdate list letter bytes number level place

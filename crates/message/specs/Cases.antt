@@ -28,26 +28,27 @@ D = 0x44
 abbrev pub T : ℕ
 T = 0x54
 
--- a letter that is listed, the letter of the first message, and the bytes left
+-- 01 "Cases": a letter that is listed, the letter of the first message, and the bytes left
 pub record Given : Type 0 where
   pub listed : ℕ
   pub first : ℕ
   pub bytes : List ℕ
 
--- what is given, by its parts
+-- 01 "Cases": what is given, by its parts
 abbrev pub given : ℕ → ℕ → List ℕ → Given
 given listed first bytes = record { listed = listed; first = first; bytes = bytes }
 
--- a D message of 11 bytes: its second byte, its number, its sum and its end byte
+-- 01 "The message": a D message of 11 bytes: its second byte, its number, its sum and its end byte
 abbrev pub short : ℕ → ℕ → List ℕ → ℕ → List ℕ
 short second number sum end = D ∷ second ∷ 0 ∷ 11 ∷ 0 ∷ 0 ∷ 0 ∷ number ∷ sum ++ (end ∷ [])
 
--- an update with number 7: its length (2 bytes), a key of one byte throughout, its market type, blank rows and its sum
+-- 01 "The message": an update with number 7: its length (2 bytes), a key of one byte throughout, its market type, blank rows
+-- and its sum
 abbrev pub update : List ℕ → ℕ → ℕ → ℕ → List ℕ → List ℕ
 update long byte market blank sum =
     D ∷ 0x4E ∷ long ++ (0 ∷ 0 ∷ 0 ∷ 7 ∷ replicate keySize byte) ++ (market ∷ replicate blank 32) ++ sum ++ (13 ∷ [])
 
--- what is answered in the paper's numbers, and the length
+-- 01, the table of refusals: what is answered in the paper's numbers, and the length
 abbrev pub answered : Given → List ℕ
 answered g =
     let m = messageOf (listOf (g .listed)) (g .first) (g .bytes) in

@@ -22,7 +22,7 @@ use Rattle.message.specs.Rules.{firstFault}
 unfoldable pub framed : List ℕ → Bool
 framed bytes = leb dataAt (length bytes) && leb bareLength (lengthOf bytes) && leb (lengthOf bytes) (length bytes)
 
--- there is a place
+-- a word of our own: there is a place
 abbrev pub isSome : Option ℕ → Bool
 isSome none = false
 isSome (some place) = true
@@ -36,7 +36,7 @@ coded list letter bytes =
 unfoldable pub trailed : List ℕ → Bool
 trailed bytes = eqb (endByte bytes) 13
 
--- byte for byte the same
+-- a word of our own: byte for byte the same
 abbrev pub sameBytes : List ℕ → List ℕ → Bool
 sameBytes [] [] = true
 sameBytes [] (b ∷ bs) = false
@@ -59,7 +59,7 @@ takesNumber Heartbeat number = eqb number 0
 takesNumber Update number = leb 1 number
 takesNumber PassedOver number = leb 1 number
 
--- the rules 5 to 10, in document 01's order
+-- 01, the order of checks: the rules 5 to 10
 abbrev pub headRules : List ℕ → ℕ → List ℕ → List (Rule Fault)
 headRules list letter bytes =
     record { holds = framed bytes; refusal = Frame }

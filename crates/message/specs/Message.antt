@@ -83,7 +83,7 @@ contentsOf list letter bytes =
       cells = filled (rowsRead bytes .cells);
     }
 
--- a message of which no row was read
+-- 01, the order of checks: a message of which no row was read
 abbrev pub bare : What → ℕ → Message
 bare what length = record { what = what; length = length; cells = filled [] }
 
@@ -96,16 +96,16 @@ ofHead (head.Bad fault) length contents = bare (what.Bad fault) length
 unfoldable pub messageOf : List ℕ → ℕ → List ℕ → Message
 messageOf list letter bytes = ofHead (headOf list letter bytes) (lengthOf bytes) (contentsOf list letter bytes)
 
--- the cells of the rows that are read: none where the head is bad
+-- 01, the order of checks: the cells of the rows that are read: none where the head is bad
 abbrev pub cellsRead : Head → List ℕ → List ℕ
 cellsRead head.Good bytes = rowsRead bytes .cells
 cellsRead (head.Bad fault) bytes = []
 
--- what a message is and how long it is
+-- 01 "The message": what a message is and how long it is
 abbrev pub outlineOf : Message → Outline
 outlineOf message = record { what = message .what; length = message .length }
 
--- the answer of reading a message, and the lent cells: those of the rows that are read are stored
+-- lent memory: the answer of reading a message, and the lent cells: those of the rows that are read are stored
 pub record ReadsMessage (message : Message) (read cells : List ℕ) (answer : Outline) (cells′ : List ℕ) : Type 0 where
   pub told : answer ≡ outlineOf message
   pub stored : cells′ ≡ sets cells 0 read

@@ -35,7 +35,7 @@ whatNumbers (PassedOver number) = 0 ∷ number ∷ []
 whatNumbers (Update number level place) = 0 ∷ number ∷ levelNumber level ∷ place ∷ []
 whatNumbers (Bad fault) = faultNumbers fault
 
--- the fault of a message, if it has one
+-- 01, the table of refusals: the fault of a message, if it has one
 abbrev pub verdictOf : What → Head
 verdictOf Heartbeat = head.Good
 verdictOf (PassedOver number) = head.Good

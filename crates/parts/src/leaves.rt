@@ -47,10 +47,9 @@ fn say_field(kind: u8, units: u64, field: &mut [u8]) {
 
 // What is asked has eight bytes for the units and one for the width.
 pub fn say_text(kind: u8, asked: &[u8], room: &mut [u8]) {
-    let high = wire::u32_at(asked, 0) as u64;
-    let low = wire::u32_at(asked, 4) as u64;
+    let units = wire::u64_at(asked, 0);
     let width = wire::u8_at(asked, 8) as usize;
     if width <= room.len() {
-        say_field(kind, high * 4_294_967_296 + low, &mut room[..width]);
+        say_field(kind, units, &mut room[..width]);
     }
 }

@@ -50,8 +50,7 @@ fn cells_in(asked: &[u8]) -> [u64; 37] {
     let mut cells = [0u64; 37];
     let mut i = 0;
     while i < 37 {
-        let high = wire::u32_at(asked, 40 + 8 * i) as u64;
-        cells[i] = high * 4_294_967_296 + wire::u32_at(asked, 44 + 8 * i) as u64;
+        cells[i] = wire::u64_at(asked, 40 + 8 * i);
         i += 1;
     }
     cells

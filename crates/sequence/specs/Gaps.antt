@@ -41,7 +41,7 @@ full g k = ltb most (length (runsAfter g k))
 unfoldable pub took : Gaps → ℕ → Gaps
 took g k = cond (takes g k) (cond (full g k) g (after g k)) g
 
--- the same start and highest with other runs
+-- a word of our own: the same start and highest with other runs
 abbrev pub withRuns : Gaps → List Run → Gaps
 withRuns g rs = record { start = g .start; highest = g .highest; runs = rs }
 

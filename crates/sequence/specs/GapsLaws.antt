@@ -4,13 +4,13 @@ use Prim.Native.Nat.{ℕ, suc, _+_, _-_, _^_, _≤_, _<_, max}
 use mathlib.Core.Path.{_≡_, refl, sym, ap, _∙_, fun-ext}
 use mathlib.Core.Bool.{Bool, true, false, not, cond, _&&_, _||_, true≢false}
 use mathlib.Core.List.{List, [], _∷_}
-use mathlib.Core.Logic.{_↔_, _⊎_, inl, inr, ⊎-elim}
+use mathlib.Core.Logic.{_↔_, ⊎-elim}
 use native.Mathlib.Nat.{le-refl}
 use native.Mathlib.Omega.{arith}
 use borrow.Author.Tests.{lt-ltb, le-ltb, ltb-false, eq-eqb, ne-eqb}
 use lib.Dec.{ltb, eqb}
 use lib.ListN.{length, getD}
-use Rattle.laws.specs.Tests.{and-false, or-false, or-true, same-test}
+use Rattle.laws.specs.Tests.{and-false, or-false, same-test}
 use Rattle.laws.specs.Choice.{either}
 use Rattle.laws.specs.Order.{order, same}
 use Rattle.sequence.specs.Runs.{Run, _to_, names, missing, runsIn, span, join}
@@ -165,12 +165,6 @@ module _ (g : Gaps) (s : Sound g) (a b : ℕ) (e : writeOffAnswer g ≡ writtenO
       ∙ ap (λ (rs : List Run). not (names (a to b) k) && missing rs k) (sym has-lowest)
 
 -- ---- when each answer is given
-
-pub takes-exactly : (g : Gaps) (k : ℕ) → (takes g k ≡ true) ↔ ((g .highest < k) ⊎ (missing (g .runs) k ≡ true))
-takes-exactly g k = (
-  (λ t. ⊎-elim (λ (o : k ≤ g .highest). inr (simp (le-ltb (g .highest) k o) at t)) (λ (o : g .highest < k). inl o) (order k (g .highest))),
-  ⊎-elim (λ (o : g .highest < k). simp (lt-ltb (g .highest) k o)) (λ (m : missing (g .runs) k ≡ true). simp (m, or-true)),
-)
 
 module _ (g : Gaps) (k : ℕ) where
   pub took-taken : takes g k ≡ true → full g k ≡ false → (takeAnswer g k ≡ oneTaken) × (took g k ≡ after g k)

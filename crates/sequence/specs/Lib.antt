@@ -9,7 +9,6 @@ pub mod GapsLaws
 pub mod Row
 pub mod RowLaws
 pub mod Answers
-pub mod AnswersLaws
 pub mod Steps
 pub mod Promises
 pub mod PromisesLaws

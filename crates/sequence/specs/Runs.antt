@@ -11,11 +11,11 @@ pub record Run : Type 0 where
   pub first : ℕ
   pub last : ℕ
 
--- a run by its first and its last number
+-- 01 "Sequence and gaps": a run by its first and its last number
 abbrev pub _to_ : ℕ → ℕ → Run
 a to b = record { first = a; last = b }
 
--- a run of a list by its place
+-- a word of our own: a run of a list by its place
 abbrev pub run : List Run → ℕ → Run
 run rs i = getD rs i (0 to 0)
 
@@ -34,11 +34,11 @@ abbrev pub runsIn : (ℕ → Bool) → ℕ → ℕ
 runsIn held zero = 0
 runsIn held (suc n) = cond (held n && not (held (suc n))) 1 0 + runsIn held n
 
--- the numbers from a on that stand below c, as runs: one, or none
+-- 01 "Sequence and gaps": the numbers from a on that stand below c, as runs: one, or none
 abbrev pub span : ℕ → ℕ → List Run
 span a c = cond (ltb a c) (a to (c - 1) ∷ []) []
 
--- a run before others, joined to the next where the two touch
+-- 01 "Sequence and gaps": a run before others, joined to the next where the two touch
 abbrev pub meet : Run → List Run → List Run
 meet r [] = r ∷ []
 meet r (s ∷ rs) = cond (eqb (r .last + 1) (s .first)) (r .first to s .last ∷ rs) (r ∷ s ∷ rs)
@@ -48,7 +48,7 @@ abbrev pub join : List Run → List Run → List Run
 join [] later = later
 join (r ∷ rs) later = meet r (join rs later)
 
--- what of a run stands below a number, and what above
+-- 01 "Sequence and gaps": what of a run stands below a number that is missing no more, and what above
 abbrev pub parted : Run → ℕ → List Run
 parted r k = span (r .first) k ++ span (k + 1) (r .last + 1)
 

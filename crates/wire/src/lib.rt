@@ -10,3 +10,4 @@ pub use number::put_u32;
 pub use number::u8_at;
 pub use number::u16_at;
 pub use number::u32_at;
+pub use number::u64_at;

@@ -31,6 +31,16 @@ pub fn u32_at(s: &[u8], at: usize) -> u32
     }
 }
 
+pub fn u64_at(s: &[u8], at: usize) -> u64
+    ensures { λ r. ⌜ r ≡ numberAt 8 (now (s .entry)) at ⌝ }
+{
+    if at < s.len() {
+        (u32_at(s, at) as u64) * 4294967296 + (u32_at(s, at + 4) as u64)
+    } else {
+        0
+    }
+}
+
 pub fn put_u8(s: &mut [u8], at: usize, number: u8)
     ensures { λ _. ⌜ now (s .exit) ≡ sets (now (s .entry)) at (bytesOf 1 number) ⌝ }
 {

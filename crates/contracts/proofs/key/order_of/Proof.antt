@@ -47,22 +47,22 @@ word c =
     (λ j. c .before .before .shared-slice-known2 .given j .fits)
     8 (c .before .loop .i) (goes-on c .0) (goes-on c .1)
 
-word-at-requires : tie.Need-word-at-requires Inv-loop μ-loop
-word-at-requires c κs = goes-on c .0
+u64-at-requires : tie.Need-u64-at-requires Inv-loop μ-loop
+u64-at-requires c κs = tt
 
-word-at-requires-2 : tie.Need-word-at-requires-2 Inv-loop μ-loop
-word-at-requires-2 c κs = goes-on (c .before) .1
+u64-at-requires-2 : tie.Need-u64-at-requires-2 Inv-loop μ-loop
+u64-at-requires-2 c κs = tt
 
 returns : tie.Need-returns Inv-loop μ-loop
 returns c =
     let turn = c .before .before .before in
     let less = c .if1 .taken in
-    sym (turn .before .loop .inv .1 ∙ word turn .below (omega (arith, c .before .word-at2 .ensures, c .before .before .word-at .ensures)))
+    sym (turn .before .loop .inv .1 ∙ word turn .below (omega (arith, c .before .u64-at2 .ensures, c .before .before .u64-at .ensures)))
 
 returns-2 : tie.Need-returns-2 Inv-loop μ-loop
 returns-2 c =
     let turn = c .before .before .before .before in
-    sym (turn .before .loop .inv .1 ∙ word turn .above (omega (arith, c .before .before .word-at2 .ensures, c .before .before .before .word-at .ensures)))
+    sym (turn .before .loop .inv .1 ∙ word turn .above (omega (arith, c .before .before .u64-at2 .ensures, c .before .before .before .u64-at .ensures)))
 
 add-i : tie.Need-add-i Inv-loop μ-loop
 add-i c = omega (arith, goes-on (c .before .before .before .before))
@@ -73,7 +73,7 @@ loop-less c = omega (arith, goes-on (c .before .before .before .before))
 loop-again : tie.Need-loop-again Inv-loop μ-loop
 loop-again c =
     let turn = c .before .before .before .before in
-    (goes-on turn .0, turn .before .loop .inv .1 ∙ word turn .same (omega (arith, c .before .before .word-at2 .ensures, c .before .before .before .word-at .ensures)))
+    (goes-on turn .0, turn .before .loop .inv .1 ∙ word turn .same (omega (arith, c .before .before .u64-at2 .ensures, c .before .before .before .u64-at .ensures)))
 
 order-from-requires : tie.Need-order-from-requires Inv-loop μ-loop
 order-from-requires c κs = omega arith
@@ -90,8 +90,8 @@ order-of-spec =
     loop-holds
     add-loop
     add-loop-2
-    word-at-requires
-    word-at-requires-2
+    u64-at-requires
+    u64-at-requires-2
     returns
     returns-2
     add-i

@@ -15,38 +15,17 @@ abbrev μ-loop : tie.MeasureT-loop
 loop-holds : tie.Need-loop-holds Inv-loop μ-loop
 loop-holds c = (omega arith, refl)
 
-mul-u32-at : tie.Need-mul-u32-at Inv-loop μ-loop
-mul-u32-at c = omega arith
+mul-u64-at : tie.Need-mul-u64-at Inv-loop μ-loop
+mul-u64-at c = omega arith
 
-add-u32-at : tie.Need-add-u32-at Inv-loop μ-loop
-add-u32-at c = omega arith
+add-u64-at : tie.Need-add-u64-at Inv-loop μ-loop
+add-u64-at c = omega arith
 
-u32-at-requires : tie.Need-u32-at-requires Inv-loop μ-loop
-u32-at-requires c κs = tt
-
-cast-high : tie.Need-cast-high Inv-loop μ-loop
-cast-high c = omega arith
+u64-at-requires : tie.Need-u64-at-requires Inv-loop μ-loop
+u64-at-requires c κs = tt
 
 mul-cells : tie.Need-mul-cells Inv-loop μ-loop
 mul-cells c = omega arith
-
-mul-u32-at-2 : tie.Need-mul-u32-at-2 Inv-loop μ-loop
-mul-u32-at-2 c = omega arith
-
-add-u32-at-2 : tie.Need-add-u32-at-2 Inv-loop μ-loop
-add-u32-at-2 c = omega arith
-
-u32-at-requires-2 : tie.Need-u32-at-requires-2 Inv-loop μ-loop
-u32-at-requires-2 c κs = tt
-
-cast-cells : tie.Need-cast-cells Inv-loop μ-loop
-cast-cells c = omega arith
-
-add-cells : tie.Need-add-cells Inv-loop μ-loop
-add-cells c = omega arith
-
-mul-cells-2 : tie.Need-mul-cells-2 Inv-loop μ-loop
-mul-cells-2 c = omega arith
 
 array-write-cells : tie.Need-array-write-cells Inv-loop μ-loop
 array-write-cells c = omega arith
@@ -58,7 +37,7 @@ loop-less : tie.Need-loop-less Inv-loop μ-loop
 loop-less c = omega arith
 
 loop-again : tie.Need-loop-again Inv-loop μ-loop
-loop-again c = (omega arith, simp length-set (c .before .before .before .loop .inv .1))
+loop-again c = (omega arith, simp length-set (c .before .before .loop .inv .1))
 
 returns : tie.Need-returns Inv-loop μ-loop
 returns c = tt
@@ -70,17 +49,10 @@ cells-in-spec =
     Inv-loop
     μ-loop
     loop-holds
-    mul-u32-at
-    add-u32-at
-    u32-at-requires
-    cast-high
+    mul-u64-at
+    add-u64-at
+    u64-at-requires
     mul-cells
-    mul-u32-at-2
-    add-u32-at-2
-    u32-at-requires-2
-    cast-cells
-    add-cells
-    mul-cells-2
     array-write-cells
     add-i
     loop-less

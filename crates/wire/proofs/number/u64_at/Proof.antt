@@ -1,11 +1,10 @@
--- `contracts::key::word_at` meets its contract: four bytes, and four behind them.
-use mathlib.Core.Path.{sym, ap₂, _∙_}
-use Prim.Native.Nat.{ℕ, _+_, _*_}
-use borrow.Author.Needs.{needs}
+-- Two numbers of four bytes, one behind the other.
+use mathlib.Core.Path.{sym}
 use denote.Ref.{now}
-use Rattle.wire.specs.NumberLaws.{joined}
-use Rattle.contracts.proofs.key.word_at.Statement.{statement}
-use Rattle.contracts.proofs.key.word_at.Tie as tie
+use Rattle.wire.specs.NumberLaws.{past-zero, joined}
+use borrow.Author.Needs.{needs}
+use Rattle.wire.proofs.number.u64_at.Statement.{statement}
+use Rattle.wire.proofs.number.u64_at.Tie as tie
 
 u32-at-requires : tie.Need-u32-at-requires
 u32-at-requires c κs = search needs
@@ -30,11 +29,14 @@ add-result c = search needs
 
 returns : tie.Need-returns
 returns c =
-    let a = c .before .before .before .args in
-    ap₂ (λ (m n : ℕ). m * 4294967296 + n) (c .before .u32-at .ensures) (c .u32-at2 .ensures) ∙ sym (joined 4 4 (now (a .s)) (a .at))
+    let a = c .before .before .before .before .args in
+    rw (joined 4 4 (now (a .s)) (a .at), ← c .before .u32-at .ensures, ← c .u32-at2 .ensures)
 
-pub word-at-spec : {M : Type 1} → statement M
-word-at-spec =
+returns-2 : tie.Need-returns-2
+returns-2 c = sym (past-zero 8 (now (c .before .before .args .s)) _ (c .if1 .left))
+
+pub u64-at-spec : {M : Type 1} → statement M
+u64-at-spec =
     tie.close
     (tie.spec
     u32-at-requires
@@ -44,4 +46,5 @@ word-at-spec =
     u32-at-requires-2
     cast-result-2
     add-result
-    returns)
+    returns
+    returns-2)

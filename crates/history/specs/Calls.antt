@@ -15,6 +15,7 @@ use Rattle.quotebox.specs.Record.{recordRules, recordOfKey, recordNumber, recor
 use Rattle.quotebox.specs.Start.{rowsStarted, recordsCleared}
 use Rattle.quotebox.specs.TookLaws.{answerOf}
 use Rattle.history.specs.Past.{Event, afterTake, afterWriteOff}
+use Rattle.history.specs.Histories.{Reached}
 
 -- 01 "What may be asked": a batch taken, a write-off of a letter, a listing of a letter's gaps with cells lent, a reading of the
 -- record of a letter's key at a level
@@ -79,3 +80,7 @@ answers list before (listGaps letter cells) =
 answers list before (readRecord letter key level) =
     answered (firstBroken (recordRules list (before .rows) (before .records) letter key))
     (recordValues (recordNumber (before .records) (recordOfKey list letter key level)))
+
+-- demand 3, "After any sequence of calls from a fresh start": a history leaves these gap rows and records and this past
+abbrev pub ReachedBy : List ℕ → List ℕ → Left → Type 0
+ReachedBy list starts left = Reached list starts (left .rows) (left .records) (left .past)

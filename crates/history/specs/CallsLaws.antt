@@ -20,12 +20,8 @@ use Rattle.quotebox.specs.CallsLaws.{start-done}
 use Rattle.quotebox.specs.Promises.{TookBatch}
 use Rattle.quotebox.specs.Start.{startRules}
 use Rattle.quotebox.specs.TookLaws.{answerOf, answer-numbers}
-use Rattle.history.specs.Calls.{Call, Left, take, writeOff, listGaps, readRecord, startLeaves, offBroken, offAnswer, leaves, allLeave, answers}
-use Rattle.history.specs.Histories.{Reached}
+use Rattle.history.specs.Calls.{Call, Left, take, writeOff, listGaps, readRecord, startLeaves, offBroken, offAnswer, leaves, allLeave, answers, ReachedBy}
 use Rattle.history.specs.Histories as histories
-
-abbrev pub ReachedBy : List ℕ → List ℕ → Left → Type 0
-ReachedBy list starts left = Reached list starts (left .rows) (left .records) (left .past)
 
 off-numbers : (o : Option Refusal) (r : Run) → writtenOffNumbers (offAnswer o r) ≡ answered o (runValues r)
 off-numbers (some refusal) r = refl

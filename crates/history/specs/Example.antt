@@ -21,8 +21,8 @@ use Rattle.quotebox.specs.declared.answers.Listed.{Listed}
 use Rattle.quotebox.specs.CallPromises.{ListedRuns}
 use Rattle.quotebox.specs.Start.{eachStarts, startRules, rowsStarted, recordsCleared}
 use Rattle.history.specs.Past.{highestIn, missingIn, runsStanding}
-use Rattle.history.specs.Calls.{Call, Left, take, startLeaves, allLeave}
-use Rattle.history.specs.CallsLaws.{ReachedBy, start-reached, calls-reached}
+use Rattle.history.specs.Calls.{Call, Left, take, startLeaves, allLeave, ReachedBy}
+use Rattle.history.specs.CallsLaws.{start-reached, calls-reached}
 use Rattle.history.specs.PaperCases.{those}
 use Rattle.history.specs.DemandsLaws.{after-calls}
 

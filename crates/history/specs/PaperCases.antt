@@ -37,8 +37,8 @@ use Rattle.quotebox.specs.State.{segmentRules}
 use Rattle.quotebox.specs.Writer.{dataWritten, lengthWritten, writeRules, messageBytes}
 use Rattle.history.specs.Past.{Event, isTaken, highestIn, missingIn, runsStanding}
 use Rattle.history.specs.Exactly.{cameNext}
-use Rattle.history.specs.Calls.{Call, Left, take, writeOff, listGaps, readRecord, startLeaves, allLeave, answers}
-use Rattle.history.specs.CallsLaws.{ReachedBy, start-reached, calls-reached}
+use Rattle.history.specs.Calls.{Call, Left, take, writeOff, listGaps, readRecord, startLeaves, allLeave, answers, ReachedBy}
+use Rattle.history.specs.CallsLaws.{start-reached, calls-reached}
 use Rattle.history.specs.ReadBack.{plainBatch}
 use Rattle.history.specs.WrittenCases as writer
 

@@ -16,7 +16,7 @@ use Rattle.laws.specs.Tests.{any, both, all-three, or-true}
 use Rattle.layout.specs.declared.rows.Level.{Level}
 use Rattle.message.specs.Message.{Message}
 use Rattle.history.specs.Past.{Event, came, off, isNumbered, numberOf, held, isNew, comesNew, wroteOffIn, takenOf, highestOf}
-use Rattle.history.specs.NewestLaws.{Found}
+use Rattle.history.specs.Exactly.{Found}
 
 -- ---- numbers of messages
 

@@ -46,7 +46,7 @@ batch n = 0x01 ∷ 0x00 ∷ 0x0B ∷ 0x00 ∷ 0x01 ∷ 0x54 ∷ 0x45 ∷ 0x00 �
 abbrev calls : List Call
 calls = take (batch 1) ∷ take (batch 4) ∷ []
 
--- what the start and the two batches leave
+-- 01 "Cases", its last: what the start and the two batches leave
 abbrev left : Left
 left = allLeave oneT (startLeaves oneT starts lentRows lentRecords) calls
 

@@ -86,26 +86,26 @@ p5 = 0x01 ∷ 0x00 ∷ 0x0B ∷ 0x00 ∷ 0x01 ∷ 0x44 ∷ 0x48 ∷ 0x00 ∷ 0x0
 abbrev p6 : List ℕ
 p6 = 0x01 ∷ 0x00 ∷ 0x01 ∷ 0x00 ∷ 0x0B ∷ 0x44 ∷ 0x48 ∷ 0x00 ∷ 0x0B ∷ 0x00 ∷ 0x00 ∷ 0x00 ∷ 0x00 ∷ 0x00 ∷ 0x00 ∷ 0x0D ∷ []
 
--- messages of T that are passed over, with these numbers, each below 256
+-- 01 "The message": messages of T that are passed over, with these numbers, each below 256
 abbrev messages : List ℕ → List ℕ
 messages [] = []
 messages (n ∷ ns) = 84 ∷ 69 ∷ 0 ∷ 11 ∷ 0 ∷ 0 ∷ 0 ∷ n ∷ 0 ∷ 0 ∷ 13 ∷ messages ns
 
--- a batch of them
+-- 01 "The batch": a batch of them, taken
 abbrev numbers : List ℕ → Call
 numbers ns = take (plainBatch (length ns) (messages ns))
 
--- so many numbers, each two above the one before
+-- P13: so many numbers, each two above the one before
 abbrev twoApart : ℕ → ℕ → List ℕ
 twoApart n zero = []
 twoApart n (suc more) = n ∷ twoApart (n + 2) more
 
--- runs of one number each, as first and last
+-- P12 and P13: runs of one number each, as first and last
 abbrev alone : List ℕ → List ℕ
 alone [] = []
 alone (n ∷ ns) = n ∷ n ∷ alone ns
 
--- the gaps of T, with so many cells lent
+-- 01 "What may be asked": list gaps, of T, with so many cells lent
 abbrev gapsIn : ℕ → Call
 gapsIn cells = listGaps T (replicate cells 0)
 
@@ -135,7 +135,7 @@ p13-127 = p13-130 ++ (numbers (129 ∷ []) ∷ numbers (127 ∷ []) ∷ [])
 
 -- ---- what is asked, and the answer
 
--- the numbers below a bound that pass a test, ascending
+-- a word of our own: the numbers below a bound that pass a test, ascending
 abbrev pub those : (ℕ → Bool) → ℕ → List ℕ
 those test zero = []
 those test (suc n) = those test n ++ cond (test n) (n ∷ []) []
@@ -159,11 +159,11 @@ pub data Asked : Type 0 where
   -- the writer, of a message
   write : writer.Asked → Asked
 
--- the past of these calls, made after the start
+-- demand 3: the past of these calls, made after the start
 abbrev pastOf : List Call → List Event
 pastOf cs = allLeave list started cs .past
 
--- the answer, by the definitions that the promises cite and by the past of the calls
+-- 01 "Cases": the answer, by the definitions that the promises cite and by the past of the calls
 abbrev answerTo : Asked → List ℕ
 answerTo (sum bytes) = sumOf bytes ∷ []
 answerTo (sent bytes) = checksumOf bytes
@@ -217,11 +217,11 @@ cases =
     ∷ record { asked = write (writer.asked 84 78 Two 1 writer.key 999_999_999_999_999_999 505); says = 12 ∷ 0 ∷ 26 ∷ 0 ∷ [] }  -- P14: at its row
     ∷ []
 
--- what the definitions say of each case
+-- 01 "Cases": what the definitions say of each
 unfoldable pub answered : List Case → List (List ℕ)
 answered = map (λ (c : Case). answerTo (c .asked))
 
--- what the paper says of each case
+-- 01 "Cases": what the paper says of each
 unfoldable pub sayings : List Case → List (List ℕ)
 sayings = map (λ (c : Case). c .says)
 
@@ -231,7 +231,7 @@ P1-to-P14 = refl
 
 -- ---- the table of refusals, where P1 to P14 are silent
 
--- a message of these parts, with no data: code, length, number below 256, first byte of the sum, end byte
+-- 01 "The message": one of these parts, with no data: code, length, number below 256, first byte of the sum, end byte
 abbrev bare : ℕ → ℕ → ℕ → ℕ → ℕ → ℕ → List ℕ
 bare letter second long number low end = letter ∷ second ∷ 0 ∷ long ∷ 0 ∷ 0 ∷ 0 ∷ number ∷ low ∷ 0 ∷ end ∷ []
 
@@ -239,16 +239,16 @@ bare letter second long number low end = letter ∷ second ∷ 0 ∷ long ∷ 0 
 abbrev heartbeat : List ℕ
 heartbeat = bare 68 72 11 0 0 13
 
--- a level 1 update of D with its right sum, by the byte that its key is throughout, its market type and its first price; every
--- other row is blank
+-- 01 "The message": a level 1 update of D with its right sum, by the byte that its key is throughout, its market type and its
+-- first price; every other row is blank
 abbrev update : ℕ → ℕ → String → List ℕ
 update byte market price = messageBytes (record { 0 = 68; 1 = 78 }) 7 (keyOfBytes byte ++ (market ∷ codes price ++ replicate 181 32))
 
--- no price
+-- 01 "Numbers in text": no price: all spaces
 abbrev blank : String
 blank = "                 "
 
--- a batch of so many messages that are these bytes
+-- 01 "The batch": a plain batch of so many messages that are these bytes, taken
 abbrev batch : ℕ → List ℕ → Asked
 batch count bytes = call [] (take (plainBatch count bytes))
 

@@ -33,7 +33,7 @@ pub record Asked : Type 0 where
   quote : Quote
   room : ℕ
 
--- the writer asked by code, level, number, key, last traded price and room
+-- 01 "What may be asked": the writer asked by code, level, number, key, last traded price and room
 abbrev pub asked : ℕ → ℕ → Level → ℕ → List ℕ → ℕ → ℕ → Asked
 asked first second level number key last room =
     record { code = record { 0 = first; 1 = second }; level = level; number = number; key = key; quote = quoteAt last; room = room }

@@ -4,16 +4,11 @@ use Prim.Native.Nat.{ℕ, zero, suc, _+_, _*_, _^_, _≤_, _<_, min}
 use mathlib.Core.Path.{_≡_, refl, ap, ap₂, _∙_}
 use mathlib.Core.List.{List}
 use native.Mathlib.Omega.{arith}
-use lib.ListN.{length, getD}
 use Rattle.wire.specs.Number.{numberAt}
 use Rattle.contracts.specs.Below.{sumBelow}
 use Rattle.contracts.specs.BelowLaws.{all-same, sum-same}
 use Rattle.contracts.specs.File.{segmentsOf, entryAt, letterAt, zeroAt, countAt, offsetAt, contractsBefore}
-use Rattle.contracts.specs.Sound.{letterAscends, entrySound, headerSound}
-
-pub record SameContents (list other : List ℕ) : Type 0 where
-  pub size : length list ≡ length other
-  pub contents : (j : ℕ) → j < entryAt (segmentsOf list) → getD list j 0 ≡ getD other j 0
+use Rattle.contracts.specs.Sound.{SameContents, letterAscends, entrySound, headerSound}
 
 module _ (list other : List ℕ) (same : SameContents list other) where
   number-same : (width at : ℕ) → at + width ≤ entryAt (segmentsOf list) → numberAt width list at ≡ numberAt width other at

@@ -51,6 +51,12 @@ pub record Header (list : List ℕ) : Type 0 where
   pub next-body : (i : ℕ) → i + 1 < segmentsOf list → offsetAt list (i + 1) ≡ offsetAt list i + keySize * countAt list i
   pub file-ends : (i : ℕ) → i + 1 ≡ segmentsOf list → length list ≡ offsetAt list i + keySize * countAt list i
 
+-- 01, the table's row 16: "after start only its header, counts, offsets and size are looked at": two lists that are the same in
+-- these: of one size, and with the same bytes before the bodies
+pub record SameContents (list other : List ℕ) : Type 0 where
+  pub size : length list ≡ length other
+  pub contents : (j : ℕ) → j < entryAt (segmentsOf list) → getD list j 0 ≡ getD other j 0
+
 -- 01, the table's row 16: the full check of start: the keys' bytes, and their order within a segment
 pub record Sound (list : List ℕ) : Type 0 where
   pub header : Header list

@@ -42,8 +42,7 @@ use Rattle.history.specs.Segment.{Fits}
 use Rattle.history.specs.Histories.{Reached}
 use Rattle.history.specs.HoldsLaws.{reached-holds}
 use Rattle.history.specs.ListingLaws.{fits-here, segment-good}
-use Rattle.history.specs.Exactly.{ReadsNewest, no-record, a-record, SameTaken}
-use Rattle.history.specs.NewestLaws.{Found}
+use Rattle.history.specs.Exactly.{Found, ReadsNewest, no-record, a-record, SameTaken}
 use Rattle.history.specs.RecordLaws.{reads-key}
 use Rattle.history.specs.TakenLaws.{taken-apart, same-held, same-highest, same-newest}
 

@@ -5,20 +5,25 @@ use mathlib.Core.List.{List, [], _∷_, _++_}
 use mathlib.Core.Option.{Option, none, some}
 use lib.ListN.{length}
 use Rattle.laws.specs.Rules.{firstBroken}
+use Rattle.layout.specs.declared.rows.Level.{Level}
 use Rattle.sequence.specs.Runs.{Run}
 use Rattle.quotebox.specs.declared.refusal.Refusal.{Refusal}
 use Rattle.quotebox.specs.declared.answers.WrittenOff.{WrittenOff}
 use Rattle.quotebox.specs.Batch.{Acted, batchActs, batchLetter, actedNumbers, rowsAfter, recordsAfter}
 use Rattle.quotebox.specs.Calls.{answered, leftBy, gapsOfLetter, listRules, listValues, runsPut, writeOffRules, runValues, lowestRun, rowsWrittenOff}
+use Rattle.quotebox.specs.Record.{recordRules, recordOfKey, recordNumber, recordValues}
 use Rattle.quotebox.specs.Start.{rowsStarted, recordsCleared}
 use Rattle.quotebox.specs.TookLaws.{answerOf}
 use Rattle.history.specs.Past.{Event, afterTake, afterWriteOff}
+use Rattle.history.specs.Histories.{Reached}
 
--- 01 "What may be asked": a batch taken, a write-off of a letter, a listing of a letter's gaps with cells lent
+-- 01 "What may be asked": a batch taken, a write-off of a letter, a listing of a letter's gaps with cells lent, a reading of the
+-- record of a letter's key at a level
 pub data Call : Type 0 where
   take : List ℕ → Call
   writeOff : ℕ → Call
   listGaps : ℕ → List ℕ → Call
+  readRecord : ℕ → List ℕ → Level → Call
 
 -- 01 "What may be asked": the gap rows and records that calls leave, and their past
 pub record Left : Type 0 where
@@ -58,6 +63,7 @@ leaves list before (writeOff letter) =
       past = afterWriteOff letter (offAnswer (offBroken list before letter) (lowestRun (gapsOfLetter list (before .rows) letter))) (before .past);
     }
 leaves list before (listGaps letter cells) = before
+leaves list before (readRecord letter key level) = before
 
 -- 01 "What may be asked": what calls made in turn leave
 abbrev pub allLeave : List ℕ → Left → List Call → Left
@@ -71,3 +77,10 @@ answers list before (writeOff letter) = answered (offBroken list before letter) 
 answers list before (listGaps letter cells) =
     answered (firstBroken (listRules list (before .rows) (before .records) letter (length cells))) (listValues (gapsOfLetter list (before .rows) letter))
     ++ leftBy (firstBroken (listRules list (before .rows) (before .records) letter (length cells))) cells (runsPut (gapsOfLetter list (before .rows) letter) cells)
+answers list before (readRecord letter key level) =
+    answered (firstBroken (recordRules list (before .rows) (before .records) letter key))
+    (recordValues (recordNumber (before .records) (recordOfKey list letter key level)))
+
+-- demand 3, "After any sequence of calls from a fresh start": a history leaves these gap rows and records and this past
+abbrev pub ReachedBy : List ℕ → List ℕ → Left → Type 0
+ReachedBy list starts left = Reached list starts (left .rows) (left .records) (left .past)

@@ -5,25 +5,23 @@ use mathlib.Core.List.{List, [], _∷_, _++_}
 use mathlib.Core.Option.{Option, none, some}
 use lib.ListN.{length}
 use Rattle.laws.specs.Rules.{firstBroken}
+use Rattle.layout.specs.declared.rows.Level.{Level}
 use Rattle.sequence.specs.Runs.{Run}
 use Rattle.quotebox.specs.declared.refusal.Refusal.{Refusal}
 use Rattle.quotebox.specs.declared.answers.Judged.{Judged}
 use Rattle.quotebox.specs.declared.answers.Listed.{Listed}
 use Rattle.quotebox.specs.declared.answers.WrittenOff.{WrittenOff}
-use Rattle.quotebox.specs.Answers.{judgedNumbers, listedNumbers, writtenOffNumbers}
+use Rattle.quotebox.specs.declared.answers.Reading.{Reading}
+use Rattle.quotebox.specs.Answers.{judgedNumbers, listedNumbers, writtenOffNumbers, readingNumbers}
 use Rattle.quotebox.specs.Batch.{batchActs}
 use Rattle.quotebox.specs.Calls.{answered, gapsOfLetter, runValues, lowestRun}
-use Rattle.quotebox.specs.CallPromises.{ListedRuns, WroteOffRun}
+use Rattle.quotebox.specs.CallPromises.{ListedRuns, WroteOffRun, ReadRecord}
 use Rattle.quotebox.specs.CallsLaws.{start-done}
 use Rattle.quotebox.specs.Promises.{TookBatch}
 use Rattle.quotebox.specs.Start.{startRules}
 use Rattle.quotebox.specs.TookLaws.{answerOf, answer-numbers}
-use Rattle.history.specs.Calls.{Call, Left, take, writeOff, listGaps, startLeaves, offBroken, offAnswer, leaves, allLeave, answers}
-use Rattle.history.specs.Histories.{Reached}
+use Rattle.history.specs.Calls.{Call, Left, take, writeOff, listGaps, readRecord, startLeaves, offBroken, offAnswer, leaves, allLeave, answers, ReachedBy}
 use Rattle.history.specs.Histories as histories
-
-abbrev pub ReachedBy : List ℕ → List ℕ → Left → Type 0
-ReachedBy list starts left = Reached list starts (left .rows) (left .records) (left .past)
 
 off-numbers : (o : Option Refusal) (r : Run) → writtenOffNumbers (offAnswer o r) ≡ answered o (runValues r)
 off-numbers (some refusal) r = refl
@@ -38,6 +36,7 @@ module _ (list starts : List ℕ) where
       histories.writeOff r letter (offAnswer (offBroken list before letter) (lowestRun (gapsOfLetter list (before .rows) letter)))
       (record { answers = off-numbers (offBroken list before letter) (lowestRun (gapsOfLetter list (before .rows) letter)); rows-left = refl })
   call-reached before r (listGaps letter cells) = r
+  call-reached before r (readRecord letter key level) = r
 
   pub calls-reached : (before : Left) → ReachedBy list starts before → (cs : List Call) → ReachedBy list starts (allLeave list before cs)
   calls-reached before r [] = r
@@ -59,3 +58,7 @@ module _ (list : List ℕ) (before : Left) where
   pub list-answers : (letter : ℕ) (cells : List ℕ) (answer : Listed) (cells′ : List ℕ)
       → ListedRuns list (before .rows) (before .records) letter cells answer cells′ → listedNumbers answer ++ cells′ ≡ answers list before (listGaps letter cells)
   list-answers letter cells answer cells′ p = ap₂ _++_ (p .answers) (p .cells-left)
+
+  pub read-answers : (letter : ℕ) (key : List ℕ) (level : Level) (reading : Reading)
+      → ReadRecord list (before .rows) (before .records) letter key level reading → readingNumbers reading ≡ answers list before (readRecord letter key level)
+  read-answers letter key level reading p = p .answers

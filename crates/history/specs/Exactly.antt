@@ -4,19 +4,22 @@ use mathlib.Core.Path.{_≡_}
 use mathlib.Core.Bool.{true, false}
 use mathlib.Core.List.{List, _∷_, List·Memᴰ}
 use mathlib.Core.Logic.{_⊎_, _↔_}
-use mathlib.Core.Option.{some}
+use mathlib.Core.Option.{Option, none, some}
 use lib.ListN.{length, take, drop}
-use Rattle.contracts.specs.File.{segmentsOf, letterAt}
+use Rattle.contracts.specs.File.{segmentsOf, letterAt, keyOf}
 use Rattle.contracts.specs.Lookup.{segmentOf}
 use Rattle.sequence.specs.Apart.{Apart}
 use Rattle.sequence.specs.Runs.{Run, run, names, missing}
 use Rattle.sequence.specs.Gaps.{most}
 use Rattle.sequence.specs.Row.{pairs}
 use Rattle.layout.specs.declared.rows.Level.{Level}
+use Rattle.layout.specs.Cells.{filled}
 use Rattle.layout.specs.Quote.{quoteOf}
-use Rattle.message.specs.Fields.{lengthOf}
+use Rattle.layout.specs.Read.{readRows}
+use Rattle.layout.specs.Rows.{rowsOf, messageLength}
+use Rattle.message.specs.Fields.{lengthOf, numberOf as bytesNumber, dataOf as dataIn}
 use Rattle.message.specs.Good.{GoodMessage}
-use Rattle.message.specs.Message.{Message, messageOf}
+use Rattle.message.specs.Message.{Message, messageOf, keyOf as bytesKey}
 use Rattle.quotebox.specs.declared.answers.Reading.{Reading}
 use Rattle.quotebox.specs.declared.answers.Recorded.{Recorded}
 use Rattle.quotebox.specs.Batch.{batchLetter, countOf, dataOf}
@@ -49,11 +52,24 @@ pub record IsNewest (place : ℕ) (level : Level) (taken : List Message) (m : Me
 abbrev pub NoUpdate : ℕ → Level → List Message → Type 0
 NoUpdate place level taken = (m : Message) → List·Memᴰ m taken → isOf place level (m .what) ≡ false
 
+-- demand 3: what the highest-numbered update of a contract and level among the messages taken is, or that there is none
+abbrev pub Found : ℕ → Level → List Message → Option Message → Type 0
+Found place level taken none = NoUpdate place level taken
+Found place level taken (some m) = IsNewest place level taken m
+
 -- demand 3: "each record is its contract's highest-numbered update taken": its number, and its rows as they stand in its
 -- message
 pub data ReadsNewest (place : ℕ) (level : Level) (taken : List Message) (reading : Reading) : Type 0 where
   no-record : NoUpdate place level taken → reading .answer ≡ Recorded.NoRecord → reading .quote ≡ blank → ReadsNewest place level taken reading
   a-record : (m : Message) → IsNewest place level taken m → reading .answer ≡ Recorded.Record (numberOf m) → reading .quote ≡ quoteOf level (m .cells) → ReadsNewest place level taken reading
+
+-- demand 3: what an update of a past is by its message's bytes: its number, its contract's key, its level by its length, and its
+-- rows as they were read
+pub record UpdateSays (list : List ℕ) (i : ℕ) (bytes : List ℕ) (m : Message) (number : ℕ) (level : Level) (place : ℕ) : Type 0 where
+  pub number-is : bytesNumber bytes ≡ number
+  pub key-is : bytesKey bytes ≡ keyOf list i place
+  pub level-is : lengthOf bytes ≡ messageLength (rowsOf level)
+  pub rows-are : m .cells ≡ filled (readRows 0 (rowsOf level) (dataIn bytes) .cells)
 
 -- 01 "What the proof settles" (counts defined from the history): the counts of an accepted batch are those of its messages,
 -- each by what became of it when it came

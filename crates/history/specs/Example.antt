@@ -21,8 +21,8 @@ use Rattle.quotebox.specs.declared.answers.Listed.{Listed}
 use Rattle.quotebox.specs.CallPromises.{ListedRuns}
 use Rattle.quotebox.specs.Start.{eachStarts, startRules, rowsStarted, recordsCleared}
 use Rattle.history.specs.Past.{highestIn, missingIn, runsStanding}
-use Rattle.history.specs.Calls.{Call, Left, take, startLeaves, allLeave}
-use Rattle.history.specs.CallsLaws.{ReachedBy, start-reached, calls-reached}
+use Rattle.history.specs.Calls.{Call, Left, take, startLeaves, allLeave, ReachedBy}
+use Rattle.history.specs.CallsLaws.{start-reached, calls-reached}
 use Rattle.history.specs.PaperCases.{those}
 use Rattle.history.specs.DemandsLaws.{after-calls}
 
@@ -46,7 +46,7 @@ batch n = 0x01 ∷ 0x00 ∷ 0x0B ∷ 0x00 ∷ 0x01 ∷ 0x54 ∷ 0x45 ∷ 0x00 �
 abbrev calls : List Call
 calls = take (batch 1) ∷ take (batch 4) ∷ []
 
--- what the start and the two batches leave
+-- 01 "Cases", its last: what the start and the two batches leave
 abbrev left : Left
 left = allLeave oneT (startLeaves oneT starts lentRows lentRecords) calls
 

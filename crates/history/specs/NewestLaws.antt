@@ -13,20 +13,15 @@ use Rattle.layout.specs.declared.rows.Level.{Level}
 use Rattle.message.specs.Message.{Message}
 use Rattle.history.specs.Kept.{higher, newest}
 use Rattle.history.specs.Past.{numberOf, isOf}
-use Rattle.history.specs.Exactly.{IsNewest, NoUpdate}
+use Rattle.history.specs.Exactly.{Found}
 
 module _ (place : ℕ) (level : Level) where
-  -- what the highest-numbered update is, or that there is none
-  abbrev pub Found : List Message → Option Message → Type 0
-  Found taken none = NoUpdate place level taken
-  Found taken (some m) = IsNewest place level taken m
-
-  none-among : Found [] none
+  none-among : Found place level [] none
   none-among m in-none = absurd (List·Memᴰ·not-nil in-none)
 
   module _ (m : Message) (ms : List Message) where
     -- one that is no update of the contract
-    passes : isOf place level (m .what) ≡ false → (o : Option Message) → Found ms o → Found (m ∷ ms) o
+    passes : isOf place level (m .what) ≡ false → (o : Option Message) → Found place level ms o → Found place level (m ∷ ms) o
     passes e none before = λ k among.
         ⊎-elim (λ (f : k ≡ m). ap (λ (j : Message). isOf place level (j .what)) f ∙ e) (λ (later : List·Memᴰ k ms). before k later) (List·Memᴰ·cases-cons among)
     passes e (some top) before =
@@ -40,7 +35,7 @@ module _ (place : ℕ) (level : Level) where
         }
 
     -- one that is
-    counts : isOf place level (m .what) ≡ true → (o : Option Message) → Found ms o → Found (m ∷ ms) (higher m o)
+    counts : isOf place level (m .what) ≡ true → (o : Option Message) → Found place level ms o → Found place level (m ∷ ms) (higher m o)
     counts e none before =
         record {
           was-taken = List·Memᴰ·head refl;
@@ -75,7 +70,7 @@ module _ (place : ℕ) (level : Level) where
         }))
         (either (ltb (numberOf top) (numberOf m)))
 
-  pub newest-found : (taken : List Message) → Found taken (newest place level taken)
+  pub newest-found : (taken : List Message) → Found place level taken (newest place level taken)
   newest-found [] = none-among
   newest-found (m ∷ ms) =
       let before = newest-found ms in

@@ -6,7 +6,7 @@ use mathlib.Core.Path.{_≡_, refl}
 use mathlib.Core.Bool.{Bool, cond}
 use mathlib.Core.List.{List, [], _∷_, _++_, map}
 use mathlib.Core.Option.{none}
-use lib.ListN.{length, replicate, drop}
+use lib.ListN.{length, replicate, drop, set}
 use Rattle.laws.specs.Rules.{firstBroken}
 use Rattle.laws.specs.Texts.{codes}
 use Rattle.wire.specs.Checksum.{bitStep, byteStep, sumOf, checksumOf}
@@ -14,13 +14,15 @@ use Rattle.amount.specs.Answers.{numberNumbers}
 use Rattle.amount.specs.Kinds.{price, readAs}
 use Rattle.amount.specs.Read.{step, walk, readText}
 use Rattle.amount.specs.Write.{size, sizeIn, textOf}
-use Rattle.layout.specs.declared.rows.Level.the-variants.{Two}
+use Rattle.layout.specs.declared.rows.Level.the-variants.{One, Two}
 use Rattle.layout.specs.Quote.{quoteOf, cellsOf}
+use Rattle.layout.specs.Read.{readRow}
 use Rattle.layout.specs.Rows.{rowsOf}
 use Rattle.layout.specs.Write.{rowText}
-use Rattle.contracts.specs.Cases.{twoOf, threeKeys}
+use Rattle.contracts.specs.Cases.{keyOfBytes, twoOf, threeKeys}
 use Rattle.contracts.specs.File.{segmentsOf, letterAt, zeroAt, countAt, offsetAt, keyFrom, contractsBefore}
-use Rattle.contracts.specs.Lookup.{segmentOf}
+use Rattle.contracts.specs.Halving.{halvedIn}
+use Rattle.contracts.specs.Lookup.{segmentOf, lookup}
 use Rattle.contracts.specs.Sound.{entrySound, headerSound, bytesSound, keySound, bodySound, sound}
 use Rattle.sequence.specs.Row.{gapsOf, laid, soundRow}
 use Rattle.message.specs.Codes.{takesLength, levelOf}
@@ -28,14 +30,15 @@ use Rattle.message.specs.Fields.{letterOf, secondOf, lengthOf, numberOf, sumSen
 use Rattle.message.specs.Head.{framed, coded, trailed, summed, headOf}
 use Rattle.message.specs.Message.{keyOf, keyPlace, contentsOf, messageOf}
 use Rattle.quotebox.specs.Batch.{flagOf, sizeOf, countOf, messageActs, messagesAct, batchActs}
-use Rattle.quotebox.specs.Calls.{gapsOfLetter, listRules, runsPut, writeOffRules, rowsWrittenOff}
+use Rattle.quotebox.specs.Calls.{answered as answeredBy, gapsOfLetter, listRules, runsPut, writeOffRules, rowsWrittenOff}
+use Rattle.quotebox.specs.Record.{recordRules}
 use Rattle.quotebox.specs.Start.{eachStarts, startRules, rowsStarted, recordsCleared}
 use Rattle.quotebox.specs.State.{segmentRules}
-use Rattle.quotebox.specs.Writer.{dataWritten, lengthWritten, writeRules}
+use Rattle.quotebox.specs.Writer.{dataWritten, lengthWritten, writeRules, messageBytes}
 use Rattle.history.specs.Past.{Event, isTaken, highestIn, missingIn, runsStanding}
 use Rattle.history.specs.Exactly.{cameNext}
-use Rattle.history.specs.Calls.{Call, Left, take, writeOff, listGaps, startLeaves, allLeave, answers}
-use Rattle.history.specs.CallsLaws.{ReachedBy, start-reached, calls-reached}
+use Rattle.history.specs.Calls.{Call, Left, take, writeOff, listGaps, readRecord, startLeaves, allLeave, answers, ReachedBy}
+use Rattle.history.specs.CallsLaws.{start-reached, calls-reached}
 use Rattle.history.specs.ReadBack.{plainBatch}
 use Rattle.history.specs.WrittenCases as writer
 
@@ -83,26 +86,26 @@ p5 = 0x01 ∷ 0x00 ∷ 0x0B ∷ 0x00 ∷ 0x01 ∷ 0x44 ∷ 0x48 ∷ 0x00 ∷ 0x0
 abbrev p6 : List ℕ
 p6 = 0x01 ∷ 0x00 ∷ 0x01 ∷ 0x00 ∷ 0x0B ∷ 0x44 ∷ 0x48 ∷ 0x00 ∷ 0x0B ∷ 0x00 ∷ 0x00 ∷ 0x00 ∷ 0x00 ∷ 0x00 ∷ 0x00 ∷ 0x0D ∷ []
 
--- messages of T that are passed over, with these numbers, each below 256
+-- 01 "The message": messages of T that are passed over, with these numbers, each below 256
 abbrev messages : List ℕ → List ℕ
 messages [] = []
 messages (n ∷ ns) = 84 ∷ 69 ∷ 0 ∷ 11 ∷ 0 ∷ 0 ∷ 0 ∷ n ∷ 0 ∷ 0 ∷ 13 ∷ messages ns
 
--- a batch of them
+-- 01 "The batch": a batch of them, taken
 abbrev numbers : List ℕ → Call
 numbers ns = take (plainBatch (length ns) (messages ns))
 
--- so many numbers, each two above the one before
+-- P13: so many numbers, each two above the one before
 abbrev twoApart : ℕ → ℕ → List ℕ
 twoApart n zero = []
 twoApart n (suc more) = n ∷ twoApart (n + 2) more
 
--- runs of one number each, as first and last
+-- P12 and P13: runs of one number each, as first and last
 abbrev alone : List ℕ → List ℕ
 alone [] = []
 alone (n ∷ ns) = n ∷ n ∷ alone ns
 
--- the gaps of T, with so many cells lent
+-- 01 "What may be asked": list gaps, of T, with so many cells lent
 abbrev gapsIn : ℕ → Call
 gapsIn cells = listGaps T (replicate cells 0)
 
@@ -132,7 +135,7 @@ p13-127 = p13-130 ++ (numbers (129 ∷ []) ∷ numbers (127 ∷ []) ∷ [])
 
 -- ---- what is asked, and the answer
 
--- the numbers below a bound that pass a test, ascending
+-- a word of our own: the numbers below a bound that pass a test, ascending
 abbrev pub those : (ℕ → Bool) → ℕ → List ℕ
 those test zero = []
 those test (suc n) = those test n ++ cond (test n) (n ∷ []) []
@@ -145,6 +148,10 @@ pub data Asked : Type 0 where
   text : String → Asked
   -- a call after others
   call : List Call → Call → Asked
+  -- a start with this list, these start numbers and so many cells lent for gap rows
+  start : List ℕ → List ℕ → ℕ → Asked
+  -- a call handed this list and these gap rows back, whatever the start left
+  handed : List ℕ → List ℕ → Call → Asked
   -- what the past of calls says of T: its missing numbers, and how many runs they make
   missing standing : List Call → Asked
   -- of a number that comes next: 1 where it is taken, and how many runs would stand
@@ -152,16 +159,18 @@ pub data Asked : Type 0 where
   -- the writer, of a message
   write : writer.Asked → Asked
 
--- the past of these calls, made after the start
+-- demand 3: the past of these calls, made after the start
 abbrev pastOf : List Call → List Event
 pastOf cs = allLeave list started cs .past
 
--- the answer, by the definitions that the promises cite and by the past of the calls
+-- 01 "Cases": the answer, by the definitions that the promises cite and by the past of the calls
 abbrev answerTo : Asked → List ℕ
 answerTo (sum bytes) = sumOf bytes ∷ []
 answerTo (sent bytes) = checksumOf bytes
 answerTo (text t) = numberNumbers (readAs price (codes t))
 answerTo (call cs c) = answers list (allLeave list started cs) c
+answerTo (start list′ starts′ cells) = answeredBy (firstBroken (startRules list′ starts′ cells (length lentRecords))) []
+answerTo (handed list′ rows c) = answers list′ (record { rows = rows; records = started .records; past = [] }) c
 answerTo (missing cs) = those (missingIn T 1 (pastOf cs)) (suc (highestIn T 1 (pastOf cs)))
 answerTo (standing cs) = runsStanding T 1 (pastOf cs) ∷ []
 answerTo (next cs n) = cond (isTaken T 1 (pastOf cs) (messageOf list T (messages (n ∷ [])))) 1 0 ∷ runsStanding T 1 (cameNext list T (messages (n ∷ [])) (pastOf cs)) ∷ []
@@ -208,11 +217,11 @@ cases =
     ∷ record { asked = write (writer.asked 84 78 Two 1 writer.key 999_999_999_999_999_999 505); says = 12 ∷ 0 ∷ 26 ∷ 0 ∷ [] }  -- P14: at its row
     ∷ []
 
--- what the definitions say of each case
+-- 01 "Cases": what the definitions say of each
 unfoldable pub answered : List Case → List (List ℕ)
 answered = map (λ (c : Case). answerTo (c .asked))
 
--- what the paper says of each case
+-- 01 "Cases": what the paper says of each
 unfoldable pub sayings : List Case → List (List ℕ)
 sayings = map (λ (c : Case). c .says)
 
@@ -222,7 +231,7 @@ P1-to-P14 = refl
 
 -- ---- the table of refusals, where P1 to P14 are silent
 
--- a message of these parts, with no data: code, length, number below 256, first byte of the sum, end byte
+-- 01 "The message": one of these parts, with no data: code, length, number below 256, first byte of the sum, end byte
 abbrev bare : ℕ → ℕ → ℕ → ℕ → ℕ → ℕ → List ℕ
 bare letter second long number low end = letter ∷ second ∷ 0 ∷ long ∷ 0 ∷ 0 ∷ 0 ∷ number ∷ low ∷ 0 ∷ end ∷ []
 
@@ -230,11 +239,21 @@ bare letter second long number low end = letter ∷ second ∷ 0 ∷ long ∷ 0 
 abbrev heartbeat : List ℕ
 heartbeat = bare 68 72 11 0 0 13
 
--- a batch of so many messages that are these bytes
+-- 01 "The message": a level 1 update of D with its right sum, by the byte that its key is throughout, its market type and its
+-- first price; every other row is blank
+abbrev update : ℕ → ℕ → String → List ℕ
+update byte market price = messageBytes (record { 0 = 68; 1 = 78 }) 7 (keyOfBytes byte ++ (market ∷ codes price ++ replicate 181 32))
+
+-- 01 "Numbers in text": no price: all spaces
+abbrev blank : String
+blank = "                 "
+
+-- 01 "The batch": a plain batch of so many messages that are these bytes, taken
 abbrev batch : ℕ → List ℕ → Asked
 batch count bytes = call [] (take (plainBatch count bytes))
 
--- 01, the table of refusals: P5's batch with one thing wrong, too few cells for P11's gaps, and a write-off with none
+-- 01, the table of refusals: P5's batch with one thing wrong, in it or in the list and gap rows that are handed with it; an update
+-- behind its heartbeat with one thing wrong; and a start, a reading, a listing of P11's gaps and a write-off that are refused
 unfoldable pub refusals : List Case
 refusals =
     record { asked = call [] (take (0 ∷ drop 1 p5)); says = 2 ∷ 0 ∷ 0 ∷ 0 ∷ [] }
@@ -247,10 +266,21 @@ refusals =
     ∷ record { asked = batch 1 (bare 68 78 11 0 0 13); says = 8 ∷ 0 ∷ 0 ∷ 0 ∷ [] }
     ∷ record { asked = batch 1 (bare 68 72 11 0 1 13); says = 9 ∷ 0 ∷ 0 ∷ 0 ∷ [] }
     ∷ record { asked = batch 1 (bare 68 72 11 1 0 13); says = 10 ∷ 0 ∷ 0 ∷ 0 ∷ [] }
+    ∷ record { asked = start list (1 ∷ 0 ∷ []) 264; says = 10 ∷ 0 ∷ 0 ∷ 0 ∷ [] }
+    ∷ record { asked = batch 2 (heartbeat ++ update 65 79 blank); says = 11 ∷ 1 ∷ 5 ∷ 0 ∷ [] }  -- at its market type O
+    ∷ record { asked = batch 2 (heartbeat ++ update 65 78 "               -1"); says = 11 ∷ 1 ∷ 6 ∷ 0 ∷ [] }  -- at P10's text
+    ∷ record { asked = batch 2 (heartbeat ++ update 65 78 "     100000000000"); says = 12 ∷ 1 ∷ 6 ∷ 0 ∷ [] }  -- at P9's text
+    ∷ record { asked = batch 2 (heartbeat ++ update 66 78 blank); says = 13 ∷ 1 ∷ 0 ∷ 0 ∷ [] }
+    ∷ record { asked = call [] (readRecord T (keyOfBytes 65) One); says = 13 ∷ 0 ∷ 0 ∷ 0 ∷ [] }  -- a key of D
     ∷ record { asked = call p11 (gapsIn 3); says = 15 ∷ 0 ∷ 0 ∷ 4 ∷ 0 ∷ 0 ∷ 0 ∷ [] }  -- and three cells as before
+    ∷ record { asked = start list starts 263; says = 15 ∷ 0 ∷ 0 ∷ 264 ∷ [] }
+    ∷ record { asked = handed list (drop 1 (started .rows)) (take p5); says = 15 ∷ 0 ∷ 0 ∷ 264 ∷ [] }
+    ∷ record { asked = start (twoOf 68 84 18 57 (keyOfBytes 65 ++ keyOfBytes 66 ++ keyOfBytes 66)) starts 264; says = 16 ∷ 0 ∷ 0 ∷ 0 ∷ [] }  -- a key twice
+    ∷ record { asked = handed (list ++ (65 ∷ [])) (started .rows) (take p5); says = 16 ∷ 0 ∷ 0 ∷ 0 ∷ [] }  -- a byte too many
     ∷ record { asked = call [] (writeOff T); says = 17 ∷ 0 ∷ 0 ∷ 0 ∷ [] }
+    ∷ record { asked = handed list (set (started .rows) 132 0) (take p5); says = 18 ∷ 0 ∷ 0 ∷ 0 ∷ [] }  -- T's row, start 0
     ∷ []
 
 pub refusals-told : answered refusals ≡ sayings refusals
-unfolding refusals answered sayings segmentsOf letterAt zeroAt countAt offsetAt contractsBefore segmentOf entrySound headerSound gapsOf laid soundRow takesLength letterOf secondOf lengthOf numberOf dataIn sumSent endByte kindIn rightSum framed coded trailed summed headOf contentsOf messageOf flagOf sizeOf countOf messageActs messagesAct batchActs gapsOfLetter listRules runsPut writeOffRules rowsStarted recordsCleared segmentRules rowsOf
+unfolding refusals answered sayings bitStep byteStep step walk readText segmentsOf letterAt zeroAt countAt offsetAt keyFrom contractsBefore segmentOf lookup halvedIn entrySound headerSound bytesSound keySound bodySound sound gapsOf laid soundRow takesLength levelOf letterOf secondOf lengthOf numberOf dataIn sumSent endByte kindIn rightSum framed coded trailed summed headOf keyOf keyPlace contentsOf messageOf flagOf sizeOf countOf messageActs messagesAct batchActs gapsOfLetter listRules runsPut writeOffRules recordRules startRules eachStarts rowsStarted recordsCleared segmentRules messageBytes rowsOf readRow
 refusals-told = refl

@@ -11,10 +11,7 @@ use lib.Dec.{eqb}
 use lib.ListN.{length, take, drop, length-drop}
 use Rattle.laws.specs.Rules.{firstBroken}
 use Rattle.laws.specs.Choice.{either}
-use Rattle.contracts.specs.File.{segmentsOf, letterAt, countAt, keyOf}
 use Rattle.contracts.specs.Lookup.{segmentOf, placeIn}
-use Rattle.contracts.specs.LookupLaws.{segment-exact, key-exact}
-use Rattle.contracts.specs.Sound.{Sound}
 use Rattle.layout.specs.declared.quote.Quote.{Quote}
 use Rattle.layout.specs.declared.read.Verdict.the-variants as verdict
 use Rattle.layout.specs.declared.rows.Level.{Level}
@@ -31,7 +28,7 @@ use Rattle.message.specs.declared.codes.Kind.the-variants.{Update}
 use Rattle.message.specs.Codes.{kindOf}
 use Rattle.message.specs.Fields.{letterOf, lengthOf}
 use Rattle.message.specs.Message.{keyPlace}
-use Rattle.message.specs.MessageLaws.{key-in, key-found}
+use Rattle.message.specs.MessageLaws.{key-found}
 use Rattle.quotebox.specs.declared.answers.Judged.{Judged}
 use Rattle.quotebox.specs.declared.answers.Judged.the-variants.{Accepted}
 use Rattle.quotebox.specs.declared.answers.Reading.{Reading}
@@ -61,13 +58,6 @@ use Rattle.history.specs.ReadBackStepsLaws.{count-one, data-is, batch-fr
 use Rattle.history.specs.WrittenFieldsLaws.{letter-written}
 use Rattle.history.specs.WrittenGoodLaws.{written, all-of-it, written-short, message-is}
 use Rattle.history.specs.WrittenUpdateLaws.{rows-good, number-some, message-there}
-
--- in a sound list a key that is listed is found
-pub listed-place : (list : List ℕ) → Sound list → (letter segment place : ℕ) (key : List ℕ) → segment < segmentsOf list → letterAt list segment ≡ letter
-    → place < countAt list segment → keyOf list segment place ≡ key → keyPlace list letter key ≡ some place
-listed-place list sound letter segment place key there has inside is =
-    key-in list letter key (segment-exact list (sound .header) letter segment .1 (there, has))
-    ∙ key-exact list segment key sound there place .1 (inside, is)
 
 -- a listed contract's record may be asked for, and lies in the records lent
 module _ (list rows records : List ℕ) (state : GoodState list rows records) (letter : ℕ) (key : List ℕ) (place : ℕ) (listed : keyPlace list letter key ≡ some place) where

@@ -12,17 +12,15 @@ use lib.ListN.{length, take, drop, replicate, length-drop}
 use lib.Seq.{drop-drop}
 use Rattle.laws.specs.Choice.{clash}
 use Rattle.laws.specs.Lists.{middle}
-use Rattle.contracts.specs.File.{contractsBefore, keyOf}
+use Rattle.contracts.specs.File.{contractsBefore}
 use Rattle.contracts.specs.Lookup.{segmentOf, placeIn}
 use Rattle.contracts.specs.LookupLaws.{key-at-place}
 use Rattle.layout.specs.declared.rows.Level.{Level}
 use Rattle.layout.specs.Cells.{filled}
 use Rattle.layout.specs.Quote.{quoteOf}
-use Rattle.layout.specs.Rows.{keyRows, rowsOf, messageLength}
-use Rattle.layout.specs.Read.{readRows}
+use Rattle.layout.specs.Rows.{keyRows}
 use Rattle.message.specs.declared.body.What.the-variants.{Update}
 use Rattle.message.specs.CallerLaws.{update-told}
-use Rattle.message.specs.Fields.{lengthOf, dataOf, numberOf as bytesNumber}
 use Rattle.message.specs.Message.{Message, messageOf, keyOf as bytesKey}
 use Rattle.message.specs.MessageLaws.{key-in}
 use Rattle.message.specs.Numbers.{verdictOf}
@@ -44,8 +42,8 @@ use Rattle.history.specs.KeptLaws.{quote-cells, kept-number}
 use Rattle.history.specs.Histories.{Reached}
 use Rattle.history.specs.HoldsLaws.{reached-holds}
 use Rattle.history.specs.ListingLaws.{segment-good}
-use Rattle.history.specs.Exactly.{NoUpdate, ReadsNewest, no-record, a-record}
-use Rattle.history.specs.NewestLaws.{Found, newest-found}
+use Rattle.history.specs.Exactly.{NoUpdate, Found, ReadsNewest, no-record, a-record, UpdateSays}
+use Rattle.history.specs.NewestLaws.{newest-found}
 
 -- ---- a record that holds an update gives its rows back
 
@@ -106,13 +104,6 @@ no-record-exactly (a-record m is answer quote) = (
   (λ e. let clashes : Recorded.Record (numberOf m) ≡ Recorded.NoRecord = sym answer ∙ e in absurd (clash (cc))),
   (λ none-taken. absurd (true≢false (sym (is .of-contract) ∙ none-taken m (is .was-taken)))),
 )
-
--- what an update of a past is by its message's bytes: its number, its contract's key, and its rows as they were read
-pub record UpdateSays (list : List ℕ) (i : ℕ) (bytes : List ℕ) (m : Message) (number : ℕ) (level : Level) (place : ℕ) : Type 0 where
-  pub number-is : bytesNumber bytes ≡ number
-  pub key-is : bytesKey bytes ≡ keyOf list i place
-  pub level-is : lengthOf bytes ≡ messageLength (rowsOf level)
-  pub rows-are : m .cells ≡ filled (readRows 0 (rowsOf level) (dataOf bytes) .cells)
 
 pub update-says : (list : List ℕ) (letter i : ℕ) → segmentOf list letter ≡ some i → (bytes : List ℕ) (number : ℕ) (level : Level) (place : ℕ)
     → messageOf list letter bytes .what ≡ Update number level place → UpdateSays list i bytes (messageOf list letter bytes) number level place

@@ -1,6 +1,6 @@
--- Laws of the messages taken: no two have one number, none stands below the start, and the same messages in any order have
--- the same numbers, the same highest and the same highest-numbered update.
-use Prim.Native.Nat.{ℕ, _-_, _≤_, _<_, max}
+-- Laws of the messages taken: no two have one number, and the same messages in any order have the same numbers, the same highest
+-- and the same highest-numbered update.
+use Prim.Native.Nat.{ℕ, _-_, _≤_}
 use mathlib.Core.Path.{_≡_, refl, sym, ap, _∙_}
 use mathlib.Core.Bool.{Bool, true, false, not, cond, true≢false}
 use mathlib.Core.List.{List, [], _∷_, List·Memᴰ, List·Memᴰ·head, List·Memᴰ·tail, List·Memᴰ·not-nil, List·Memᴰ·cases-cons}
@@ -8,15 +8,14 @@ use mathlib.Core.Option.{Option, none, some}
 use mathlib.Core.Logic.{_⊎_, _↔_, inl, inr, ⊎-elim}
 use native.Mathlib.Nat.{le-antisymm}
 use native.Mathlib.Omega.{arith}
-use borrow.Author.Tests.{eq-eqb, eqb-true, leb-true}
+use borrow.Author.Tests.{eq-eqb, eqb-true}
 use lib.Dec.{leb, eqb}
 use Rattle.laws.specs.Choice.{either}
-use Rattle.laws.specs.Order.{order}
 use Rattle.laws.specs.Tests.{any, both, all-three, or-true}
 use Rattle.layout.specs.declared.rows.Level.{Level}
 use Rattle.message.specs.Message.{Message}
 use Rattle.history.specs.Past.{Event, came, off, isNumbered, numberOf, held, isNew, comesNew, wroteOffIn, takenOf, highestOf}
-use Rattle.history.specs.NewestLaws.{Found}
+use Rattle.history.specs.Exactly.{Found}
 
 -- ---- numbers of messages
 
@@ -52,26 +51,16 @@ module _ (letter start : ℕ) where
       go false new e among = inr among
 
   new-is : (past : List Event) (k : Message) → comesNew start (takenOf letter start past) (wroteOffIn letter past) k ≡ true
-      → (start ≤ numberOf k) × (held (takenOf letter start past) (numberOf k) ≡ false)
+      → held (takenOf letter start past) (numberOf k) ≡ false
   new-is past k e =
       let n : ℕ = numberOf k in
       let own = both (isNumbered (k .what)) (isNew start (takenOf letter start past) (wroteOffIn letter past) n) e in
       let parts = all-three (leb start n) (not (held (takenOf letter start past) n)) (not (wroteOffIn letter past n)) (own .1) in
-      (leb-true start n (parts .0), not-so (held (takenOf letter start past) n) (parts .1))
+      not-so (held (takenOf letter start past) n) (parts .1)
     where
       not-so : (t : Bool) → not t ≡ true → t ≡ false
       not-so true e = sym e
       not-so false e = refl
-
-  -- none stands below the start
-  pub taken-from : (past : List Event) (m : Message) → List·Memᴰ m (takenOf letter start past) → start ≤ numberOf m
-  taken-from [] m among = absurd (List·Memᴰ·not-nil among)
-  taken-from (off l r ∷ past) m among = taken-from past m among
-  taken-from (came l k ∷ past) m among =
-      let rest = taken-from past m in
-      ⊎-elim (λ (w : (m ≡ k) × (comesNew start (takenOf letter start past) (wroteOffIn letter past) k ≡ true)). rw (w .0) (new-is past k (w .1) .0))
-      (λ (before : List·Memᴰ m (takenOf letter start past)). rest before)
-      (new-or-before l k past m among)
 
   -- no two have one number
   pub taken-apart : (past : List Event) (m k : Message) → List·Memᴰ m (takenOf letter start past) → List·Memᴰ k (takenOf letter start past)
@@ -95,7 +84,7 @@ module _ (letter start : ℕ) where
 
       clashes : comesNew start (takenOf letter start past) (wroteOffIn letter past) new ≡ true → (j : Message) → List·Memᴰ j (takenOf letter start past) → numberOf j ≡ numberOf new → ⊥
       clashes is-new j earlier same =
-          true≢false (sym (mem-held (takenOf letter start past) j earlier) ∙ ap (held (takenOf letter start past)) same ∙ new-is past new is-new .1)
+          true≢false (sym (mem-held (takenOf letter start past) j earlier) ∙ ap (held (takenOf letter start past)) same ∙ new-is past new is-new)
 
 -- ---- highest
 
@@ -115,26 +104,6 @@ highest-least start (m ∷ ms) h low each =
 pub highest-reached : (start : ℕ) (ms : List Message) → start - 1 ≤ highestOf start ms
 highest-reached start [] = omega arith
 highest-reached start (m ∷ ms) = let rest = highest-reached start ms in omega arith
-
--- highest is one below the start where nothing was taken, else the highest number taken
-pub highest-exactly : (letter start : ℕ) (past : List Event)
-    → ((takenOf letter start past ≡ []) × (highestOf start (takenOf letter start past) ≡ start - 1)) ⊎ (held (takenOf letter start past) (highestOf start (takenOf letter start past)) ≡ true)
-highest-exactly letter start past = go (takenOf letter start past) (taken-from letter start past)
-  where
-    go : (ms : List Message) → ((m : Message) → List·Memᴰ m ms → start ≤ numberOf m) → ((ms ≡ []) × (highestOf start ms ≡ start - 1)) ⊎ (held ms (highestOf start ms) ≡ true)
-    go [] from = inl (refl, refl)
-    go (m ∷ ms) from =
-        let rest = go ms (λ k among. from k (List·Memᴰ·tail among)) in
-        let own = from m (List·Memᴰ·head refl) in
-        ⊎-elim (λ (h : highestOf start ms ≤ numberOf m).
-        let top : max (numberOf m) (highestOf start ms) ≡ numberOf m = omega arith in
-        inr (rw top (rw (eq-eqb (numberOf m) (numberOf m) refl))))
-        (λ (h : numberOf m < highestOf start ms).
-        let top : max (numberOf m) (highestOf start ms) ≡ highestOf start ms = omega arith in
-        ⊎-elim (λ (w : (ms ≡ []) × (highestOf start ms ≡ start - 1)). let low = w .1 in absurd (omega arith))
-        (λ (w : held ms (highestOf start ms) ≡ true). inr (rw (top, w) (or-true (eqb (numberOf m) (highestOf start ms)))))
-        rest)
-        (order (highestOf start ms) (numberOf m))
 
 -- ---- the same messages
 

@@ -33,7 +33,7 @@ pub record Asked : Type 0 where
   quote : Quote
   room : ℕ
 
--- the writer asked by code, level, number, key, last traded price and room
+-- 01 "What may be asked": the writer asked by code, level, number, key, last traded price and room
 abbrev pub asked : ℕ → ℕ → Level → ℕ → List ℕ → ℕ → ℕ → Asked
 asked first second level number key last room =
     record { code = record { 0 = first; 1 = second }; level = level; number = number; key = key; quote = quoteAt last; room = room }
@@ -42,18 +42,18 @@ asked first second level number key last room =
 abbrev pub answerTo : Asked → List ℕ
 answerTo a = answered (firstBroken (writeRules (a .code) (a .level) (a .number) (a .key) (a .quote) (a .room))) (lengthWritten (a .code) (a .level) ∷ [])
 
--- AN and DX, a heartbeat with a number and an update without one, a byte 31 of the key, P14, a byte too few, and accepted ones
-answers : map answerTo (
+-- AN and DX, a heartbeat with a number and an update without one, a byte 31 of the key, a byte too few, and accepted ones
+pub answers : map answerTo (
     asked 65 78 Two 1 key none 505 ∷ asked 68 88 Two 1 key none 505 ∷ asked 68 72 Two 1 key none 505 ∷ asked 68 78 Two 0 key none 505
-    ∷ asked 84 78 One 1 (set key 6 31) none 249 ∷ asked 84 78 Two 1 key 999_999_999_999_999_999 505 ∷ asked 84 78 Two 1 key none 504
+    ∷ asked 84 78 One 1 (set key 6 31) none 249 ∷ asked 84 78 Two 1 key none 504
     ∷ asked 84 78 Two 1 key none 505 ∷ asked 68 78 One 1 key none 249 ∷ asked 84 72 One 0 [] none 11 ∷ [])
     ≡ (6 ∷ 0 ∷ 0 ∷ 0 ∷ []) ∷ (6 ∷ 0 ∷ 0 ∷ 0 ∷ []) ∷ (10 ∷ 0 ∷ 0 ∷ 0 ∷ []) ∷ (10 ∷ 0 ∷ 0 ∷ 0 ∷ [])
-    ∷ (11 ∷ 0 ∷ 1 ∷ 0 ∷ []) ∷ (12 ∷ 0 ∷ 26 ∷ 0 ∷ []) ∷ (15 ∷ 0 ∷ 0 ∷ 505 ∷ [])
+    ∷ (11 ∷ 0 ∷ 1 ∷ 0 ∷ []) ∷ (15 ∷ 0 ∷ 0 ∷ 505 ∷ [])
     ∷ (0 ∷ 505 ∷ []) ∷ (0 ∷ 249 ∷ []) ∷ (0 ∷ 11 ∷ []) ∷ []
 unfolding writeRules lengthWritten dataWritten rowsOf rowText quoteOf cellsOf textOf size sizeIn
 answers = refl
 
 -- P5's heartbeat
-heartbeat : messageBytes (record { 0 = 68; 1 = 72 }) 0 [] ≡ 68 ∷ 72 ∷ 0 ∷ 11 ∷ 0 ∷ 0 ∷ 0 ∷ 0 ∷ 0 ∷ 0 ∷ 13 ∷ []
+pub heartbeat : messageBytes (record { 0 = 68; 1 = 72 }) 0 [] ≡ 68 ∷ 72 ∷ 0 ∷ 11 ∷ 0 ∷ 0 ∷ 0 ∷ 0 ∷ 0 ∷ 0 ∷ 13 ∷ []
 unfolding messageBytes
 heartbeat = refl

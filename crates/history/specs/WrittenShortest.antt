@@ -20,7 +20,7 @@ pub record Shortest (places n : ℕ) (field : List ℕ) : Type 0 where
   pub means : Denotes places field n
   pub no-shorter : (text : List ℕ) (d : Denotes places text n) → length characters ≤ length (d .shape .whole) + length (pointed (d .shape .fraction))
 
--- the kind of a row of numbers
+-- 01 "Numbers in text": the kind of a row's number, where the row is one
 abbrev pub numberKind : Row → Option Kind
 numberKind (Text width) = none
 numberKind MarketType = none

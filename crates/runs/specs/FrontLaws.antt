@@ -1,7 +1,6 @@
 -- A call looks at the gap rows of the listed segments alone: at most 264 numbers, from the first on.
-use Prim.Native.Nat.{ℕ, zero, suc, _+_, _*_, _≤_, _<_}
+use Prim.Native.Nat.{ℕ, _+_, _*_, _≤_, _<_}
 use mathlib.Core.Path.{_≡_, refl, ap, ap₂, sym, _∙_, subst}
-use mathlib.Core.Bool.{Bool, _&&_}
 use mathlib.Core.Logic.{⊎-elim}
 use mathlib.Core.List.{List, _++_, append-assoc, append-nil}
 use mathlib.Core.Option.{Option, none, some}
@@ -11,7 +10,7 @@ use lib.Dec.{leb}
 use lib.ListN.{length, take, drop, length-append, length-take, length-drop, take-append-drop, drop-of-length-le}
 use lib.Seq.{take-all, take-append-le, drop-append-le}
 use Rattle.laws.specs.Order.{order}
-use Rattle.contracts.specs.Below.{allBelow}
+use Rattle.contracts.specs.BelowLaws.{all-same}
 use Rattle.contracts.specs.File.{segmentsOf}
 use Rattle.contracts.specs.Lookup.{segmentOf}
 use Rattle.contracts.specs.LookupLaws.{segment-has}
@@ -19,14 +18,7 @@ use Rattle.contracts.specs.Sound.{Header}
 use Rattle.sequence.specs.Row.{soundRow}
 use Rattle.quotebox.specs.Memory.{rowCells, rowsWanted, rowOf, withRow, rowsSound, stateRules}
 use Rattle.quotebox.specs.Batch.{rowIn, rowOfLetter, withRowIn, withRowOfLetter}
-
--- the numbers of two segments' rows
-abbrev pub most : ℕ
-most = 264
-
-all-same : (p q : ℕ → Bool) (n : ℕ) → ((i : ℕ) → i < n → p i ≡ q i) → allBelow n p ≡ allBelow n q
-all-same p q zero e = refl
-all-same p q (suc n) e = ap₂ _&&_ (all-same p q n (λ i h. e i (omega arith))) (e n (omega arith))
+use Rattle.runs.specs.Rows.{most}
 
 module _ (a z : List ℕ) (room : most ≤ length a) where
   row-front : (i : ℕ) → i < 2 → rowOf (a ++ z) i ≡ rowOf a i

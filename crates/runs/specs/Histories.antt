@@ -21,7 +21,8 @@ use Rattle.runs.specs.declared.run.Run.{Run}
 use Rattle.runs.specs.Rows.{flat}
 use Rattle.runs.specs.Promises.{StartedRuns, JudgedRuns, TookRuns, ListedGaps, WroteOffRuns, ReadRuns}
 
--- the runs and records that a history leaves, and its past: `list` and `starts` are those of its start
+-- demand 3, "After any sequence of calls from a fresh start": the runs and records that a history leaves, and its past: `list` and
+-- `starts` are those of its start
 pub data ReachedRuns (list starts : List ℕ) : List Run → List ℕ → List Event → Type 0 where
   begun : {rows rows′ : List Run} {records records′ : List ℕ} → StartedRuns list starts rows records Started.Started rows′ records′ → ReachedRuns list starts rows′ records′ []
   refusedStart : {rows rows′ : List Run} {records records′ : List ℕ} {past : List Event} → ReachedRuns list starts rows records past
@@ -48,7 +49,7 @@ pub data ReachedRuns (list starts : List ℕ) : List Run → List ℕ → List E
       → WroteMessage code level number key quote out answer out′
       → ReachedRuns list starts rows records past
 
--- each call answers and leaves what the call over numbers does, with the row seen as numbers
+-- 01 "What may be asked": each call answers and leaves what the call over numbers does, with the row seen as numbers
 pub record AsNumbers (list : List ℕ) (rows : List Run) (records : List ℕ) : Type 0 where
   pub judges : (batch : List ℕ) (answer : Judged) → JudgedRuns list rows records batch answer → JudgedBatch list (flat rows) records batch answer
   pub takes : (batch : List ℕ) (answer : Judged) (rows′ : List Run) (records′ : List ℕ)
@@ -60,7 +61,7 @@ pub record AsNumbers (list : List ℕ) (rows : List Run) (records : List ℕ) : 
   pub reads : (letter : ℕ) (key : List ℕ) (level : Level) (reading : Reading)
       → ReadRuns list rows records letter key level reading → ReadRecord list (flat rows) records letter key level reading
 
--- "Two boxes that took the same messages agree": in gap lists, and in records
+-- demand 3: "Two boxes that took the same messages agree": in gap lists, and in records
 pub record AgreeRuns (list : List ℕ) (rows : List Run) (records : List ℕ) (rows′ : List Run) (records′ : List ℕ) : Type 0 where
   pub same-gaps : (letter : ℕ) (cells : List ℕ) (a b : Listed) (cells′ cells″ : List ℕ)
       → ListedGaps list rows records letter cells a cells′ → ListedGaps list rows′ records′ letter cells b cells″ → (a ≡ b) × (cells′ ≡ cells″)

@@ -25,42 +25,35 @@ use Rattle.quotebox.specs.CallPromises.{StartedBox, ListedRuns, WroteOffRun, Re
 use Rattle.quotebox.specs.Promises.{JudgedBatch, TookBatch}
 use Rattle.quotebox.specs.Refusals.{refusalNumbers}
 use Rattle.runs.specs.declared.run.Run.{Run}
-use Rattle.runs.specs.Rows.{flat, blanks, over, inRuns}
+use Rattle.runs.specs.Rows.{flat, blanks, over, array, lent, most, inRuns}
 use Rattle.runs.specs.RowsLaws.{over-is, in-runs-enough, in-runs-other}
 use Rattle.runs.specs.FlatLaws.{flat-append, flat-take, flat-drop}
-use Rattle.runs.specs.FrontLaws.{most, whole}
+use Rattle.runs.specs.FrontLaws.{whole}
 use Rattle.runs.specs.WholeLaws.{started-unlisted, started-front, judged-unlisted, judged-front, took-front, listed-unlisted, listed-front, wrote-unlisted, wrote-front, read-unlisted, read-front}
 use Rattle.runs.specs.Promises.{StartedRuns, JudgedRuns, TookRuns, ListedGaps, WroteOffRuns, ReadRuns}
 
 module _ (rows : List Run) where
-  -- the runs that are lent, in the array
-  abbrev pub lent : List Run → List Run
-  lent runs = take (length rows) runs
-
-  abbrev pub array : List Run
-  array = over rows blanks
-
-  lent-rows : lent array ≡ take 132 rows
+  lent-rows : lent rows (array rows) ≡ take 132 rows
   lent-rows =
-      ap lent (over-is rows blanks)
+      ap (lent rows) (over-is rows blanks)
       ∙ ⊎-elim
       (λ (h : length rows ≤ 132).
       let n : min (length rows) 132 ≡ length rows = omega arith in
-      ap (λ (k : ℕ). lent (take k rows ++ drop k blanks)) n
+      ap (λ (k : ℕ). lent rows (take k rows ++ drop k blanks)) n
       ∙ take-at (take (length rows) rows) (drop (length rows) blanks) (length rows) (length-take-le (length rows) rows (omega arith))
       ∙ take-all (length rows) rows (omega arith)
       ∙ sym (take-all 132 rows h))
       (λ (h : 132 < length rows).
       let n : min (length rows) 132 ≡ 132 = omega arith in
-      ap (λ (k : ℕ). lent (take k rows ++ drop k blanks)) n
-      ∙ ap lent (append-nil (take 132 rows))
+      ap (λ (k : ℕ). lent rows (take k rows ++ drop k blanks)) n
+      ∙ ap (lent rows) (append-nil (take 132 rows))
       ∙ take-all (length rows) (take 132 rows) (simp length-take (omega arith)))
       (order (length rows) 132)
 
-  lent-numbers : flat (lent array) ≡ take most (flat rows)
+  lent-numbers : flat (lent rows (array rows)) ≡ take most (flat rows)
   lent-numbers = ap flat lent-rows ∙ flat-take 132 rows
 
-  left-numbers : (runs : List Run) → length runs ≡ 132 → flat (over runs rows) ≡ flat (lent runs) ++ drop most (flat rows)
+  left-numbers : (runs : List Run) → length runs ≡ 132 → flat (over runs rows) ≡ flat (lent rows runs) ++ drop most (flat rows)
   left-numbers runs long =
       let n : min (length runs) (length rows) ≡ min (length rows) (length runs) = omega arith in
       let m : min (length runs) (length rows) ≡ min 132 (length rows) = omega (arith, long) in
@@ -68,18 +61,18 @@ module _ (rows : List Run) where
       (over-is runs rows
       ∙ ap₂ (λ (k l : ℕ). take k runs ++ drop l rows) n m
       ∙ ap₂ _++_ (take-min (length rows) runs) (drop-min 132 rows))
-      ∙ flat-append (lent runs) (drop 132 rows)
-      ∙ ap (λ (l : List ℕ). flat (lent runs) ++ l) (flat-drop 132 rows)
+      ∙ flat-append (lent rows runs) (drop 132 rows)
+      ∙ ap (λ (l : List ℕ). flat (lent rows runs) ++ l) (flat-drop 132 rows)
 
   -- what holds of the numbers lent, whatever stands behind them, holds of the whole row
   pub lent-whole : (P : List ℕ → List ℕ → Type 0) → ((a z a′ : List ℕ) → most ≤ length a → P a a′ → P (a ++ z) (a′ ++ z))
-      → (runs : List Run) → length runs ≡ 132 → P (flat (lent array)) (flat (lent runs)) → P (flat rows) (flat (over runs rows))
+      → (runs : List Run) → length runs ≡ 132 → P (flat (lent rows (array rows))) (flat (lent rows runs)) → P (flat rows) (flat (over runs rows))
   lent-whole P more runs long p =
       subst (P (flat rows)) (sym (left-numbers runs long))
-      (whole P more (flat rows) (flat (lent runs)) (subst (λ (l : List ℕ). P l (flat (lent runs))) lent-numbers p))
+      (whole P more (flat rows) (flat (lent rows runs)) (subst (λ (l : List ℕ). P l (flat (lent rows runs))) lent-numbers p))
 
   -- 15 for gap rows names as many runs
-  pub lent-told : (list numbers : List ℕ) → (headerSound list ≡ false → numbers ≡ refusalNumbers ListOf) → inRuns list (length (lent array)) numbers ≡ inRuns list (length rows) numbers
+  pub lent-told : (list numbers : List ℕ) → (headerSound list ≡ false → numbers ≡ refusalNumbers ListOf) → inRuns list (length (lent rows (array rows))) numbers ≡ inRuns list (length rows) numbers
   lent-told list numbers unlisted =
       ⊎-elim
       (λ (h : length rows ≤ 132). ap (λ (n : ℕ). inRuns list n numbers) (ap length lent-rows ∙ ap length (take-all 132 rows h)))
@@ -87,12 +80,12 @@ module _ (rows : List Run) where
       ⊎-elim
       (λ (g : headerSound list ≡ true).
       let few : segmentsOf list ≤ 2 = header-exact list .0 g .few-segments in
-      let long : length (lent array) ≡ 132 = ap length lent-rows ∙ length-take-le 132 rows (omega arith) in
-      in-runs-enough list (length (lent array)) numbers (omega (arith, long, few)) ∙ sym (in-runs-enough list (length rows) numbers (omega (arith, few))))
+      let long : length (lent rows (array rows)) ≡ 132 = ap length lent-rows ∙ length-take-le 132 rows (omega arith) in
+      in-runs-enough list (length (lent rows (array rows))) numbers (omega (arith, long, few)) ∙ sym (in-runs-enough list (length rows) numbers (omega (arith, few))))
       (λ (g : headerSound list ≡ false).
       let other : (n : ℕ) → inRuns list n numbers ≡ numbers =
       λ n. ap (inRuns list n) (unlisted g) ∙ in-runs-other list n (refusalNumbers ListOf) (cc) ∙ sym (unlisted g) in
-      other (length (lent array)) ∙ sym (other (length rows)))
+      other (length (lent rows (array rows))) ∙ sym (other (length rows)))
       (either (headerSound list)))
       (order (length rows) 132)
 

@@ -26,7 +26,7 @@ use Rattle.quotebox.specs.Batch.{batchRules, batchActs, actedNumbers}
 use Rattle.quotebox.specs.AnswersLaws.{started-told, judged-told, listed-told, written-off-told, recorded-told, refused-by}
 use Rattle.quotebox.specs.Calls.{answered, listRules, writeOffRules}
 use Rattle.quotebox.specs.CallPromises.{StartedBox, ListedRuns, WroteOffRun, ReadRecord}
-use Rattle.quotebox.specs.CallPromisesLaws.{one-started, one-listed, one-written-off, one-reading, start-refusal, off-refusal}
+use Rattle.quotebox.specs.CallPromisesLaws.{one-started, one-listed, one-written-off, one-reading, start-refusal, list-refusal, off-refusal}
 use Rattle.quotebox.specs.Memory.{rowsWanted, memoryRules, stateRules}
 use Rattle.quotebox.specs.Promises.{JudgedBatch, TookBatch}
 use Rattle.quotebox.specs.Record.{recordRules}
@@ -124,7 +124,7 @@ started-core {list} {starts} {records} {records′} {rows} {rows′} p =
     subst (λ (c : Started). StartedBox list starts (flat rows) records c (flat rows′) records′)
     (sym (started-told Started.Started (p .core) (told-other list (length rows) (startedNumbers (p .core)) (0 ∷ []) (p .answers) refl))) (p .started)
 
--- ---- a refusal changes no run and no record
+-- ---- a refusal changes no run, no record and no cell
 
 -- nor is it the answer of an accepted call over numbers
 accepted-never : (list : List ℕ) (lent : ℕ) (r : Refusal) (values : List ℕ) → refusalNumbers r ≡ inRuns list lent (0 ∷ values) → none ≡ some r
@@ -143,6 +143,13 @@ took-refused {list} {records} {batch} {records′} {rows} {rows′} r p = go (p 
     go : (core : Judged) → TookBatch list (flat rows) records batch core (flat rows′) records′ → refusalNumbers r ≡ inRuns list (length rows) (judgedNumbers core) → (rows′ ≡ rows) × (records′ ≡ records)
     go (Judged.Accepted taken old heartbeats) q e = absurd (unlike (sym (accepted-never list (length rows) r (taken ∷ old ∷ heartbeats ∷ []) e)))
     go (Judged.Refused s) q e = let k = refused-keeps list (flat rows) records batch s (flat rows′) records′ q in (flat-told rows′ rows (k .0), k .1)
+
+pub listed-refused : {list records cells cells′ : List ℕ} {rows : List Run} {letter : ℕ} (r : Refusal) → ListedGaps list rows records letter cells (Listed.Refused r) cells′ → cells′ ≡ cells
+listed-refused {list} {records} {cells} {cells′} {rows} {letter} r p = go (p .core) (p .listed) (p .answers)
+  where
+    go : (core : Listed) → ListedRuns list (flat rows) records letter cells core cells′ → refusalNumbers r ≡ inRuns list (length rows) (listedNumbers core) → cells′ ≡ cells
+    go (Listed.Runs highest runs) q e = absurd (unlike (sym (accepted-never list (length rows) r (highest ∷ runs ∷ []) e)))
+    go (Listed.Refused s) q e = list-refusal s q .1
 
 pub wrote-off-refused : {list records : List ℕ} {rows rows′ : List Run} {letter : ℕ} (r : Refusal) → WroteOffRuns list rows records letter (WrittenOff.Refused r) rows′ → rows′ ≡ rows
 wrote-off-refused {list} {records} {rows} {rows′} {letter} r p = go (p .core) (p .wrote-off) (p .answers)

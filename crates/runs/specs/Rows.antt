@@ -3,30 +3,42 @@ use Prim.Native.Nat.{ℕ, _*_}
 use mathlib.Core.Bool.{cond, _&&_}
 use mathlib.Core.List.{List, [], _∷_}
 use lib.Dec.{ltb, eqb}
-use lib.ListN.{getD, replicate}
+use lib.ListN.{length, getD, take, replicate}
 use Rattle.contracts.specs.File.{segmentsOf}
 use Rattle.quotebox.specs.declared.refusal.Refusal.the-variants.{Memory}
 use Rattle.quotebox.specs.Refusals.{refusalNumbers}
 use Rattle.runs.specs.declared.run.Run.{Run}
 
--- the row seen as numbers: each run's first and last in turn
+-- 01 "Sequence and gaps", "each a first and a last number": the row seen as numbers, those of each run in turn
 abbrev pub flat : List Run → List ℕ
 flat [] = []
 flat (run ∷ runs) = run .first ∷ run .last ∷ flat runs
 
--- a run that names nothing
+-- a word of our own: a run of cells that are 0
 abbrev pub blank : Run
 blank = record { first = 0; last = 0 }
 
--- the runs of the gap rows of two segments, which a list has at most
+-- 01 "The contract list", "1 or 2" segments: the runs of the gap rows of two, at which a call looks at most
 abbrev pub blanks : List Run
 blanks = replicate 132 blank
 
--- one row laid over another, from the first run on and as far as both go
+-- 01 "Sequence and gaps": the numbers of those runs
+abbrev pub most : ℕ
+most = 264
+
+-- a word of our own: one row laid over another, from the first run on and as far as both go
 abbrev pub over : List Run → List Run → List Run
 over [] rows = rows
 over (run ∷ runs) [] = []
 over (run ∷ runs) (row ∷ rows) = run ∷ over runs rows
+
+-- a word of our own: the array into which the runs of a lent row are copied
+abbrev pub array : List Run → List Run
+array rows = over rows blanks
+
+-- a word of our own: the runs of such an array that stand in the lent row
+abbrev pub lent : List Run → List Run → List Run
+lent rows runs = take (length rows) runs
 
 -- lent memory: the runs of a gap row
 abbrev pub rowRuns : ℕ
@@ -38,5 +50,5 @@ runsWanted list = rowRuns * segmentsOf list
 
 -- 01, the table's row 15: an answer's numbers where so many runs are lent; 15 for gap rows names the runs wanted
 unfoldable pub inRuns : List ℕ → ℕ → List ℕ → List ℕ
-inRuns list lent numbers =
-    cond (eqb (getD numbers 0 0) 15 && ltb lent (runsWanted list)) (refusalNumbers (Memory (runsWanted list))) numbers
+inRuns list runs numbers =
+    cond (eqb (getD numbers 0 0) 15 && ltb runs (runsWanted list)) (refusalNumbers (Memory (runsWanted list))) numbers

@@ -38,7 +38,8 @@ use Rattle.quotebox.specs.Promises.{JudgedBatch, TookBatch}
 use Rattle.quotebox.specs.Start.{startRules, startedRows, rowsStarted, recordsCleared}
 use Rattle.quotebox.specs.State.{segmentRules}
 use Rattle.quotebox.specs.Refusals.{Rule, refusalNumbers}
-use Rattle.runs.specs.FrontLaws.{most, rows-within, rows-lent, state-front, letter-front, with-front}
+use Rattle.runs.specs.Rows.{most}
+use Rattle.runs.specs.FrontLaws.{rows-within, rows-lent, state-front, letter-front, with-front}
 
 told-as : (o : Option Refusal) (values : List ℕ) → o ≡ some ListOf → answered o values ≡ refusalNumbers ListOf
 told-as o values e = rw e

@@ -33,8 +33,8 @@ use Rattle.quotebox.specs.declared.answers.Judged.{Judged}
 use Rattle.quotebox.proofs.answers.Judged as J
 use Rattle.quotebox.proofs.answers.Judged.Laws as J′
 use Rattle.runs.specs.declared.run.Run.{Run}
-use Rattle.runs.specs.Rows.{blanks, over}
-use Rattle.runs.specs.LentLaws.{lent, array, judged-runs}
+use Rattle.runs.specs.Rows.{blanks, over, array, lent}
+use Rattle.runs.specs.LentLaws.{judged-runs}
 use Rattle.runs.specs.Promises.{JudgedRuns}
 use Rattle.runs.proofs.Walks.{R, Runs, Numbers, runs-makes, runs-typed, entry, meets-by, calls-for, gives, dies, CopyOut, copies-out}
 use Rattle.runs.proofs.copy.out.Symbol as out-def

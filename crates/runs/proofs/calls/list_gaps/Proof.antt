@@ -34,10 +34,9 @@ use Rattle.quotebox.specs.declared.answers.Listed.{Listed}
 use Rattle.quotebox.proofs.answers.Listed as J
 use Rattle.quotebox.proofs.answers.Listed.Laws as J′
 use Rattle.runs.specs.declared.run.Run.{Run}
-use Rattle.runs.specs.Rows.{blanks, over}
-use Rattle.runs.specs.LentLaws.{lent, array, listed-gaps}
+use Rattle.runs.specs.Rows.{blanks, over, array, lent}
+use Rattle.runs.specs.LentLaws.{listed-gaps}
 use Rattle.runs.specs.Promises.{ListedGaps}
-use Rattle.runs.specs.LentLaws.{lent, array}
 use Rattle.runs.proofs.Walks.{R, Runs, Numbers, runs-makes, runs-typed, entry, meets-by, calls-for, gives, reborrows, dies, CopyOut, copies-out}
 use Rattle.runs.proofs.copy.out.Symbol as out-def
 use Rattle.runs.proofs.copy.out.Symbol.{name as #runs·copy·out}

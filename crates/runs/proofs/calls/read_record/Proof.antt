@@ -40,10 +40,9 @@ use Rattle.quotebox.specs.declared.answers.Reading.{Reading}
 use Rattle.quotebox.proofs.answers.Reading as J
 use Rattle.quotebox.proofs.answers.Reading.Laws as J′
 use Rattle.runs.specs.declared.run.Run.{Run}
-use Rattle.runs.specs.Rows.{blanks, over}
-use Rattle.runs.specs.LentLaws.{lent, array, read-runs}
+use Rattle.runs.specs.Rows.{blanks, over, array, lent}
+use Rattle.runs.specs.LentLaws.{read-runs}
 use Rattle.runs.specs.Promises.{ReadRuns}
-use Rattle.runs.specs.LentLaws.{lent, array}
 use Rattle.runs.proofs.Walks.{R, Runs, Numbers, runs-makes, runs-typed, entry, meets-by, calls-for, gives, dies, CopyOut, copies-out}
 use Rattle.runs.proofs.copy.out.Symbol as out-def
 use Rattle.runs.proofs.copy.out.Symbol.{name as #runs·copy·out}

@@ -36,8 +36,8 @@ use Rattle.quotebox.proofs.answers.Started as J
 use Rattle.quotebox.proofs.answers.Started.Laws as J′
 use Rattle.runs.specs.declared.run.Run.{Run}
 use Rattle.runs.specs.declared.front.Began.{Began}
-use Rattle.runs.specs.Rows.{blanks, over}
-use Rattle.runs.specs.LentLaws.{lent, array, started-runs}
+use Rattle.runs.specs.Rows.{blanks, over, array, lent}
+use Rattle.runs.specs.LentLaws.{started-runs}
 use Rattle.runs.specs.Promises.{StartedRuns}
 use Rattle.runs.proofs.front.Began as T
 use Rattle.runs.proofs.front.Began.Laws as T′

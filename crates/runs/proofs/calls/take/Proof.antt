@@ -36,8 +36,8 @@ use Rattle.quotebox.proofs.answers.Judged as J
 use Rattle.quotebox.proofs.answers.Judged.Laws as J′
 use Rattle.runs.specs.declared.run.Run.{Run}
 use Rattle.runs.specs.declared.front.Took.{Took}
-use Rattle.runs.specs.Rows.{blanks, over}
-use Rattle.runs.specs.LentLaws.{lent, array, took-runs}
+use Rattle.runs.specs.Rows.{blanks, over, array, lent}
+use Rattle.runs.specs.LentLaws.{took-runs}
 use Rattle.runs.specs.Promises.{TookRuns}
 use Rattle.runs.proofs.front.Took as T
 use Rattle.runs.proofs.front.Took.Laws as T′

@@ -36,8 +36,8 @@ use Rattle.quotebox.proofs.answers.WrittenOff as J
 use Rattle.quotebox.proofs.answers.WrittenOff.Laws as J′
 use Rattle.runs.specs.declared.run.Run.{Run}
 use Rattle.runs.specs.declared.front.WroteOff.{WroteOff}
-use Rattle.runs.specs.Rows.{blanks, over}
-use Rattle.runs.specs.LentLaws.{lent, array, wrote-off-runs}
+use Rattle.runs.specs.Rows.{blanks, over, array, lent}
+use Rattle.runs.specs.LentLaws.{wrote-off-runs}
 use Rattle.runs.specs.Promises.{WroteOffRuns}
 use Rattle.runs.proofs.front.WroteOff as T
 use Rattle.runs.proofs.front.WroteOff.Laws as T′

@@ -8,10 +8,9 @@ use Rattle.laws.specs.Rules.{firstBroken}
 use Rattle.sequence.specs.Runs.{Run}
 use Rattle.quotebox.specs.declared.refusal.Refusal.{Refusal}
 use Rattle.quotebox.specs.declared.answers.WrittenOff.{WrittenOff}
-use Rattle.quotebox.specs.Batch.{Acted, batchActs, batchLetter, actedNumbers, rowsAfter, recordsAfter}
+use Rattle.quotebox.specs.Batch.{Acted, batchActs, batchLetter, answerOf, actedNumbers, rowsAfter, recordsAfter}
 use Rattle.quotebox.specs.Calls.{answered, leftBy, gapsOfLetter, listRules, listValues, runsPut, writeOffRules, runValues, lowestRun, rowsWrittenOff}
 use Rattle.quotebox.specs.Start.{rowsStarted, recordsCleared}
-use Rattle.quotebox.specs.TookLaws.{answerOf}
 use Rattle.history.specs.Past.{Event, afterTake, afterWriteOff}
 
 -- 01 "What may be asked": a batch taken, a write-off of a letter, a listing of a letter's gaps with cells lent

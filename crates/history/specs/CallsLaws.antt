@@ -11,13 +11,13 @@ use Rattle.quotebox.specs.declared.answers.Judged.{Judged}
 use Rattle.quotebox.specs.declared.answers.Listed.{Listed}
 use Rattle.quotebox.specs.declared.answers.WrittenOff.{WrittenOff}
 use Rattle.quotebox.specs.Answers.{judgedNumbers, listedNumbers, writtenOffNumbers}
-use Rattle.quotebox.specs.Batch.{batchActs}
+use Rattle.quotebox.specs.Batch.{batchActs, answerOf}
 use Rattle.quotebox.specs.Calls.{answered, gapsOfLetter, runValues, lowestRun}
 use Rattle.quotebox.specs.CallPromises.{ListedRuns, WroteOffRun}
 use Rattle.quotebox.specs.CallsLaws.{start-done}
 use Rattle.quotebox.specs.Promises.{TookBatch}
 use Rattle.quotebox.specs.Start.{startRules}
-use Rattle.quotebox.specs.TookLaws.{answerOf, answer-numbers}
+use Rattle.quotebox.specs.TookLaws.{answer-numbers}
 use Rattle.history.specs.Calls.{Call, Left, take, writeOff, listGaps, startLeaves, offBroken, offAnswer, leaves, allLeave, answers}
 use Rattle.history.specs.Histories.{Reached}
 use Rattle.history.specs.Histories as histories

@@ -29,8 +29,8 @@ use Rattle.quotebox.specs.RowsLaws.{length-with, row-put, behind-kept, r
 use Rattle.quotebox.specs.State.{segmentRules}
 use Rattle.quotebox.specs.GoodState.{GoodState}
 use Rattle.quotebox.specs.StateLaws.{state-held, letter-listed, row-there, row-sound}
-use Rattle.quotebox.specs.Start.{startOf, startRules, startedRow, startedRows, rowsStarted, recordsCleared}
-use Rattle.quotebox.specs.StartLaws.{GoodStart, start-exact, started-lengths, started-row}
+use Rattle.quotebox.specs.Start.{startOf, startRules, GoodStart, startedRow, startedRows, rowsStarted, recordsCleared}
+use Rattle.quotebox.specs.StartLaws.{start-exact, started-lengths, started-row}
 use Rattle.quotebox.specs.Calls.{answered, leftBy, gapsOfLetter, listRules, listValues, runsPut, writeOffRules, runValues, lowestRun, rowsWrittenOff}
 use Rattle.quotebox.specs.Record.{recordRules, recordOfKey, recordNumber, recordValues}
 use Rattle.quotebox.specs.RecordLaws.{is-some, record-listed}

@@ -10,7 +10,7 @@ use Rattle.quotebox.specs.declared.answers.Judged.{Judged}
 use Rattle.quotebox.specs.declared.answers.Judged.the-variants.{Accepted, Refused}
 use Rattle.quotebox.specs.declared.refusal.Refusal.{Refusal}
 use Rattle.quotebox.specs.Answers.{judgedNumbers}
-use Rattle.quotebox.specs.Batch.{Box, Acted, acted, refused, batchActs, batchLetter, countOf, actedNumbers, rowsAfter, recordsAfter}
+use Rattle.quotebox.specs.Batch.{Box, Acted, acted, refused, batchActs, batchLetter, countOf, answerOf, actedNumbers, rowsAfter, recordsAfter}
 use Rattle.quotebox.specs.BatchLaws.{accepted-box, refused-is}
 use Rattle.quotebox.specs.Good.{GoodBatch}
 use Rattle.quotebox.specs.GoodState.{GoodState}
@@ -20,11 +20,6 @@ use Rattle.quotebox.specs.Order.{allRules}
 use Rattle.quotebox.specs.OrderLaws.{accepted-exact, refused-exact}
 use Rattle.quotebox.specs.Promises.{JudgedBatch, TookBatch}
 use Rattle.quotebox.specs.AnswersLaws.{judged-told}
-
--- the answer of what a batch does
-abbrev pub answerOf : Acted → Judged
-answerOf (acted box) = Accepted (box .taken) (box .old) (box .heartbeats)
-answerOf (refused refusal) = Refused refusal
 
 pub answer-numbers : (a : Acted) → judgedNumbers (answerOf a) ≡ actedNumbers a
 answer-numbers (acted box) = refl

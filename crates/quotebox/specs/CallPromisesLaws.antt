@@ -22,18 +22,15 @@ use Rattle.quotebox.specs.declared.refusal.Refusal.{Refusal}
 use Rattle.quotebox.specs.declared.answers.Started.{Started}
 use Rattle.quotebox.specs.declared.answers.Listed.{Listed}
 use Rattle.quotebox.specs.declared.answers.WrittenOff.{WrittenOff}
-use Rattle.quotebox.specs.declared.answers.Recorded.{Recorded}
 use Rattle.quotebox.specs.declared.answers.Reading.{Reading}
 use Rattle.quotebox.specs.Memory.{rowCells, rowsWanted, recordsWanted, rowOf, withRow, recordAt}
 use Rattle.quotebox.specs.RowsLaws.{length-with, row-put, behind-kept, row-kept, sound-with}
 use Rattle.quotebox.specs.State.{segmentRules}
 use Rattle.quotebox.specs.GoodState.{GoodState}
-use Rattle.quotebox.specs.StateLaws.{state-held, letter-listed, row-there, row-sound}
+use Rattle.quotebox.specs.StateLaws.{is-some, state-held, letter-listed, row-there, row-sound}
 use Rattle.quotebox.specs.Start.{startOf, startRules, GoodStart, startedRow, startedRows, rowsStarted, recordsCleared}
 use Rattle.quotebox.specs.StartLaws.{start-exact, started-lengths, started-row}
-use Rattle.quotebox.specs.Calls.{answered, leftBy, gapsOfLetter, listRules, listValues, runsPut, writeOffRules, runValues, lowestRun, rowsWrittenOff}
-use Rattle.quotebox.specs.Record.{recordRules, recordOfKey, recordNumber, recordValues}
-use Rattle.quotebox.specs.RecordLaws.{is-some, record-listed}
+use Rattle.quotebox.specs.Calls.{leftBy, gapsOfLetter, listRules, listValues, runsPut, writeOffRules, runValues, lowestRun, rowsWrittenOff}
 use Rattle.quotebox.specs.CallsLaws.{off-left}
 use Rattle.quotebox.specs.CallPromises.{StartedBox, ListedRuns, WroteOffRun, ReadRecord}
 use Rattle.quotebox.specs.AnswersLaws.{started-told, listed-told, written-off-told, recorded-told, refused-by, accepted-by}
@@ -142,15 +139,6 @@ module _ {list starts rows records rows′ records′ : List ℕ} (p : StartedBo
   pub no-records : (contract : ℕ) (level : Level) → contract < contractsOf list → getD records′ (recordAt contract level) 0 ≡ 0
   no-records contract One h = records-cleared (recordAt contract One) (omega arith)
   no-records contract Two h = records-cleared (recordAt contract Two) (omega arith)
-
-  -- so a record that is asked for then is none
-  pub start-reads-none : (letter : ℕ) (key : List ℕ) (level : Level) (reading : Reading) → ReadRecord list rows′ records′ letter key level reading
-      → firstBroken (recordRules list rows′ records′ letter key) ≡ none → reading .answer ≡ Recorded.NoRecord
-  start-reads-none letter key level reading q e =
-      let at : ℕ = recordOfKey list letter key level in
-      let cleared : recordNumber records′ at ≡ 0 = records-cleared at (record-listed list rows′ records′ letter key e level) in
-      recorded-told (reading .answer) Recorded.NoRecord
-      (q .answers ∙ ap (λ (o : Option Refusal). answered o (recordValues (recordNumber records′ at))) e ∙ ap (λ (n : ℕ). 0 ∷ recordValues n) cleared)
 
 -- ---- an accepted listing
 

@@ -1,10 +1,10 @@
 -- Laws of the state: the cells wanted, when its checks refuse nothing, and what a good state gives.
 use Prim.Native.Nat.{ℕ, _+_, _*_, _≤_, _<_}
-use mathlib.Core.Path.{_≡_, ap, sym, _∙_}
-use mathlib.Core.Bool.{true, false}
+use mathlib.Core.Path.{_≡_, refl, ap, sym, _∙_}
+use mathlib.Core.Bool.{true, false, true≢false}
 use mathlib.Core.Logic.{_↔_}
 use mathlib.Core.List.{List, [], _∷_, _++_}
-use mathlib.Core.Option.{none, some}
+use mathlib.Core.Option.{Option, none, some}
 use native.Mathlib.Omega.{arith}
 use borrow.Author.Tests.{le-leb, leb-true}
 use lib.ListN.{length}
@@ -48,6 +48,10 @@ module _ (list other : List ℕ) (segments : segmentsOf list ≡ segmentsOf othe
 -- 15 in its two places
 pub memory-lent : (list : List ℕ) (rows records : ℕ) → Hold (memoryRules list rows records) → (rowsWanted list ≤ rows) × (recordsWanted list ≤ records)
 memory-lent list rows records h = (leb-true (rowsWanted list) rows (h .0), leb-true (recordsWanted list) records (h .1 .0))
+
+pub is-some : (o : Option ℕ) → isSome o ≡ true → (i : ℕ) × (o ≡ some i)
+is-some none e = absurd (true≢false (sym e))
+is-some (some i) e = (i, refl)
 
 module _ (list rows records : List ℕ) where
   abbrev soundness : Rule

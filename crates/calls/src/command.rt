@@ -4,6 +4,7 @@ ghost use lib.ListN.{length};
 ghost use Rattle.console.specs.Desk.{Fits};
 ghost use Rattle.calls.specs.Command.{Ready};
 use console::Desk;
+use layout::Level;
 
 const MOST_BATCH: usize = 40000;
 
@@ -36,8 +37,8 @@ pub fn rows_of(level: u8) -> usize
     ensures { λ r. ⌜ r ≤ 32 ⌝ }
 {
     match level {
-        b'1' => 14,
-        b'2' => 32,
+        b'1' => quotebox::record_rows(Level::One),
+        b'2' => quotebox::record_rows(Level::Two),
         _ => 0,
     }
 }

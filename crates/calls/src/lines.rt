@@ -3,10 +3,8 @@ ghost use Prim.Native.Nat.{_+_, _≤_};
 ghost use lib.ListN.{length};
 use console::put;
 use console::put_with;
+use quotebox::KEY_ROWS;
 use quotebox::Refusal;
-
-// The rows of the key, which are not printed, stand before the others.
-pub const KEY_ROWS: usize = 5;
 
 // `NAME refused`, the number, message, row and cells wanted.
 pub fn put_refused(page: &mut [u8], used: usize, name: &[u8], refusal: Refusal) -> usize

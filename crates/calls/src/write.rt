@@ -8,6 +8,7 @@ use crate::record;
 use layout::Level;
 use layout::Quote;
 use quotebox::Code;
+use quotebox::KEY_ROWS;
 use quotebox::Written;
 
 // The cells of so many rows from the market type on.
@@ -17,7 +18,7 @@ fn cells_in(bytes: &[u8], rows: usize) -> [u64; 37]
     let mut cells = [0u64; 37];
     let mut i = 0;
     while i < rows {
-        cells[lines::KEY_ROWS + i] = wire::u64_at(bytes, command::WRITE_FRONT + 8 * i);
+        cells[KEY_ROWS + i] = wire::u64_at(bytes, command::WRITE_FRONT + 8 * i);
         i += 1;
     }
     cells

@@ -9,11 +9,10 @@ use Rattle.layout.specs.declared.rows.Level.{Level}
 use Rattle.sequence.specs.Runs.{Run}
 use Rattle.quotebox.specs.declared.refusal.Refusal.{Refusal}
 use Rattle.quotebox.specs.declared.answers.WrittenOff.{WrittenOff}
-use Rattle.quotebox.specs.Batch.{Acted, batchActs, batchLetter, actedNumbers, rowsAfter, recordsAfter}
+use Rattle.quotebox.specs.Batch.{Acted, batchActs, batchLetter, answerOf, actedNumbers, rowsAfter, recordsAfter}
 use Rattle.quotebox.specs.Calls.{answered, leftBy, gapsOfLetter, listRules, listValues, runsPut, writeOffRules, runValues, lowestRun, rowsWrittenOff}
 use Rattle.quotebox.specs.Record.{recordRules, recordOfKey, recordNumber, recordValues}
 use Rattle.quotebox.specs.Start.{rowsStarted, recordsCleared}
-use Rattle.quotebox.specs.TookLaws.{answerOf}
 use Rattle.history.specs.Past.{Event, afterTake, afterWriteOff}
 use Rattle.history.specs.Histories.{Reached}
 

@@ -37,12 +37,11 @@ use Rattle.quotebox.specs.Calls.{gapsOfLetter, writeOffRules, runValues, lowest
 use Rattle.quotebox.specs.GoodState.{GoodState}
 use Rattle.quotebox.specs.Memory.{rowCells, rowOf, withRow}
 use Rattle.quotebox.specs.Promises.{TookBatch}
-use Rattle.quotebox.specs.RecordLaws.{is-some}
 use Rattle.quotebox.specs.RowsLaws.{row-put, row-kept}
 use Rattle.quotebox.specs.ScratchLaws.{none-accepted}
 use Rattle.quotebox.specs.Start.{startOf}
 use Rattle.quotebox.specs.State.{segmentRules}
-use Rattle.quotebox.specs.StateLaws.{letter-listed}
+use Rattle.quotebox.specs.StateLaws.{is-some, letter-listed}
 use Rattle.quotebox.specs.TookLaws.{refused-keeps, state-good}
 use Rattle.history.specs.Past.{Event, came, off, allCame, batchMessages, takenOf, wroteOffIn, afterTake, afterWriteOff}
 use Rattle.history.specs.Segment.{Fits}

@@ -3,26 +3,15 @@ ghost use mathlib.Core.Path.{_≡_};
 ghost use Prim.Native.Nat.{_+_, _≤_};
 ghost use lib.ListN.{length, take, drop};
 ghost use lib.Seq.{sets};
-ghost use Rattle.quotebox.specs.Record.{recordRows};
 ghost use Rattle.host.specs.Values.{valuesOf, valuesAfter, quoteIn};
 use layout::Level;
 use layout::Quote;
+use quotebox::KEY_ROWS;
 use quotebox::Recorded;
-
-// The rows of an update's key, which no value holds.
-const KEY_ROWS: usize = 5;
+use quotebox::record_rows;
 
 // Where the values of the rows begin, behind the number.
 const FIRST: usize = 1;
-
-fn record_rows(level: Level) -> usize
-    ensures { λ r. ⌜ r ≡ recordRows level ⌝ }
-{
-    match level {
-        Level::One => 14,
-        Level::Two => 32,
-    }
-}
 
 fn copy(from: &[u64], first: usize, to: &mut [u64], at: usize, count: usize)
     requires { ⌜ (first + count ≤ length (now from)) × (at + count ≤ length (now to)) ⌝ }

@@ -18,6 +18,8 @@ use Rattle.message.specs.declared.body.What.{What}
 use Rattle.message.specs.declared.body.What.the-variants.{Heartbeat, PassedOver, Update, Bad}
 use Rattle.message.specs.Fields.{letterOf, lengthOf}
 use Rattle.message.specs.Message.{messageOf}
+use Rattle.quotebox.specs.declared.answers.Judged.{Judged}
+use Rattle.quotebox.specs.declared.answers.Judged.the-variants.{Accepted, Refused}
 use Rattle.quotebox.specs.declared.refusal.Refusal.{Refusal}
 use Rattle.quotebox.specs.declared.refusal.Refusal.the-variants.{Size, Packed, Flag, Count, Gaps}
 use Rattle.quotebox.specs.Refusals.{Rule, refusalNumbers, ofFault}
@@ -171,6 +173,11 @@ unfoldable pub batchActs : List ℕ → List ℕ → List ℕ → List ℕ → A
 batchActs list rows records batch =
     unlessBroken (firstBroken (stateRules list rows records ++ batchRules batch))
     (messagesAct (countOf batch) list (batchLetter batch) 0 (boxOf list (batchLetter batch) rows records) (dataOf batch))
+
+-- 01 "What may be asked": the answer of what a batch does
+abbrev pub answerOf : Acted → Judged
+answerOf (acted box) = Accepted (box .taken) (box .old) (box .heartbeats)
+answerOf (refused refusal) = Refused refusal
 
 -- 01 "What may be asked": an accepted batch answers how many messages were taken, old and heartbeats
 abbrev pub actedNumbers : Acted → List ℕ

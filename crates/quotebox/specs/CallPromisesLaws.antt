@@ -11,6 +11,7 @@ use Rattle.laws.specs.Rules.{firstBroken}
 use Rattle.laws.specs.RulesLaws.{last-held}
 use Rattle.contracts.specs.File.{segmentsOf, contractsOf}
 use Rattle.contracts.specs.Lookup.{segmentOf}
+use Rattle.contracts.specs.LookupLaws.{segment-has}
 use Rattle.layout.specs.declared.rows.Level.{Level}
 use Rattle.layout.specs.declared.rows.Level.the-variants.{One, Two}
 use Rattle.sequence.specs.Gaps.{Gaps, wanted, begun, wroteOff}
@@ -21,18 +22,15 @@ use Rattle.quotebox.specs.declared.refusal.Refusal.{Refusal}
 use Rattle.quotebox.specs.declared.answers.Started.{Started}
 use Rattle.quotebox.specs.declared.answers.Listed.{Listed}
 use Rattle.quotebox.specs.declared.answers.WrittenOff.{WrittenOff}
-use Rattle.quotebox.specs.declared.answers.Recorded.{Recorded}
 use Rattle.quotebox.specs.declared.answers.Reading.{Reading}
 use Rattle.quotebox.specs.Memory.{rowCells, rowsWanted, recordsWanted, rowOf, withRow, recordAt}
-use Rattle.quotebox.specs.RowsLaws.{length-with, row-put, row-kept, sound-with}
+use Rattle.quotebox.specs.RowsLaws.{length-with, row-put, behind-kept, row-kept, sound-with}
 use Rattle.quotebox.specs.State.{segmentRules}
 use Rattle.quotebox.specs.GoodState.{GoodState}
-use Rattle.quotebox.specs.StateLaws.{state-held, row-there, row-sound}
-use Rattle.quotebox.specs.Start.{startOf, startRules, startedRow, startedRows, rowsStarted, recordsCleared}
-use Rattle.quotebox.specs.StartLaws.{GoodStart, start-exact, started-lengths, started-row}
-use Rattle.quotebox.specs.Calls.{answered, leftBy, gapsOfLetter, listRules, listValues, runsPut, writeOffRules, runValues, lowestRun, rowsWrittenOff}
-use Rattle.quotebox.specs.Record.{recordRules, recordOfKey, recordNumber, recordValues}
-use Rattle.quotebox.specs.RecordLaws.{record-listed}
+use Rattle.quotebox.specs.StateLaws.{is-some, state-held, letter-listed, row-there, row-sound}
+use Rattle.quotebox.specs.Start.{startOf, startRules, GoodStart, startedRow, startedRows, rowsStarted, recordsCleared}
+use Rattle.quotebox.specs.StartLaws.{start-exact, started-lengths, started-row}
+use Rattle.quotebox.specs.Calls.{leftBy, gapsOfLetter, listRules, listValues, runsPut, writeOffRules, runValues, lowestRun, rowsWrittenOff}
 use Rattle.quotebox.specs.CallsLaws.{off-left}
 use Rattle.quotebox.specs.CallPromises.{StartedBox, ListedRuns, WroteOffRun, ReadRecord}
 use Rattle.quotebox.specs.AnswersLaws.{started-told, listed-told, written-off-told, recorded-told, refused-by, accepted-by}
@@ -142,15 +140,6 @@ module _ {list starts rows records rows′ records′ : List ℕ} (p : StartedBo
   no-records contract One h = records-cleared (recordAt contract One) (omega arith)
   no-records contract Two h = records-cleared (recordAt contract Two) (omega arith)
 
-  -- so a record that is asked for then is none
-  pub start-reads-none : (letter : ℕ) (key : List ℕ) (level : Level) (reading : Reading) → ReadRecord list rows′ records′ letter key level reading
-      → firstBroken (recordRules list rows′ records′ letter key) ≡ none → reading .answer ≡ Recorded.NoRecord
-  start-reads-none letter key level reading q e =
-      let at : ℕ = recordOfKey list letter key level in
-      let cleared : recordNumber records′ at ≡ 0 = records-cleared at (record-listed list rows′ records′ letter key e level) in
-      recorded-told (reading .answer) Recorded.NoRecord
-      (q .answers ∙ ap (λ (o : Option Refusal). answered o (recordValues (recordNumber records′ at))) e ∙ ap (λ (n : ℕ). 0 ∷ recordValues n) cleared)
-
 -- ---- an accepted listing
 
 module _ {list rows records cells cells′ : List ℕ} {letter : ℕ} (highest runs : ℕ) (p : ListedRuns list rows records letter cells (Listed.Runs highest runs) cells′) where
@@ -234,3 +223,26 @@ module _ {list rows records rows′ : List ℕ} {letter : ℕ} (first last : ℕ
           rows-sound = λ j h.
               ap (λ (ns : List ℕ). soundRow (rowOf ns j)) off-rows ∙ sound-with rows i off room off-wide (segmentsOf list) (good .rows-sound) off-sound j h;
         }
+
+-- ---- no call writes past the cells wanted for state
+
+pub start-nothing-behind : {list starts rows records rows′ records′ : List ℕ} (answer : Started) → StartedBox list starts rows records answer rows′ records′
+    → (drop (rowsWanted list) rows′ ≡ drop (rowsWanted list) rows) × (drop (recordsWanted list) records′ ≡ drop (recordsWanted list) records)
+start-nothing-behind {list} (Started.Refused r) p =
+    let kept = start-refusal r p in
+    (ap (drop (rowsWanted list)) (kept .1), ap (drop (recordsWanted list)) (kept .2))
+start-nothing-behind {list} {starts} Started.Started p = (
+  ap (drop (rowsWanted list)) (rows-are p) ∙ drop-at (startedRows (segmentsOf list) starts) _ (rowsWanted list) (started-lengths starts (segmentsOf list)),
+  ap (drop (recordsWanted list)) (records-are p) ∙ drop-at (replicate (recordsWanted list) 0) _ (recordsWanted list) (length-replicate (recordsWanted list) 0),
+)
+
+-- a write-off, whose records are not lent to be written
+pub off-nothing-behind : {list rows records rows′ : List ℕ} {letter : ℕ} (answer : WrittenOff) → WroteOffRun list rows records letter answer rows′
+    → drop (rowsWanted list) rows′ ≡ drop (rowsWanted list) rows
+off-nothing-behind {list} (WrittenOff.Refused r) p = ap (drop (rowsWanted list)) (off-refusal r p .1)
+off-nothing-behind {list} {rows} {records} {letter = letter} (WrittenOff.Removed first last) p =
+    let segment = is-some (segmentOf list letter) (letter-listed list rows records letter (segment-held first last p)) in
+    let i : ℕ = segment .0 in
+    let s = segment .1 in
+    ap (drop (rowsWanted list)) (off-rows first last p i s)
+    ∙ behind-kept rows i (off first last p i s) (room first last p i s) (off-wide first last p i s) (rowsWanted list) (omega (arith, segment-has list letter i s .0))

@@ -24,18 +24,18 @@ use Rattle.quotebox.specs.Batch.{Box, acted, messageActs, messagesAct, b
 use Rattle.quotebox.specs.BatchLaws.{good-state, good-front, messages-accepted}
 use Rattle.quotebox.specs.Good.{gapsAfter}
 use Rattle.quotebox.specs.GoodState.{GoodState}
-use Rattle.quotebox.specs.Memory.{rowCells}
-use Rattle.quotebox.specs.RowsLaws.{length-with, sound-with}
+use Rattle.quotebox.specs.Memory.{rowCells, rowsWanted, recordsWanted}
+use Rattle.quotebox.specs.RowsLaws.{length-with, behind-kept, sound-with}
 use Rattle.quotebox.specs.MessagesLaws.{not-both, messages-next, messages-refused, messages-end, messages-over}
 use Rattle.quotebox.specs.ScratchLaws.{none-accepted}
-use Rattle.quotebox.specs.StepLaws.{messagesIn, Went, Fell, good-goes}
+use Rattle.quotebox.specs.StepLaws.{messagesIn, KeptBehind, all-kept, Went, Fell, good-goes}
 
 -- ---- the box
 
-pub record Leaves (count : ℕ) (before after : Box) : Type 0 where
+pub record Leaves (wanted count : ℕ) (before after : Box) : Type 0 where
   pub sound : soundRow (after .row) ≡ true
   pub counts : messagesIn after ≡ messagesIn before + count
-  pub records-kept : length (after .records) ≡ length (before .records)
+  pub records-kept : KeptBehind wanted (before .records) (after .records)
 
 module _ (list : List ℕ) (letter : ℕ) where
   pub last-box : (i : ℕ) (box : Box) (bytes : List ℕ) (final : Box) → messagesAct 0 list letter i box bytes ≡ acted final → box ≡ final
@@ -45,25 +45,33 @@ module _ (list : List ℕ) (letter : ℕ) where
       (order (length bytes) 0)
 
   pub messages-leave : (count i : ℕ) (box : Box) (bytes : List ℕ) (final : Box) → soundRow (box .row) ≡ true
-      → messagesAct count list letter i box bytes ≡ acted final → Leaves count box final
+      → messagesAct count list letter i box bytes ≡ acted final → Leaves (recordsWanted list) count box final
   messages-leave zero i box bytes final s e =
-      rw (← last-box i box bytes final e) (record { sound = s; counts = omega arith; records-kept = refl })
+      rw (← last-box i box bytes final e) (record { sound = s; counts = omega arith; records-kept = all-kept (recordsWanted list) (box .records) })
   messages-leave (suc more) i box bytes final s e =
       go (λ box′ sound f. messages-leave more (suc i) box′ (drop (lengthOf bytes) bytes) final sound f) (messageOf list letter bytes .what) refl
     where
       Behind : Type 0
-      Behind = (box′ : Box) → soundRow (box′ .row) ≡ true → messagesAct more list letter (suc i) box′ (drop (lengthOf bytes) bytes) ≡ acted final → Leaves more box′ final
+      Behind = (box′ : Box) → soundRow (box′ .row) ≡ true → messagesAct more list letter (suc i) box′ (drop (lengthOf bytes) bytes) ≡ acted final → Leaves (recordsWanted list) more box′ final
 
-      good : Behind → verdictOf (messageOf list letter bytes .what) ≡ Good → Leaves (suc more) box final
+      good : Behind → verdictOf (messageOf list letter bytes .what) ≡ Good → Leaves (recordsWanted list) (suc more) box final
       good rest g =
-          ⊎-elim (λ (d : Went box (messageActs list letter box i bytes) (gapsAfter (gapsOf (box .row)) bytes)).
+          ⊎-elim (λ (d : Went (recordsWanted list) box (messageActs list letter box i bytes) (gapsAfter (gapsOf (box .row)) bytes)).
           let l = rest (d .box) (d .sound) (sym (messages-next list letter more i box bytes (d .box) (d .acts)) ∙ e) in
-          record { sound = l .sound; counts = omega (arith, l .counts, d .counts); records-kept = l .records-kept ∙ d .records-kept })
+          record {
+            sound = l .sound;
+            counts = omega (arith, l .counts, d .counts);
+            records-kept =
+                record {
+                  as-many = l .records-kept .as-many ∙ d .records-kept .as-many;
+                  behind = l .records-kept .behind ∙ d .records-kept .behind;
+                };
+          })
           (λ (d : Fell i (messageActs list letter box i bytes) (gapsAfter (gapsOf (box .row)) bytes)).
           absurd (not-both (sym (messages-refused list letter more i box bytes _ (d .refuses)) ∙ e)))
           (good-goes list letter box i bytes g s)
 
-      go : Behind → (w : What) → messageOf list letter bytes .what ≡ w → Leaves (suc more) box final
+      go : Behind → (w : What) → messageOf list letter bytes .what ≡ w → Leaves (recordsWanted list) (suc more) box final
       go rest (what.Bad fault) f =
           absurd (not-both (sym (messages-refused list letter more i box bytes _ (acts-as list letter bytes (messageOf list letter bytes) refl f box i)) ∙ e))
       go rest what.Heartbeat f = good rest (ap verdictOf f)
@@ -87,7 +95,7 @@ module _ (list rows records batch : List ℕ) (box : Box) (accepted : batchActs 
           absurd (none-accepted list letter e (countOf batch) (dataOf batch) (boxOf list letter rows records) box (good-front list rows records batch box accepted .some-messages) (messages-accepted list rows records batch box accepted))
       go (some segment) e = (segment, e)
 
-  leaves : Leaves (countOf batch) (boxOf list letter rows records) box
+  leaves : Leaves (recordsWanted list) (countOf batch) (boxOf list letter rows records) box
   leaves =
       let l = is-listed in
       messages-leave list letter (countOf batch) 0 (boxOf list letter rows records) (dataOf batch) box
@@ -98,18 +106,33 @@ module _ (list rows records batch : List ℕ) (box : Box) (accepted : batchActs 
   pub all-counted : box .taken + box .old + box .heartbeats ≡ countOf batch
   all-counted = omega (arith, leaves .counts)
 
+  inside : rowCells * is-listed .0 + rowCells ≤ rowsWanted list
+  inside = omega (arith, segment-has list letter (is-listed .0) (is-listed .1) .0)
+
+  room : rowCells * is-listed .0 + rowCells ≤ length rows
+  room = omega (arith, inside, state .rows-lent)
+
+  wide : length (box .row) ≡ rowCells
+  wide = sound-row-exactly (box .row) .0 (leaves .sound) .0
+
+  -- behind the cells wanted all are as they were
+  pub behind-left : (drop (rowsWanted list) (rowsAfter list letter rows (acted box)) ≡ drop (rowsWanted list) rows)
+      × (drop (recordsWanted list) (recordsAfter records (acted box)) ≡ drop (recordsWanted list) records)
+  behind-left = (
+    ap (λ (o : Option ℕ). drop (rowsWanted list) (withRowIn rows (box .row) o)) (is-listed .1)
+        ∙ behind-kept rows (is-listed .0) (box .row) room wide (rowsWanted list) inside,
+    leaves .records-kept .behind,
+  )
+
   -- what it leaves passes 15, 16 and 18 again
   pub state-left : GoodState list (rowsAfter list letter rows (acted box)) (recordsAfter records (acted box))
   state-left =
       let l = is-listed in
-      let there = segment-has list letter (l .0) (l .1) .0 in
-      let inside : rowCells * l .0 + rowCells ≤ length rows = omega (arith, there, state .rows-lent) in
-      let wide = sound-row-exactly (box .row) .0 (leaves .sound) .0 in
-      let long = length-with rows (l .0) (box .row) inside wide in
+      let long = length-with rows (l .0) (box .row) room wide in
       rw (ap (withRowIn rows (box .row)) (l .1))
       (record {
         header = state .header;
         rows-lent = omega (arith, state .rows-lent, long);
-        records-lent = omega (arith, state .records-lent, leaves .records-kept);
-        rows-sound = sound-with rows (l .0) (box .row) inside wide (segmentsOf list) (state .rows-sound) (leaves .sound);
+        records-lent = omega (arith, state .records-lent, leaves .records-kept .as-many);
+        rows-sound = sound-with rows (l .0) (box .row) room wide (segmentsOf list) (state .rows-sound) (leaves .sound);
       })

@@ -9,13 +9,13 @@ use Rattle.layout.specs.declared.rows.Level.the-variants.{One, Two}
 use Rattle.contracts.specs.Below.{allBelow}
 use Rattle.contracts.specs.File.{segmentsOf, contractsOf}
 use Rattle.contracts.specs.Sound.{headerSound}
-use Rattle.sequence.specs.Row.{soundRow}
+use Rattle.sequence.specs.Row.{cells, soundRow}
 use Rattle.quotebox.specs.declared.refusal.Refusal.the-variants.{Memory, List as ListOf, State}
 use Rattle.quotebox.specs.Refusals.{Rule}
 
 -- lent memory: the cells of a gap row
 abbrev pub rowCells : ℕ
-rowCells = 132
+rowCells = cells
 
 -- lent memory: the cells of a contract's two records
 abbrev pub recordCells : ℕ

@@ -35,7 +35,7 @@ use Rattle.quotebox.specs.BatchLaws.{inTurn}
 use Rattle.quotebox.specs.Good.{gapsAfter, GoodMessages, GoodBatch}
 use Rattle.quotebox.specs.GoodLaws.{front-exact}
 use Rattle.quotebox.specs.StateLaws.{state-exact}
-use Rattle.quotebox.specs.Memory.{stateRules}
+use Rattle.quotebox.specs.Memory.{recordsWanted, stateRules}
 use Rattle.quotebox.specs.MessagesLaws.{messages-next, messages-refused}
 use Rattle.quotebox.specs.Order.{asRules, messagesRules, allRules, refusalOf}
 use Rattle.quotebox.specs.Refusals.{Rule, ofFault}
@@ -110,7 +110,7 @@ module _ (list : List ℕ) (letter : ℕ) where
       good : Behind → (w : What) → messageOf list letter bytes .what ≡ w → verdictOf w ≡ Good → Decided
       good rest w e g =
           let holds = front-holds (own more i gaps bytes) (behind more i gaps bytes) (none-hold (own more i gaps bytes) (own-first more i gaps bytes w e ∙ ap (asOption i) g)) in
-          ⊎-elim (λ (d : Went box (messageActs list letter box i bytes) (gapsAfter (gapsOf (box .row)) bytes)).
+          ⊎-elim (λ (d : Went (recordsWanted list) box (messageActs list letter box i bytes) (gapsAfter (gapsOf (box .row)) bytes)).
           ap refusalOf (messages-next list letter more i box bytes (d .box) (d .acts))
           ∙ rest (d .box) (d .sound)
           ∙ ap (λ (gaps : Gaps). firstBroken (messagesRules more list letter (suc i) gaps (drop (lengthOf bytes) bytes))) (d .gaps-are)

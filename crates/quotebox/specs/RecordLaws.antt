@@ -2,13 +2,12 @@
 use Prim.Native.Nat.{ℕ, _+_, _-_, _*_, _≤_, _<_}
 use mathlib.Core.Path.{_≡_, refl, ap, sym, _∙_}
 use mathlib.Core.List.{List, [], _∷_, _++_}
-use mathlib.Core.Bool.{true, true≢false}
 use mathlib.Core.Option.{Option, none, some}
 use native.Mathlib.Omega.{arith}
 use lib.ListN.{length, take, drop, replicate, length-drop}
 use lib.Seq.{paste, length-take-le}
 use Rattle.laws.specs.Rules.{firstBroken}
-use Rattle.laws.specs.RulesLaws.{front-broken, last-holds, last-broken, last-held}
+use Rattle.laws.specs.RulesLaws.{front-broken, last-holds, last-broken}
 use Rattle.contracts.specs.File.{contractsBefore, contractsOf}
 use Rattle.contracts.specs.FileLaws.{before-reaches}
 use Rattle.contracts.specs.HeaderLaws.{contracts-few}
@@ -23,9 +22,9 @@ use Rattle.quotebox.specs.Batch.{contractIn}
 use Rattle.quotebox.specs.declared.refusal.Refusal.{Refusal}
 use Rattle.quotebox.specs.declared.refusal.Refusal.the-variants.{Contract}
 use Rattle.quotebox.specs.Refusals.{Rule}
-use Rattle.quotebox.specs.Memory.{recordCells, recordsWanted, recordAt}
+use Rattle.quotebox.specs.Memory.{recordCells, recordAt}
 use Rattle.quotebox.specs.State.{segmentRules}
-use Rattle.quotebox.specs.StateLaws.{state-held, letter-listed}
+use Rattle.quotebox.specs.StateLaws.{state-held}
 use Rattle.quotebox.specs.Record.{recordRules, recordRows, placeAt, recordOfKey, cellsAt}
 
 pub rows-few : (level : Level) → recordRows level ≤ 32
@@ -62,10 +61,6 @@ cells-copied records at level h =
     ap (λ (zeros : List ℕ). front ++ zeros) (zeros-behind level ∙ ap (λ (n : ℕ). replicate (37 - n) 0) long)
 
 -- ---- the rules
-
-pub is-some : (o : Option ℕ) → isSome o ≡ true → (i : ℕ) × (o ≡ some i)
-is-some none e = absurd (true≢false (sym e))
-is-some (some i) e = (i, refl)
 
 module _ (list rows records : List ℕ) (letter : ℕ) (key : List ℕ) where
   abbrev listed : Rule
@@ -108,14 +103,3 @@ module _ (list rows records : List ℕ) (letter : ℕ) (key : List ℕ) where
           let lent = state-held list rows records letter e .records-lent in
           let inside = contract-inside in
           omega (arith, record-inside (contractsBefore list i + place) level)
-
-  -- where no rule is broken the record is one of a listed contract's
-  pub record-listed : firstBroken (recordRules list rows records letter key) ≡ none → (level : Level) → recordOfKey list letter key level < recordsWanted list
-  unfolding recordRules
-  record-listed e level =
-      let own = last-held (segmentRules list rows records letter) listed e in
-      let segment = is-some (segmentOf list letter) (letter-listed list rows records letter (own .0)) in
-      let place = is-some (placeIn list (segment .0) key) (ap isSome (sym (key-place (own .0) (segment .0) (segment .1))) ∙ own .1) in
-      let inside = contract-inside (own .0) (segment .0) (segment .1) (place .0) (place .1) in
-      let few = record-inside (contractsBefore list (segment .0) + place .0) level in
-      rw (← record-found (own .0) (segment .0) (segment .1) (place .0) (place .1) level) (omega arith)

@@ -51,19 +51,22 @@ module _ (rows : List ℕ) (i : ℕ) (row : List ℕ) (room : rowCells * i + row
       ∙ take-append-le rowCells (drop (rowCells * j) l) rest (omega arith)
       ∙ part-of-front (rowCells * j) rowCells (rowCells * i) rows inside
 
-  higher-row : (j : ℕ) → i < j → rowOf (withRow rows i row) j ≡ rowOf rows j
-  higher-row j h =
+  -- all that stands behind it is as it was
+  pub behind-kept : (at : ℕ) → rowCells * i + rowCells ≤ at → drop at (withRow rows i row) ≡ drop at rows
+  behind-kept at h =
       let l : List ℕ = take (rowCells * i) rows ++ row in
       let end : ℕ = rowCells * i + rowCells in
-      let more : ℕ = rowCells * j - end in
+      let more : ℕ = at - end in
       let long : length l ≡ end = simp (length-append, front, wide) in
-      let there : rowCells * j ≡ length l + more = omega arith in
-      let again : end + more ≡ rowCells * j = omega arith in
-      ap (take rowCells)
-      (ap (λ (k : ℕ). drop k (withRow rows i row)) there
+      let there : at ≡ length l + more = omega arith in
+      let again : end + more ≡ at = omega arith in
+      ap (λ (k : ℕ). drop k (withRow rows i row)) there
       ∙ drop-append-add l (drop end rows) more
       ∙ drop-drop more end rows
-      ∙ ap (λ (k : ℕ). drop k rows) again)
+      ∙ ap (λ (k : ℕ). drop k rows) again
+
+  higher-row : (j : ℕ) → i < j → rowOf (withRow rows i row) j ≡ rowOf rows j
+  higher-row j h = ap (take rowCells) (behind-kept (rowCells * j) (omega arith))
 
   -- every other row is as it was
   pub row-kept : (j : ℕ) → (j ≡ i → ⊥) → rowOf (withRow rows i row) j ≡ rowOf rows j

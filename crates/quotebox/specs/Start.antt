@@ -1,12 +1,12 @@
 -- A start: 01 "Sequence and gaps", and its order of checks: 16, 10, 15.
-use Prim.Native.Nat.{ℕ, zero, suc}
+use Prim.Native.Nat.{ℕ, zero, suc, _≤_, _<_}
 use mathlib.Core.Bool.{Bool}
 use mathlib.Core.List.{List, [], _∷_, _++_}
 use lib.Dec.{ltb}
 use lib.ListN.{getD, drop, replicate}
 use Rattle.contracts.specs.Below.{allBelow}
 use Rattle.contracts.specs.File.{segmentsOf}
-use Rattle.contracts.specs.Sound.{sound}
+use Rattle.contracts.specs.Sound.{Sound, sound}
 use Rattle.sequence.specs.Gaps.{begun}
 use Rattle.sequence.specs.Row.{laid}
 use Rattle.quotebox.specs.declared.refusal.Refusal.the-variants.{Numbering, List as ListOf}
@@ -27,6 +27,16 @@ startRules list starts rows records =
     record { holds = sound list; refusal = ListOf }
     ∷ record { holds = eachStarts (segmentsOf list) starts; refusal = Numbering 0 }
     ∷ memoryRules list rows records
+
+-- 01, the table's rows 16, 10 and 15: a start that breaks no rule, with so many cells lent
+pub record GoodStart (list starts : List ℕ) (rows records : ℕ) : Type 0 where
+  -- 16
+  pub list-sound : Sound list
+  -- 10
+  pub started : (i : ℕ) → i < segmentsOf list → 0 < startOf starts i
+  -- 15
+  pub rows-lent : rowsWanted list ≤ rows
+  pub records-lent : recordsWanted list ≤ records
 
 -- 01 "Sequence and gaps": a gap row at its start: "highest begins one below it", no runs, and every other cell 0
 abbrev pub startedRow : ℕ → List ℕ

@@ -15,7 +15,7 @@ use Rattle.laws.specs.RulesLaws.{none-hold}
 use Rattle.laws.specs.Order.{order}
 use Rattle.contracts.specs.BelowLaws.{each-passes, all-pass}
 use Rattle.contracts.specs.File.{segmentsOf}
-use Rattle.contracts.specs.Sound.{Sound, sound}
+use Rattle.contracts.specs.Sound.{sound}
 use Rattle.contracts.specs.SoundLaws.{sound-exact}
 use Rattle.sequence.specs.Gaps.{begun}
 use Rattle.sequence.specs.RowLaws.{laid-length}
@@ -24,14 +24,7 @@ use Rattle.quotebox.specs.Refusals.{Rule}
 use Rattle.quotebox.specs.Memory.{rowCells, rowsWanted, recordsWanted, rowOf, withRow, memoryRules}
 use Rattle.quotebox.specs.RowsLaws.{row-laid, row-behind}
 use Rattle.quotebox.specs.StateLaws.{memory-lent}
-use Rattle.quotebox.specs.Start.{startOf, eachStarts, startRules, startedRow, startedRows}
-
--- what start asks: 16, 10 and 15
-pub record GoodStart (list starts : List ℕ) (rows records : ℕ) : Type 0 where
-  pub list-sound : Sound list
-  pub started : (i : ℕ) → i < segmentsOf list → 0 < startOf starts i
-  pub rows-lent : rowsWanted list ≤ rows
-  pub records-lent : recordsWanted list ≤ records
+use Rattle.quotebox.specs.Start.{startOf, eachStarts, startRules, GoodStart, startedRow, startedRows}
 
 module _ (list starts : List ℕ) (rows records : ℕ) where
   abbrev numbers : Rule

@@ -1,17 +1,19 @@
--- Laws of the state's checks: none is refused exactly where the state is good, and what a good state gives.
+-- Laws of the state: the cells wanted, when its checks refuse nothing, and what a good state gives.
 use Prim.Native.Nat.{ℕ, _+_, _*_, _≤_, _<_}
-use mathlib.Core.Path.{_≡_, _∙_}
-use mathlib.Core.Bool.{true, false}
+use mathlib.Core.Path.{_≡_, refl, ap, sym, _∙_}
+use mathlib.Core.Bool.{true, false, true≢false}
 use mathlib.Core.Logic.{_↔_}
 use mathlib.Core.List.{List, [], _∷_, _++_}
-use mathlib.Core.Option.{none, some}
+use mathlib.Core.Option.{Option, none, some}
 use native.Mathlib.Omega.{arith}
 use borrow.Author.Tests.{le-leb, leb-true}
 use lib.ListN.{length}
 use Rattle.laws.specs.Rules.{firstBroken, Hold}
 use Rattle.laws.specs.RulesLaws.{none-hold, hold-none, front-broken, last-holds, last-broken, last-held}
-use Rattle.contracts.specs.BelowLaws.{each-passes, all-pass}
-use Rattle.contracts.specs.File.{segmentsOf}
+use Rattle.contracts.specs.Below.{sumBelow}
+use Rattle.contracts.specs.BelowLaws.{each-passes, all-pass, sum-same}
+use Rattle.contracts.specs.File.{segmentsOf, countAt, contractsOf}
+use Rattle.contracts.specs.FileLaws.{before-sum}
 use Rattle.contracts.specs.HeaderLaws.{header-exact}
 use Rattle.contracts.specs.Lookup.{segmentOf}
 use Rattle.contracts.specs.LookupLaws.{segment-has}
@@ -21,13 +23,35 @@ use Rattle.message.specs.Head.{isSome}
 use Rattle.quotebox.specs.declared.refusal.Refusal.{Refusal}
 use Rattle.quotebox.specs.declared.refusal.Refusal.the-variants.{Code, List as ListOf, State}
 use Rattle.quotebox.specs.Refusals.{Rule}
-use Rattle.quotebox.specs.Memory.{rowCells, rowsWanted, recordsWanted, rowOf, rowsSound, memoryRules, stateRules}
+use Rattle.quotebox.specs.Memory.{rowCells, recordCells, rowsWanted, recordsWanted, rowOf, rowsSound, memoryRules, stateRules}
 use Rattle.quotebox.specs.State.{segmentRules}
 use Rattle.quotebox.specs.GoodState.{GoodState}
+
+-- ---- the cells wanted
+
+-- 01 "What may be asked": "at most 1,024 a gap row and 2,048 a record": a contract's two records together have no more
+pub cells-few : (rowCells ≤ 1024) × (recordCells ≤ 2048)
+cells-few = (omega arith, omega arith)
+
+module _ (list other : List ℕ) (segments : segmentsOf list ≡ segmentsOf other) (counts : (i : ℕ) → i < segmentsOf list → countAt list i ≡ countAt other i) where
+  same-contracts : contractsOf list ≡ contractsOf other
+  same-contracts =
+      before-sum list (segmentsOf list) (omega arith)
+      ∙ sum-same (countAt list) (countAt other) (segmentsOf list) counts
+      ∙ ap (λ (n : ℕ). sumBelow n (countAt other)) segments
+      ∙ sym (before-sum other (segmentsOf other) (omega arith))
+
+  -- 01 "What may be asked": "a number that the lists' counts alone fix": lists of the same counts want the same
+  pub counts-fix : (rowsWanted list ≡ rowsWanted other) × (recordsWanted list ≡ recordsWanted other)
+  counts-fix = (ap (λ (n : ℕ). rowCells * n) segments, ap (λ (n : ℕ). recordCells * n) same-contracts)
 
 -- 15 in its two places
 pub memory-lent : (list : List ℕ) (rows records : ℕ) → Hold (memoryRules list rows records) → (rowsWanted list ≤ rows) × (recordsWanted list ≤ records)
 memory-lent list rows records h = (leb-true (rowsWanted list) rows (h .0), leb-true (recordsWanted list) records (h .1 .0))
+
+pub is-some : (o : Option ℕ) → isSome o ≡ true → (i : ℕ) × (o ≡ some i)
+is-some none e = absurd (true≢false (sym e))
+is-some (some i) e = (i, refl)
 
 module _ (list rows records : List ℕ) where
   abbrev soundness : Rule

@@ -3,13 +3,13 @@ use Prim.Native.Nat.{ℕ, suc, _+_, _≤_}
 use mathlib.Core.Path.{_≡_, refl, ap, sym, _∙_}
 use mathlib.Core.Bool.{Bool, true, false, cond}
 use mathlib.Core.Logic.{_⊎_, inl, inr, ⊎-elim}
-use mathlib.Core.List.{List, _∷_}
+use mathlib.Core.List.{List, [], _∷_}
 use mathlib.Core.Option.{Option, none, some}
 use native.Mathlib.Omega.{arith}
 use borrow.Author.Tests.{le-leb, lt-leb, ltb-true, ltb-false}
 use lib.Dec.{leb, ltb}
-use lib.ListN.{length, getD}
-use lib.Seq.{sets, length-sets}
+use lib.ListN.{length, getD, set, drop}
+use lib.Seq.{sets, length-sets, drop-set-lt}
 use Rattle.laws.specs.Choice.{either}
 use Rattle.layout.specs.declared.read.Verdict.{Verdict}
 use Rattle.layout.specs.declared.read.Verdict.the-variants as verdict
@@ -34,47 +34,60 @@ use Rattle.quotebox.specs.declared.refusal.Refusal.the-variants.{Gaps as
 use Rattle.quotebox.specs.ActsLaws.{acts-as}
 use Rattle.quotebox.specs.Batch.{Box, Acted, acted, refused, numberActs, messageActs, stored, contractAt, recordOf}
 use Rattle.quotebox.specs.Good.{gapsAfter}
-use Rattle.quotebox.specs.Memory.{recordAt}
+use Rattle.quotebox.specs.Memory.{recordsWanted, recordAt}
+use Rattle.quotebox.specs.UpdateLaws.{record-wanted}
 
 -- the messages that a box has counted
 abbrev pub messagesIn : Box → ℕ
 messagesIn box = box .taken + box .old + box .heartbeats
 
+-- as many cells as before, of which those behind the cells wanted are the same
+pub record KeptBehind (wanted : ℕ) (before after : List ℕ) : Type 0 where
+  pub as-many : length after ≡ length before
+  pub behind : drop wanted after ≡ drop wanted before
+
+pub all-kept : (wanted : ℕ) (cells : List ℕ) → KeptBehind wanted cells cells
+all-kept wanted cells = record { as-many = refl; behind = refl }
+
 -- a message acts, and leaves at most 64 runs
-pub record Went (before : Box) (a : Acted) (gaps : Gaps) : Type 0 where
+pub record Went (wanted : ℕ) (before : Box) (a : Acted) (gaps : Gaps) : Type 0 where
   pub few : leb (length (gaps .runs)) most ≡ true
   pub box : Box
   pub acts : a ≡ acted box
   pub gaps-are : gapsOf (box .row) ≡ gaps
   pub sound : soundRow (box .row) ≡ true
   pub counts : messagesIn box ≡ suc (messagesIn before)
-  pub records-kept : length (box .records) ≡ length (before .records)
+  pub records-kept : KeptBehind wanted (before .records) (box .records)
 
 -- or is refused, since more would stand
 pub record Fell (i : ℕ) (a : Acted) (gaps : Gaps) : Type 0 where
   pub many : leb (length (gaps .runs)) most ≡ false
   pub refuses : a ≡ refused (GapsOver i)
 
--- storing keeps as many records
-stored-length : (at number : ℕ) (cells records : List ℕ) → length (stored at number cells records) ≡ length records
-stored-length at number cells records = go (ltb (getD records at 0) number)
-  where
-    go : (t : Bool) → length (cond t (sets records at (number ∷ cells)) records) ≡ length records
-    go true = length-sets records at (number ∷ cells)
-    go false = refl
+sets-behind : (vs l : List ℕ) (at wanted : ℕ) → at + length vs ≤ wanted → drop wanted (sets l at vs) ≡ drop wanted l
+sets-behind [] l at wanted h = refl
+sets-behind (v ∷ vs) l at wanted h = sets-behind vs (set l at v) (suc at) wanted (omega arith) ∙ drop-set-lt wanted l at v (omega arith)
 
-module _ (box : Box) (i number : ℕ) (changed : List ℕ → List ℕ) (keeps : length (changed (box .records)) ≡ length (box .records)) (s : soundRow (box .row) ≡ true) where
+-- storing within the cells wanted keeps every cell behind them
+stored-behind : (wanted at number : ℕ) (cells records : List ℕ) → at + suc (length cells) ≤ wanted → KeptBehind wanted records (stored at number cells records)
+stored-behind wanted at number cells records h = go (ltb (getD records at 0) number)
+  where
+    go : (t : Bool) → KeptBehind wanted records (cond t (sets records at (number ∷ cells)) records)
+    go true = record { as-many = length-sets records at (number ∷ cells); behind = sets-behind (number ∷ cells) records at wanted h }
+    go false = all-kept wanted records
+
+module _ (wanted : ℕ) (box : Box) (i number : ℕ) (changed : List ℕ → List ℕ) (keeps : KeptBehind wanted (box .records) (changed (box .records))) (s : soundRow (box .row) ≡ true) where
   abbrev g : Gaps
   g = gapsOf (box .row)
 
-  number-goes : Went box (numberActs box i number changed) (cond (takes g number) (after g number) g) ⊎ Fell i (numberActs box i number changed) (cond (takes g number) (after g number) g)
+  number-goes : Went wanted box (numberActs box i number changed) (cond (takes g number) (after g number) g) ⊎ Fell i (numberActs box i number changed) (cond (takes g number) (after g number) g)
   number-goes = ⊎-elim taken old (either (takes g number))
     where
       all : (length (box .row) ≡ cells) × (count (box .row) ≤ most) × Sound g
       all = sound-row-exactly (box .row) .0 s
 
       Goes : Type 0
-      Goes = Went box (numberActs box i number changed) (cond (takes g number) (after g number) g) ⊎ Fell i (numberActs box i number changed) (cond (takes g number) (after g number) g)
+      Goes = Went wanted box (numberActs box i number changed) (cond (takes g number) (after g number) g) ⊎ Fell i (numberActs box i number changed) (cond (takes g number) (after g number) g)
 
       old : takes g number ≡ false → Goes
       old t =
@@ -86,7 +99,7 @@ module _ (box : Box) (i number : ℕ) (changed : List ℕ → List ℕ) (keeps :
             gaps-are = simp t;
             sound = s;
             counts = omega arith;
-            records-kept = refl;
+            records-kept = all-kept wanted (box .records);
           })
 
       taken : takes g number ≡ true → Goes
@@ -130,7 +143,7 @@ module _ (list : List ℕ) (letter : ℕ) (box : Box) (i : ℕ) (bytes : List �
       (tells (rowsRead bytes .verdict) (kindIn bytes) (numberOf bytes) (levelOf (lengthOf bytes)) (keyPlace list letter (keyOf bytes)))
 
   abbrev Goes : Type 0
-  Goes = Went box (messageActs list letter box i bytes) (gapsAfter (gapsOf (box .row)) bytes) ⊎ Fell i (messageActs list letter box i bytes) (gapsAfter (gapsOf (box .row)) bytes)
+  Goes = Went (recordsWanted list) box (messageActs list letter box i bytes) (gapsAfter (gapsOf (box .row)) bytes) ⊎ Fell i (messageActs list letter box i bytes) (gapsAfter (gapsOf (box .row)) bytes)
 
   -- a good message goes by its number
   pub good-goes : soundRow (box .row) ≡ true → Goes
@@ -148,12 +161,13 @@ module _ (list : List ℕ) (letter : ℕ) (box : Box) (i : ℕ) (bytes : List �
             gaps-are = simp t;
             sound = s;
             counts = omega arith;
-            records-kept = refl;
+            records-kept = all-kept (recordsWanted list) (box .records);
           })
       go (what.PassedOver number) e t =
           rw (t .0, ← t .1, acts-as list letter bytes (messageOf list letter bytes) refl e box i)
-          (number-goes box i number (λ records. records) refl s)
+          (number-goes (recordsWanted list) box i number (λ records. records) (all-kept (recordsWanted list) (box .records)) s)
       go (what.Update number level place) e t =
           rw (t .0, ← t .1, acts-as list letter bytes (messageOf list letter bytes) refl e box i)
-          (number-goes box i number (stored (recordAt (contractAt list letter place) level) number (recordOf level (messageOf list letter bytes .cells)))
-          (stored-length (recordAt (contractAt list letter place) level) number (recordOf level (messageOf list letter bytes .cells)) (box .records)) s)
+          (number-goes (recordsWanted list) box i number (stored (recordAt (contractAt list letter place) level) number (recordOf level (messageOf list letter bytes .cells)))
+          (stored-behind (recordsWanted list) (recordAt (contractAt list letter place) level) number (recordOf level (messageOf list letter bytes .cells)) (box .records)
+          (record-wanted list letter bytes e (messageOf list letter bytes .cells))) s)

@@ -4,25 +4,22 @@ use mathlib.Core.Path.{_≡_, refl, ap, sym, _∙_}
 use mathlib.Core.Logic.{_↔_}
 use mathlib.Core.List.{List}
 use native.Mathlib.Omega.{arith}
+use lib.ListN.{drop}
 use Rattle.laws.specs.Rules.{Broken}
 use Rattle.quotebox.specs.declared.answers.Judged.{Judged}
 use Rattle.quotebox.specs.declared.answers.Judged.the-variants.{Accepted, Refused}
 use Rattle.quotebox.specs.declared.refusal.Refusal.{Refusal}
 use Rattle.quotebox.specs.Answers.{judgedNumbers}
-use Rattle.quotebox.specs.Batch.{Box, Acted, acted, refused, batchActs, batchLetter, countOf, actedNumbers, rowsAfter, recordsAfter}
+use Rattle.quotebox.specs.Batch.{Box, Acted, acted, refused, batchActs, batchLetter, countOf, answerOf, actedNumbers, rowsAfter, recordsAfter}
 use Rattle.quotebox.specs.BatchLaws.{accepted-box, refused-is}
 use Rattle.quotebox.specs.Good.{GoodBatch}
 use Rattle.quotebox.specs.GoodState.{GoodState}
-use Rattle.quotebox.specs.LeftLaws.{all-counted, state-left}
+use Rattle.quotebox.specs.LeftLaws.{all-counted, behind-left, state-left}
+use Rattle.quotebox.specs.Memory.{rowsWanted, recordsWanted}
 use Rattle.quotebox.specs.Order.{allRules}
 use Rattle.quotebox.specs.OrderLaws.{accepted-exact, refused-exact}
 use Rattle.quotebox.specs.Promises.{JudgedBatch, TookBatch}
 use Rattle.quotebox.specs.AnswersLaws.{judged-told}
-
--- the answer of what a batch does
-abbrev pub answerOf : Acted → Judged
-answerOf (acted box) = Accepted (box .taken) (box .old) (box .heartbeats)
-answerOf (refused refusal) = Refused refusal
 
 pub answer-numbers : (a : Acted) → judgedNumbers (answerOf a) ≡ actedNumbers a
 answer-numbers (acted box) = refl
@@ -76,6 +73,19 @@ module _ (list rows records batch : List ℕ) where
   refused-keeps refusal rows′ records′ t =
       let r = refused-is acts refusal (t .answers) in
       (t .rows-left ∙ ap (rowsAfter list (batchLetter batch) rows) (r .1), t .records-left ∙ ap (recordsAfter records) (r .1))
+
+  -- and no batch writes past the cells wanted for state
+  pub take-nothing-behind : (answer : Judged) (rows′ records′ : List ℕ) → TookBatch list rows records batch answer rows′ records′
+      → (drop (rowsWanted list) rows′ ≡ drop (rowsWanted list) rows) × (drop (recordsWanted list) records′ ≡ drop (recordsWanted list) records)
+  take-nothing-behind (Refused refusal) rows′ records′ t =
+      let kept = refused-keeps refusal rows′ records′ t in
+      (ap (drop (rowsWanted list)) (kept .0), ap (drop (recordsWanted list)) (kept .1))
+  take-nothing-behind (Accepted taken old heartbeats) rows′ records′ t =
+      let d = accepted-box acts (t .answers) in
+      let left = behind-left list rows records batch (d .0) (d .1) in (
+        ap (drop (rowsWanted list)) (t .rows-left ∙ ap (rowsAfter list (batchLetter batch) rows) (d .1)) ∙ left .0,
+        ap (drop (recordsWanted list)) (t .records-left ∙ ap (recordsAfter records) (d .1)) ∙ left .1,
+      )
 
   module _ (taken old heartbeats : ℕ) (rows′ records′ : List ℕ) (t : TookBatch list rows records batch (Accepted taken old heartbeats) rows′ records′) where
     did : (box : Box) × (acts ≡ acted box)

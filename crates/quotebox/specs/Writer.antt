@@ -1,5 +1,5 @@
 -- Writing a message: 01 "The message", "The checksum", "Numbers in text", and the writer's order of checks.
-use Prim.Native.Nat.{ℕ, _+_}
+use Prim.Native.Nat.{ℕ, _+_, _≤_}
 use mathlib.Core.Path.{_≡_}
 use mathlib.Core.Bool.{Bool, true, false, _&&_}
 use mathlib.Core.List.{List, [], _∷_, _++_}
@@ -79,6 +79,17 @@ lengthWritten code level = messageLength (rowsWritten (kindOf (code .1)) level)
 unfoldable pub writeRules : Code → Level → ℕ → List ℕ → Quote → ℕ → List Rule
 writeRules code level number key quote room =
     codeRules code number ++ rowsRules (dataWritten (kindOf (code .1)) level key quote .verdict) ++ roomRules (lengthWritten code level) room
+
+-- 01, the table's rows 6, 10, 11, 12 and 15: a message that the writer writes breaks no rule
+pub record GoodWrite (code : Code) (level : Level) (number : ℕ) (key : List ℕ) (quote : Quote) (room : ℕ) : Type 0 where
+  -- 6
+  pub tabled : inTable code ≡ true
+  -- 10
+  pub numbered : takesNumber (kindOf (code .1)) number ≡ true
+  -- 11 and 12
+  pub rows-good : dataWritten (kindOf (code .1)) level key quote .verdict ≡ verdict.Good
+  -- 15
+  pub has-room : lengthWritten code level ≤ room
 
 -- ---- the message
 

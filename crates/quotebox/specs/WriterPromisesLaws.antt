@@ -1,7 +1,6 @@
 -- What the writer's promise settles: one outcome, a refusal that changes no byte, and the message of an accepted call.
-use Prim.Native.Nat.{ℕ, _+_, _≤_}
+use Prim.Native.Nat.{ℕ, _+_}
 use mathlib.Core.Path.{_≡_, ap, sym, _∙_}
-use mathlib.Core.Bool.{true}
 use mathlib.Core.Logic.{_↔_}
 use mathlib.Core.List.{List, [], _∷_, _++_}
 use mathlib.Core.Option.{Option, none, some}
@@ -11,33 +10,20 @@ use lib.Seq.{take-at, drop-at}
 use Rattle.laws.specs.Rules.{firstBroken}
 use Rattle.laws.specs.RulesLaws.{none-hold, hold-none, hold-append}
 use Rattle.layout.specs.declared.quote.Quote.{Quote}
-use Rattle.layout.specs.declared.read.Verdict.the-variants as verdict
 use Rattle.layout.specs.declared.rows.Level.{Level}
 use Rattle.layout.specs.Write.{Laid}
 use Rattle.message.specs.Codes.{kindOf, bareLength}
-use Rattle.message.specs.Head.{takesNumber}
 use Rattle.quotebox.specs.declared.answers.Written.{Written}
 use Rattle.quotebox.specs.declared.refusal.Refusal.{Refusal}
 use Rattle.quotebox.specs.declared.writing.Code.{Code}
 use Rattle.quotebox.specs.AnswersLaws.{written-told, refused-by, accepted-by}
 use Rattle.quotebox.specs.Calls.{leftBy}
 use Rattle.quotebox.specs.Refusals.{Rule}
-use Rattle.quotebox.specs.Writer.{inTable, codeRules, dataWritten, rowsRules, roomRules, lengthWritten, writeRules, messageBytes, messagePut}
+use Rattle.quotebox.specs.Writer.{codeRules, dataWritten, rowsRules, roomRules, lengthWritten, writeRules, GoodWrite, messageBytes, messagePut}
 use Rattle.quotebox.specs.WriterLaws.{rows-pass, long-data, message-long}
 use Rattle.quotebox.specs.WriterPromises.{WroteMessage}
 
--- what the writer asks of a message that it writes
-pub record GoodWrite (code : Code) (level : Level) (number : ℕ) (key : List ℕ) (quote : Quote) (room : ℕ) : Type 0 where
-  -- 6
-  pub tabled : inTable code ≡ true
-  -- 10
-  pub numbered : takesNumber (kindOf (code .1)) number ≡ true
-  -- 11 and 12
-  pub rows-good : dataWritten (kindOf (code .1)) level key quote .verdict ≡ verdict.Good
-  -- 15
-  pub has-room : lengthWritten code level ≤ room
-
--- none of its rules is broken exactly then
+-- none of its rules is broken exactly where the message is good
 pub write-exact : (code : Code) (level : Level) (number : ℕ) (key : List ℕ) (quote : Quote) (room : ℕ)
     → firstBroken (writeRules code level number key quote room) ≡ none ↔ GoodWrite code level number key quote room
 unfolding writeRules

@@ -88,7 +88,7 @@ fn judge_data(list: &[u8], rows: &[u32], data: &[u8], count: usize) -> Judged
     requires { ⌜ DataReady (now list) (now rows) count ⌝ }
     ensures { λ r. ⌜ JudgedData (now (list .entry)) (now (rows .entry)) (now («data» .entry)) count r ⌝ }
 {
-    let letter = wire::u8_at(data, 0);
+    let letter = message::letter_of(data);
     let before = before_letter(list, letter);
     let mut row = rows::row_of_letter(list, rows, letter);
     let mut stores = [0u64; 1];
@@ -120,7 +120,7 @@ fn take_on(
     requires { ⌜ DataReady (now list) (now rows) count × (recordsWanted (now list) ≤ length (now records)) × Room (length (now stores)) (length (now «data»)) ⌝ }
     ensures { λ r. ⌜ TookData (now (list .entry)) (now (rows .entry)) (now (records .entry)) (now («data» .entry)) count r (now (rows .exit)) (now (records .exit)) ⌝ }
 {
-    let letter = wire::u8_at(data, 0);
+    let letter = message::letter_of(data);
     let before = before_letter(list, letter);
     let mut row = rows::row_of_letter(list, rows, letter);
     let turn = act::judge_messages(list, letter, before, &mut row, stores, data, count);

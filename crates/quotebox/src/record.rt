@@ -15,7 +15,7 @@ use layout::Level;
 use layout::Quote;
 
 // The rows of an update's key, which no record holds.
-pub(crate) const KEY_ROWS: usize = 5;
+pub const KEY_ROWS: usize = 5;
 
 // Where the records of level 2 begin among a contract's.
 const LEVEL_TWO: usize = 15;
@@ -26,7 +26,8 @@ enum Place {
     Refused(Refusal),
 }
 
-pub(crate) fn record_rows(level: Level) -> usize
+// The rows that a record of a level holds.
+pub fn record_rows(level: Level) -> usize
     ensures { λ r. ⌜ r ≡ recordRows level ⌝ }
 {
     match level {

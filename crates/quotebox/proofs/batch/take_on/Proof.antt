@@ -3,7 +3,6 @@ use Prim.Native.Nat.{ℕ}
 use mathlib.Core.Path.{_≡_}
 use mathlib.Core.List.{List}
 use lib.ListN.{length}
-use Rattle.message.specs.Fields.{letterOf}
 use Rattle.sequence.specs.RowLaws.{sound-row-exactly}
 use Rattle.quotebox.specs.Acts.{Left}
 use Rattle.quotebox.specs.Batch.{Box, acted}
@@ -15,13 +14,9 @@ use borrow.Author.Needs.{needs}
 use Rattle.quotebox.proofs.batch.take_on.Statement.{statement}
 use Rattle.quotebox.proofs.batch.take_on.Tie as tie
 
-letter-is : (c : tie.After-u8-at) → c .u8-at .result ≡ letterOf (c .before .before .before .before .before .before .args .«data» .now)
-unfolding letterOf
-letter-is c = c .u8-at .ensures
-
 -- what is known once the messages are judged
 module _ (c : tie.After-judge-messages) where
-  abbrev first : tie.After-u8-at
+  abbrev first : tie.After-letter-of
   first = c .before .before .before .before .before .before
 
   abbrev start : tie.Start
@@ -33,7 +28,7 @@ module _ (c : tie.After-judge-messages) where
   abbrev stores′ : List ℕ
   stores′ = c .judge-messages .last .1 .1 .1 .1 .0
 
-  scratch : ScratchRow (start .args .list .now) (start .args .rows .now) (first .u8-at .result) (c .before .before .before .row-of-letter .result)
+  scratch : ScratchRow (start .args .list .now) (start .args .rows .now) (first .letter-of .result) (c .before .before .before .row-of-letter .result)
   scratch = c .before .before .before .row-of-letter .ensures
 
 -- and accepted
@@ -47,10 +42,10 @@ module _ (c : tie.After-enum-told) where
   left : (box : Box) × (dataActs (lent .args .list .now) (lent .args .rows .now) (lent .args .records .now) (lent .args .«data» .now) (lent .args .count) ≡ acted box)
       × Left (lent .args .list .now) (Room (length (lent .args .stores .now)) (length (lent .args .«data» .now))) (lent .args .records .now) box (judged .judge-messages .result .kept) (row′ judged) (stores′ judged)
   left =
-      scratch-left _ _ _ _ _ _ (scratch judged) (lent .pre .0 .some-messages) (letter-is (first judged)) _ _ _ _ (judged .judge-messages .ensures) (lent .args .records .now) (c .enum-told .given .1)
+      scratch-left _ _ _ _ _ _ (scratch judged) (lent .pre .0 .some-messages) (first judged .letter-of .ensures) _ _ _ _ (judged .judge-messages .ensures) (lent .args .records .now) (c .enum-told .given .1)
 
-u8-at-requires : tie.Need-u8-at-requires
-u8-at-requires c κs = search needs
+letter-of-requires : tie.Need-letter-of-requires
+letter-of-requires c κs = search needs
 
 before-letter-requires : tie.Need-before-letter-requires
 before-letter-requires c κs = search needs
@@ -92,7 +87,7 @@ returns c =
     let j = judged d in
     let s = start j in
     rw (p .put-row-of-letter .ensures, m .make-all .ensures)
-    (scratch-taken _ _ _ _ _ _ (scratch j) (s .pre .0 .some-messages) (letter-is (first j)) _ _ _ _ (j .judge-messages .ensures) (s .args .records .now) (d .enum-told .given .1) (s .pre .2))
+    (scratch-taken _ _ _ _ _ _ (scratch j) (s .pre .0 .some-messages) (first j .letter-of .ensures) _ _ _ _ (j .judge-messages .ensures) (s .args .records .now) (d .enum-told .given .1) (s .pre .2))
 
 same-length-4 : tie.Need-same-length-4
 same-length-4 c = search needs
@@ -104,13 +99,13 @@ returns-2 : tie.Need-returns-2
 returns-2 c =
     let j = c .before .before .before .before in
     let s = start j in
-    scratch-refused _ _ _ _ _ _ (scratch j) (s .pre .0 .some-messages) (letter-is (first j)) _ _ _ _ (j .judge-messages .ensures) (s .args .records .now) _ (c .enum-told2 .given .1)
+    scratch-refused _ _ _ _ _ _ (scratch j) (s .pre .0 .some-messages) (first j .letter-of .ensures) _ _ _ _ (j .judge-messages .ensures) (s .args .records .now) _ (c .enum-told2 .given .1)
 
 pub take-on-spec : {M : Type 1} → statement M
 take-on-spec =
     tie.close
     (tie.spec
-    u8-at-requires
+    letter-of-requires
     before-letter-requires
     row-of-letter-requires
     judge-messages-requires

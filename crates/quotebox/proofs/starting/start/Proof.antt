@@ -11,7 +11,8 @@ use Rattle.contracts.specs.HeaderLaws.{contracts-few}
 use Rattle.quotebox.specs.Memory.{rowCells, recordCells}
 use Rattle.quotebox.specs.State.{checkedRefusal}
 use Rattle.quotebox.specs.Start.{startRules, startedRows, rowsStarted, recordsCleared}
-use Rattle.quotebox.specs.StartLaws.{GoodStart, start-exact}
+use Rattle.quotebox.specs.Start.{GoodStart}
+use Rattle.quotebox.specs.StartLaws.{start-exact}
 use Rattle.quotebox.specs.CallsLaws.{start-refused, start-done}
 use Rattle.quotebox.proofs.starting.start.Statement.{statement}
 use Rattle.quotebox.proofs.starting.start.Tie as tie

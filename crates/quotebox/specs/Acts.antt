@@ -29,11 +29,11 @@ counted (Refused refusal) counts = counts
 abbrev pub none : Counts
 none = record { taken = 0; old = 0; heartbeats = 0 }
 
--- how many messages were counted, of whichever sort
+-- a word of our own: how many messages were counted, of whichever sort
 abbrev pub total : Counts → ℕ
 total counts = counts .taken + counts .old + counts .heartbeats
 
--- a box by its parts
+-- a word of our own: a box by its parts
 abbrev pub boxAt : List ℕ → List ℕ → Counts → Box
 boxAt row records counts =
     record { row = row; records = records; taken = counts .taken; old = counts .old; heartbeats = counts .heartbeats }
@@ -45,34 +45,34 @@ changedBy Old changed records = records
 changedBy Heartbeat changed records = records
 changedBy (Refused refusal) changed records = records
 
--- a message that is not refused
+-- a word of our own: a message that is not refused
 abbrev pub passed : Act → Bool
 passed Taken = true
 passed Old = true
 passed Heartbeat = true
 passed (Refused refusal) = false
 
--- what a message did: the box after it, or its refusal
+-- a word of our own: what a message did: the box after it, or its refusal
 abbrev pub actedAs : Act → Box → Acted
 actedAs Taken box = acted box
 actedAs Old box = acted box
 actedAs Heartbeat box = acted box
 actedAs (Refused refusal) box = refused refusal
 
--- a number acts on a row, whatever the records and counts are
+-- a word of our own: a number acts on a row, whatever the records and counts are
 pub record NumberActs (row : List ℕ) (i number : ℕ) (act : Act) (row′ : List ℕ) : Type 0 where
   pub acts : (changed : List ℕ → List ℕ) (records : List ℕ) (counts : Counts)
       → numberActs (boxAt row records counts) i number changed ≡ actedAs act (boxAt row′ (changedBy act changed records) (counted act counts))
   pub sound : soundRow row′ ≡ true
 
--- the list, a letter's contracts, a gap row and scratch memory for stores, of which some are kept
+-- a word of our own: the list, a letter's contracts, a gap row and scratch memory for stores, of which some are kept
 pub record Ready (list : List ℕ) (letter before : ℕ) (row stores : List ℕ) (kept : ℕ) : Type 0 where
   pub header : Header list
   pub before-is : before ≡ contractAt list letter 0
   pub sound : soundRow row ≡ true
   pub within : storeCells * kept ≤ length stores
 
--- message i acts, whatever the records and counts are
+-- a word of our own: message i acts, whatever the records and counts are
 pub record MessageActs (list : List ℕ) (letter : ℕ) (row stores : List ℕ) (kept i : ℕ) (bytes : List ℕ) (step : Step) (row′ stores′ : List ℕ) : Type 0 where
   pub changes : List ℕ → List ℕ
   pub acts : (records : List ℕ) (counts : Counts)
@@ -82,7 +82,7 @@ pub record MessageActs (list : List ℕ) (letter : ℕ) (row stores : List ℕ) 
   pub inside : passed (step .act) ≡ true → step .length ≤ length bytes
   pub keeps : Keeps (recordsWanted list) (step .length) stores kept changes (step .kept) stores′
 
--- a box that so many messages leave: its row, and its records as the stores make them
+-- a word of our own: a box that so many messages leave: its row, and its records as the stores make them
 pub record Left (list : List ℕ) (room : Type 0) (records : List ℕ) (box : Box) (kept : ℕ) (row′ stores′ : List ℕ) : Type 0 where
   pub row-is : box .row ≡ row′
   pub sound : soundRow row′ ≡ true
@@ -90,12 +90,12 @@ pub record Left (list : List ℕ) (room : Type 0) (records : List ℕ) (box : Bo
   pub fit : AllFit (recordsWanted list) kept stores′
   pub within : storeCells * kept ≤ length stores′
 
--- so many messages are judged, whatever the records are
+-- a word of our own: so many messages are judged, whatever the records are
 pub record JudgedMessages (list : List ℕ) (letter : ℕ) (row : List ℕ) (cells : ℕ) (bytes : List ℕ) (count : ℕ) (turn : InTurn) (row′ stores′ : List ℕ) : Type 0 where
   pub answers : (records : List ℕ) → judgedNumbers (turn .answer) ≡ actedNumbers (messagesAct count list letter 0 (boxAt row records none) bytes)
   pub leaves : (records : List ℕ) (box : Box) → messagesAct count list letter 0 (boxAt row records none) bytes ≡ acted box
       → Left list (Room cells (length bytes)) records box (turn .kept) row′ stores′
 
--- what the messages are answered, and how many stores are kept
+-- a word of our own: what the messages are answered, and how many stores are kept
 abbrev pub turnOf : Judged → ℕ → InTurn
 turnOf answer kept = record { answer = answer; kept = kept }

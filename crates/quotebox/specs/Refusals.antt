@@ -40,6 +40,6 @@ ofFault (fault.Field row) i = Field i row
 ofFault (fault.Range row) i = Range i row
 ofFault fault.Contract i = Contract i
 
--- a rule, and the refusal of what breaks it
+-- a word of our own: a rule, and the refusal of what breaks it
 abbrev pub Rule : Type 0
 Rule = RuleOf Refusal

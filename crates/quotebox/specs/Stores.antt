@@ -7,52 +7,54 @@ use lib.ListN.{length, getD, take, drop}
 use lib.Seq.{sets}
 use Rattle.quotebox.specs.Batch.{stored}
 
--- the cells of a store: its record's place, how many cells the record has, and those of a level 2 record, which has the most
+-- a word of our own: the cells of a store: its record's place, how many cells the record has, and those of a level 2 record, which
+-- has the most
 abbrev pub storeCells : ℕ
 storeCells = 35
 
--- store i
+-- a word of our own: store i
 abbrev pub storeOf : List ℕ → ℕ → List ℕ
 storeOf stores i = take storeCells (drop (storeCells * i) stores)
 
--- a record stored at its place: its number, then its rows
+-- a word of our own: a record stored at its place: its number, then its rows
 abbrev pub storedAt : ℕ → List ℕ → List ℕ → List ℕ
 storedAt at update records = stored at (getD update 0 0) (drop 1 update) records
 
--- what making a store does to the records
+-- a word of our own: what making a store does to the records
 abbrev pub madeOf : List ℕ → List ℕ → List ℕ
 madeOf kept records = storedAt (getD kept 0 0) (take (getD kept 1 0) (drop 2 kept)) records
 
--- the first so many stores made in turn
+-- a word of our own: the first so many stores made in turn
 abbrev pub made : ℕ → List ℕ → List ℕ → List ℕ
 made zero stores records = records
 made (suc n) stores records = madeOf (storeOf stores n) (made n stores records)
 
--- a store's record lies within so many cells
+-- a word of our own: a store's record lies within so many cells
 abbrev pub Fits : ℕ → List ℕ → Type 0
 Fits cells kept = (0 < getD kept 1 0) × (getD kept 1 0 ≤ 33) × (getD kept 0 0 + getD kept 1 0 ≤ cells)
 
--- and so do the first so many
+-- a word of our own: the records of the first so many stores do
 abbrev pub AllFit : ℕ → ℕ → List ℕ → Type 0
 AllFit cells n stores = (i : ℕ) → i < n → Fits cells (storeOf stores i)
 
--- the bytes of the shortest update
+-- 01 "The message": the bytes of the shortest update
 abbrev pub leastUpdate : ℕ
 leastUpdate = 249
 
--- so many cells have room for every update that so many bytes can hold
+-- a word of our own: so many cells have room for every update that so many bytes can hold
 pub record Room (cells long : ℕ) : Type 0 where
   pub slots : ℕ
   pub there : storeCells * slots ≤ cells
   pub enough : long < leastUpdate * slots + leastUpdate
 
--- a store was kept behind the others, or there is no room for it
+-- a word of our own: a store was kept behind the others, or there is no room for it
 abbrev pub Kept : List ℕ → ℕ → ℕ → ℕ → List ℕ → ℕ → List ℕ → Type 0
 Kept stores kept at number cells kept′ stores′ =
     ((length stores < storeCells * kept + storeCells) × (kept′ ≡ kept) × (stores′ ≡ stores))
     ⊎ ((storeCells * kept + storeCells ≤ length stores) × (kept′ ≡ suc kept) × (stores′ ≡ sets stores (storeCells * kept) (at ∷ suc (length cells) ∷ number ∷ cells)))
 
--- what a message of so many bytes changes of the records, the stores kept after it make, where an update has room
+-- a word of our own: what a message of so many bytes changes of the records, the stores kept after it make, where an update has
+-- room
 pub record Keeps (cells long : ℕ) (stores : List ℕ) (kept : ℕ) (changes : List ℕ → List ℕ) (kept′ : ℕ) (stores′ : List ℕ) : Type 0 where
   pub makes : (leastUpdate ≤ long → storeCells * kept + storeCells ≤ length stores) → (records : List ℕ) → made kept′ stores′ records ≡ changes (made kept stores records)
   pub fit : AllFit cells kept stores → AllFit cells kept′ stores′

@@ -122,12 +122,12 @@ messagePut code number bytes out = messageBytes code number bytes ++ drop (lengt
 
 -- ---- the words of the inner contracts
 
--- rows laid over scratch memory
+-- a word of our own: rows laid over scratch memory
 pub record LaysRows (rows : Laid) (before : List ℕ) (answer : Checked) (after : List ℕ) : Type 0 where
   pub answers : checkedRefusal answer ≡ firstBroken (rowsRules (rows .verdict))
   pub leaves : after ≡ whereGood (rows .verdict) (laid (rows .bytes) before) before
 
--- a message with this data, where there is room
+-- a word of our own: a message with this data, where there is room
 pub record PutsMessage (code : Code) (number : ℕ) (bytes out : List ℕ) (answer : Written) (out′ : List ℕ) : Type 0 where
   pub answers : writtenNumbers answer ≡ answered (firstBroken (roomRules (length bytes + bareLength) (length out))) ((length bytes + bareLength) ∷ [])
   pub leaves : out′ ≡ leftBy (firstBroken (roomRules (length bytes + bareLength) (length out))) out (messagePut code number bytes out)

@@ -145,13 +145,10 @@ fn room(k: usize) -> u64
     rooms[k]
 }
 
-// The amount with so many noughts behind it. A quantity has none, and then no table is laid out.
+// The amount with so many noughts behind it.
 fn scaled(amount: u64, noughts: usize) -> u64
     ensures { λ r. ⌜ r ≡ cap (amount * 10 ^ noughts) ⌝ }
 {
-    if noughts == 0 {
-        return amount;
-    }
     if noughts < 20 {
         if amount <= room(noughts) {
             amount * power(noughts)

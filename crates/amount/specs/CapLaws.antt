@@ -20,6 +20,7 @@ use borrow.Author.Tests.{lt-leb}
 use Rattle.laws.specs.Order.{order}
 use Rattle.amount.specs.Kept.{cap}
 use Rattle.amount.specs.Read.{inRange, ranged}
+use Rattle.amount.specs.declared.Kind.{Kind}
 use Rattle.amount.specs.declared.Number.{Number}
 use Rattle.amount.specs.declared.Number.the-variants.{OutOfRange}
 
@@ -53,17 +54,17 @@ cap-scaled n p h = ⊎-elim
     (λ (l : n < 2 ^ 64 - 1). rw (cap-below n (omega arith)))
     (order (2 ^ 64 - 1) n)
 
-pub inRange-cap : (max n : ℕ) → max + 1 < 2 ^ 64 → inRange max (cap n) ≡ inRange max n
-inRange-cap max n h = ⊎-elim
-    (λ (l : n ≤ max). rw (cap-below n (omega arith)))
-    (λ (l : max < n). rw (lt-leb n max l, lt-leb (cap n) max (omega arith)))
-    (order n max)
+pub inRange-cap : (kind : Kind) (n : ℕ) → kind .most + 1 < 2 ^ 64 → inRange kind (cap n) ≡ inRange kind n
+inRange-cap kind n h = ⊎-elim
+    (λ (l : n ≤ kind .most). rw (cap-below n (omega arith)))
+    (λ (l : kind .most < n). rw (lt-leb n (kind .most) l, lt-leb (cap n) (kind .most) (omega arith)))
+    (order n (kind .most))
 
 -- ## What the capped amount reads as
 
-pub ranged-cap : (places max : ℕ) → max + 1 < 2 ^ 64 → (n k : ℕ) → ranged places max (cap n) k ≡ ranged places max n k
-ranged-cap places max h n k =
-    let p : ℕ = 10 ^ (places - k) in
-    let alike : cap (cap n * p) ≡ cap (n * p) = cap-scaled n p (one-le-pow (places - k) 10 (omega arith)) in
-    let capped : inRange max (cap (cap n * p)) ≡ inRange max (cap (n * p)) = ap (inRange max) alike in
-    ap (λ (r : Number). cond (leb k places) r OutOfRange) (sym (inRange-cap max (cap n * p) h) ∙ capped ∙ inRange-cap max (n * p) h)
+pub ranged-cap : (kind : Kind) → kind .most + 1 < 2 ^ 64 → (n k : ℕ) → ranged kind (cap n) k ≡ ranged kind n k
+ranged-cap kind h n k =
+    let p : ℕ = 10 ^ (kind .places - k) in
+    let alike : cap (cap n * p) ≡ cap (n * p) = cap-scaled n p (one-le-pow (kind .places - k) 10 (omega arith)) in
+    let capped : inRange kind (cap (cap n * p)) ≡ inRange kind (cap (n * p)) = ap (inRange kind) alike in
+    ap (λ (r : Number). cond (leb k (kind .places)) r OutOfRange) (sym (inRange-cap kind (cap n * p) h) ∙ capped ∙ inRange-cap kind (n * p) h)

@@ -1,4 +1,4 @@
--- A state as the code carries it: its numbers beside its phase, and no amount above a ceiling.
+-- Words of inner contracts only: a state as the code carries it, its numbers beside its phase, and no amount above a ceiling.
 use Prim.Native.Nat.{ℕ, _+_, _-_, _^_, _≤_, min}
 use mathlib.Core.Path.{_≡_}
 use mathlib.Core.List.{List}

@@ -11,8 +11,10 @@ use lib.Seq.{drop-cons}
 use Rattle.amount.specs.CapLaws.{ranged-cap}
 use Rattle.amount.specs.Denotes.{space, point, digitChar}
 use Rattle.amount.specs.Kept.{cap, phaseOf, fineness, joined, moved, Numbers, Keeps, Stepped, ReadTo}
-use Rattle.amount.specs.Read.{onSpace, onPoint, onDigit, step, walk, answer, readText}
+use Rattle.amount.specs.Kinds.{readAs}
+use Rattle.amount.specs.Read.{onSpace, onPoint, onDigit, step, walk, answer}
 use Rattle.amount.specs.WalkLaws.{NoDigit, step-space, step-point, step-digit, step-other, walk-cons, walk-nil}
+use Rattle.amount.specs.declared.Kind.{Kind}
 use Rattle.amount.specs.declared.read.Kept.{Kept}
 use Rattle.amount.specs.declared.read.Phase.{Phase}
 use Rattle.amount.specs.declared.read.Phase.the-variants as phase
@@ -95,14 +97,14 @@ module _ (places char : ℕ) (c : Kept) where
 
 -- ## The walk
 
-keeps-answer : (places max : ℕ) → max + 1 < 2 ^ 64 → (s : State) (n k : ℕ) → Numbers s n k
-    → answer places max (joined (phaseOf s) n k) ≡ answer places max s
-keeps-answer places max l Before n k h = refl
-keeps-answer places max l (Whole m) n k h = rw (h .0) (ranged-cap places max l m 0)
-keeps-answer places max l (Pointed m) n k h = refl
-keeps-answer places max l (Fraction m j) n k h = rw (h .0, h .1) (ranged-cap places max l m j)
-keeps-answer places max l (Behind m j) n k h = rw (h .0, h .1) (ranged-cap places max l m j)
-keeps-answer places max l Bad n k h = refl
+keeps-answer : (kind : Kind) → kind .most + 1 < 2 ^ 64 → (s : State) (n k : ℕ) → Numbers s n k
+    → answer kind (joined (phaseOf s) n k) ≡ answer kind s
+keeps-answer kind l Before n k h = refl
+keeps-answer kind l (Whole m) n k h = rw (h .0) (ranged-cap kind l m 0)
+keeps-answer kind l (Pointed m) n k h = refl
+keeps-answer kind l (Fraction m j) n k h = rw (h .0, h .1) (ranged-cap kind l m j)
+keeps-answer kind l (Behind m j) n k h = rw (h .0, h .1) (ranged-cap kind l m j)
+keeps-answer kind l Bad n k h = refl
 
 module _ (t : List ℕ) (places : ℕ) where
   pub read-none : ReadTo t places (record { phase = phase.Before; amount = 0; digits = 0 }) 0
@@ -118,9 +120,9 @@ module _ (t : List ℕ) (places : ℕ) where
         reads = rw (drop-cons t i 0 l, walk-cons, ← add-one) at (h .reads);
       }
 
-  pub read-all : (max : ℕ) → max + 1 < 2 ^ 64 → (c : Kept) (i : ℕ) → ReadTo t places c i → length t ≤ i
-      → answer places max (joined (c .phase) (c .amount) (c .digits)) ≡ readText places max t
-  unfolding readText
-  read-all max small c i h l =
-      let all : h .state ≡ walk places Before t = rw (drop-of-length-le t l, walk-nil) at (h .reads) in
-      rw (h .keeps .0) (keeps-answer places max small (h .state) (c .amount) (c .digits) (h .keeps .1)) ∙ ap (answer places max) all
+pub read-all : (t : List ℕ) (kind : Kind) → kind .most + 1 < 2 ^ 64 → (c : Kept) (i : ℕ) → ReadTo t (kind .places) c i → length t ≤ i
+    → answer kind (joined (c .phase) (c .amount) (c .digits)) ≡ readAs kind t
+unfolding readAs
+read-all t kind small c i h l =
+    let all : h .state ≡ walk (kind .places) Before t = rw (drop-of-length-le t l, walk-nil) at (h .reads) in
+    rw (h .keeps .0) (keeps-answer kind small (h .state) (c .amount) (c .digits) (h .keeps .1)) ∙ ap (answer kind) all

@@ -1,15 +1,14 @@
--- The kinds of number: 01 "Numbers in text".
+-- The kinds of number, and what it is to read and to write a number of a kind: 01 "Numbers in text". A kind is as the code has it:
+-- how many digits may stand behind the point, of which the last counts the kind's unit, and the largest amount of that unit.
 use Prim.Native.Nat.{ℕ}
+use mathlib.Core.Bool.{cond}
 use mathlib.Core.List.{List}
-use Rattle.amount.specs.Read.{readText}
-use Rattle.amount.specs.Write.{Written, written}
+use lib.Dec.{leb}
+use Rattle.amount.specs.Read.{walk, answer}
+use Rattle.amount.specs.Write.{textOf, Written, refused, inField}
+use Rattle.amount.specs.declared.Kind.{Kind}
 use Rattle.amount.specs.declared.Number.{Number}
-
--- 01 "Numbers in text": how many digits may stand behind the point, of which the last counts the kind's unit, and the largest
--- amount of that unit
-pub record Kind : Type 0 where
-  pub places : ℕ
-  pub most : ℕ
+use Rattle.amount.specs.declared.read.State.the-variants.{Before}
 
 -- 01 "Numbers in text": a price counts ten-millionths
 abbrev pub price : Kind
@@ -24,9 +23,10 @@ abbrev pub turnover : Kind
 turnover = record { places = 2; most = 999_999_999_999_999_999 }
 
 -- 01 "Numbers in text": what a text is as a number of that kind
-abbrev pub readAs : Kind → List ℕ → Number
-readAs kind text = readText (kind .places) (kind .most) text
+unfoldable pub readAs : Kind → List ℕ → Number
+readAs kind text = answer kind (walk (kind .places) Before text)
 
--- 01 "Numbers in text": so many units of that kind, written into a field of that width
+-- 01, the table's row 12: so many units of that kind in a field of that width; 12 where they are over the largest amount, or
+-- their text doesn't fit
 abbrev pub writtenAs : Kind → ℕ → ℕ → Written
-writtenAs kind width units = written (kind .places) (kind .most) width units
+writtenAs kind width units = cond (leb units (kind .most)) (inField width (textOf (kind .places) units)) refused

@@ -4,6 +4,7 @@ use mathlib.Core.Bool.{Bool, false, cond}
 use mathlib.Core.List.{List, [], _∷_}
 use lib.Dec.{leb, eqb}
 use Rattle.amount.specs.Denotes.{space, point, digitChar}
+use Rattle.amount.specs.declared.Kind.{Kind}
 use Rattle.amount.specs.declared.Number.{Number}
 use Rattle.amount.specs.declared.Number.the-variants.{None, Amount, Malformed, OutOfRange}
 use Rattle.amount.specs.declared.read.State.{State}
@@ -51,23 +52,19 @@ unfoldable pub walk : ℕ → State → List ℕ → State
 walk places s [] = s
 walk places s (c ∷ text) = walk places (step places s c) text
 
--- 01, the table's row 12: an amount of the unit, or over the largest
-abbrev pub inRange : ℕ → ℕ → Number
-inRange max n = cond (leb n max) (Amount n) OutOfRange
+-- 01, the table's row 12: an amount of the kind's unit, or over the largest
+abbrev pub inRange : Kind → ℕ → Number
+inRange kind n = cond (leb n (kind .most)) (Amount n) OutOfRange
 
 -- 01, the table's row 12: n of the unit of the k-th place behind the point: so many of the kind's unit, or too fine
-abbrev pub ranged : ℕ → ℕ → ℕ → ℕ → Number
-ranged places max n k = cond (leb k places) (inRange max (n * 10 ^ (places - k))) OutOfRange
+abbrev pub ranged : Kind → ℕ → ℕ → Number
+ranged kind n k = cond (leb k (kind .places)) (inRange kind (n * 10 ^ (kind .places - k))) OutOfRange
 
 -- 01 "Numbers in text": what the text is, by what was read when it ends
-abbrev pub answer : ℕ → ℕ → State → Number
-answer places max Before = None
-answer places max (Whole n) = ranged places max n 0
-answer places max (Pointed n) = Malformed
-answer places max (Fraction n k) = ranged places max n k
-answer places max (Behind n k) = ranged places max n k
-answer places max Bad = Malformed
-
--- 01 "Numbers in text", for a kind with so many places behind the point and that largest amount
-unfoldable pub readText : ℕ → ℕ → List ℕ → Number
-readText places max text = answer places max (walk places Before text)
+abbrev pub answer : Kind → State → Number
+answer kind Before = None
+answer kind (Whole n) = ranged kind n 0
+answer kind (Pointed n) = Malformed
+answer kind (Fraction n k) = ranged kind n k
+answer kind (Behind n k) = ranged kind n k
+answer kind Bad = Malformed

@@ -2,17 +2,17 @@
 use Prim.Native.Nat.{ℕ}
 use mathlib.Core.Path.{_≡_}
 use mathlib.Core.List.{List}
-use Rattle.amount.specs.Read.{readText}
+use Rattle.amount.specs.Kinds.{readAs, writtenAs}
 use Rattle.amount.specs.ReadLaws.{reads-exactly}
-use Rattle.amount.specs.Write.{written, filled, blankText}
+use Rattle.amount.specs.Write.{filled, blankText}
 use Rattle.amount.specs.WriteLaws.{fills-right, none-spaces}
+use Rattle.amount.specs.declared.Kind.{Kind}
 use Rattle.amount.specs.declared.Number.the-variants.{None, Amount}
 
-pub reads-back : (places max width n : ℕ) (text : List ℕ) → written places max width n ≡ filled text
-    → readText places max text ≡ Amount n
-reads-back places max width n text e =
-    let right = fills-right places max width n text e in
-    reads-exactly places max text (Amount n) .1 (right .means, right .small)
+pub reads-back : (kind : Kind) (width n : ℕ) (text : List ℕ) → writtenAs kind width n ≡ filled text → readAs kind text ≡ Amount n
+reads-back kind width n text e =
+    let right = fills-right kind width n text e in
+    reads-exactly kind text (Amount n) .1 (right .means, right .small)
 
-pub none-reads-back : (places max width : ℕ) → readText places max (blankText width) ≡ None
-none-reads-back places max width = reads-exactly places max (blankText width) None .1 (none-spaces width)
+pub none-reads-back : (kind : Kind) (width : ℕ) → readAs kind (blankText width) ≡ None
+none-reads-back kind width = reads-exactly kind (blankText width) None .1 (none-spaces width)

@@ -14,7 +14,9 @@ use Rattle.laws.specs.Choice.{cond-same}
 use Rattle.laws.specs.Order.{order}
 use Rattle.amount.specs.Denotes.{space, point, digitChar, value, Digits, pointed, Shape, units, AllSpaces}
 use Rattle.amount.specs.DigitLaws.{followed, followed-cons, followed-scaled}
-use Rattle.amount.specs.Read.{onSpace, onPoint, onDigit, step, walk, inRange, ranged, answer, readText}
+use Rattle.amount.specs.Kinds.{readAs}
+use Rattle.amount.specs.Read.{onSpace, onPoint, onDigit, step, walk, inRange, ranged, answer}
+use Rattle.amount.specs.declared.Kind.{Kind}
 use Rattle.amount.specs.declared.Number.{Number}
 use Rattle.amount.specs.declared.Number.the-variants.{None, OutOfRange}
 use Rattle.amount.specs.declared.read.State.{State}
@@ -81,60 +83,60 @@ module _ (places : ℕ) where
       rw (walk-cons, step-digit (Fraction n k) d (h .0), ← followed-cons n d ds, one-more)
       (digits-fraction (n * 10 + d) (k + 1) ds t (h .1))
 
-  -- ## What a text of the shape reads as
+-- ## What a text of the shape reads as
 
-  module _ (max : ℕ) where
-    -- too fine, or so many units
-    abbrev pub sized : {t : List ℕ} → Shape places t → Number
-    sized s = cond (leb (length (s .fraction)) places) (inRange max (units s)) OutOfRange
+module _ (kind : Kind) where
+  -- too fine, or so many units
+  abbrev pub sized : {t : List ℕ} → Shape (kind .places) t → Number
+  sized s = cond (leb (length (s .fraction)) (kind .places)) (inRange kind (units s)) OutOfRange
 
-    answer-space : (s : State) → answer places max (onSpace s) ≡ answer places max s
-    answer-space Before = refl
-    answer-space (Whole n) = refl
-    answer-space (Pointed n) = refl
-    answer-space (Fraction n k) = refl
-    answer-space (Behind n k) = refl
-    answer-space Bad = refl
+  answer-space : (s : State) → answer kind (onSpace s) ≡ answer kind s
+  answer-space Before = refl
+  answer-space (Whole n) = refl
+  answer-space (Pointed n) = refl
+  answer-space (Fraction n k) = refl
+  answer-space (Behind n k) = refl
+  answer-space Bad = refl
 
-    spaces-behind : (s : State) (k : ℕ) → answer places max (walk places s (replicate k space)) ≡ answer places max s
-    spaces-behind s zero = rw walk-nil
-    spaces-behind s (suc k) = rw (walk-cons, step-space) (spaces-behind (onSpace s) k ∙ answer-space s)
+  spaces-behind : (s : State) (k : ℕ) → answer kind (walk (kind .places) s (replicate k space)) ≡ answer kind s
+  spaces-behind s zero = rw walk-nil
+  spaces-behind s (suc k) = rw (walk-cons, step-space) (spaces-behind (onSpace s) k ∙ answer-space s)
 
-    fraction-reads : (n k : ℕ) (ds : List ℕ) → Digits ds → (0 < length ds → 0 < places)
-        → answer places max (walk places (Whole n) (pointed ds ++ replicate k space)) ≡ ranged places max (followed n ds) (length ds)
-    fraction-reads n k [] h may = spaces-behind (Whole n) k ∙ simp (mul-one, add-zero)
-    fraction-reads n k (d ∷ ds) h may =
-        let some : 0 < places = may (omega arith) in
-        rw (
-          walk-cons,
-          step-point,
-          ne-eqb places 0 (λ e. omega arith),
-          walk-cons,
-          step-digit (Pointed n) d (h .0),
-          digits-fraction (n * 10 + d) 1 ds (replicate k space) (h .1),
-          spaces-behind,
-          followed-cons n d ds,
-          one-add,
-        )
+  fraction-reads : (n k : ℕ) (ds : List ℕ) → Digits ds → (0 < length ds → 0 < kind .places)
+      → answer kind (walk (kind .places) (Whole n) (pointed ds ++ replicate k space)) ≡ ranged kind (followed n ds) (length ds)
+  fraction-reads n k [] h may = spaces-behind (Whole n) k ∙ simp (mul-one, add-zero)
+  fraction-reads n k (d ∷ ds) h may =
+      let some : 0 < kind .places = may (omega arith) in
+      rw (
+        walk-cons,
+        step-point,
+        ne-eqb (kind .places) 0 (λ e. omega arith),
+        walk-cons,
+        step-digit (kind .places) (Pointed n) d (h .0),
+        digits-fraction (kind .places) (n * 10 + d) 1 ds (replicate k space) (h .1),
+        spaces-behind,
+        followed-cons n d ds,
+        one-add,
+      )
 
-    ranged-sized : (n : ℕ) (ds : List ℕ)
-        → ranged places max (followed n ds) (length ds)
-        ≡ cond (leb (length ds) places) (inRange max (n * 10 ^ places + value ds * 10 ^ (places - length ds))) OutOfRange
-    ranged-sized n ds = ⊎-elim
-        (λ (h : length ds ≤ places). rw (followed-scaled n places ds h))
-        (λ (h : places < length ds). rw (lt-leb (length ds) places h))
-        (order (length ds) places)
+  ranged-sized : (n : ℕ) (ds : List ℕ)
+      → ranged kind (followed n ds) (length ds)
+      ≡ cond (leb (length ds) (kind .places)) (inRange kind (n * 10 ^ kind .places + value ds * 10 ^ (kind .places - length ds))) OutOfRange
+  ranged-sized n ds = ⊎-elim
+      (λ (h : length ds ≤ kind .places). rw (followed-scaled n (kind .places) ds h))
+      (λ (h : kind .places < length ds). rw (lt-leb (length ds) (kind .places) h))
+      (order (length ds) (kind .places))
 
-    pub shape-reads : (t : List ℕ) (s : Shape places t) → readText places max t ≡ sized s
-    unfolding readText
-    shape-reads t s =
-        let rest : List ℕ = pointed (s .fraction) ++ replicate (s .behind) space in
-        ap (readText places max) (s .laid-out)
-        ∙ ap (answer places max)
-        (spaces-before (s .before) (map digitChar (s .whole) ++ rest) ∙ digits-begin (s .whole) rest (s .some-digit) (s .whole-digits))
-        ∙ fraction-reads (value (s .whole)) (s .behind) (s .fraction) (s .fraction-digits) (s .may-point)
-        ∙ ranged-sized (value (s .whole)) (s .fraction)
+  pub shape-reads : (t : List ℕ) (s : Shape (kind .places) t) → readAs kind t ≡ sized s
+  unfolding readAs
+  shape-reads t s =
+      let rest : List ℕ = pointed (s .fraction) ++ replicate (s .behind) space in
+      ap (readAs kind) (s .laid-out)
+      ∙ ap (answer kind)
+      (spaces-before (kind .places) (s .before) (map digitChar (s .whole) ++ rest) ∙ digits-begin (kind .places) (s .whole) rest (s .some-digit) (s .whole-digits))
+      ∙ fraction-reads (value (s .whole)) (s .behind) (s .fraction) (s .fraction-digits) (s .may-point)
+      ∙ ranged-sized (value (s .whole)) (s .fraction)
 
-    pub spaces-read : (t : List ℕ) → AllSpaces t → readText places max t ≡ None
-    unfolding readText
-    spaces-read t h = ap (readText places max) h ∙ spaces-behind Before (length t)
+  pub spaces-read : (t : List ℕ) → AllSpaces t → readAs kind t ≡ None
+  unfolding readAs
+  spaces-read t h = ap (readAs kind) h ∙ spaces-behind Before (length t)

@@ -5,6 +5,7 @@ use mathlib.Core.Bool.{cond}
 use mathlib.Core.List.{List, [], _∷_, _++_, map}
 use lib.Dec.{leb, ltb}
 use lib.ListN.{length, replicate}
+use Rattle.laws.specs.Refused.{rangeNo}
 use Rattle.amount.specs.Denotes.{space, digitChar, pointed, Denotes}
 use Rattle.amount.specs.declared.write.Put.{Put}
 use Rattle.amount.specs.declared.write.Put.the-variants.{Fits, OutOfRange}
@@ -51,7 +52,7 @@ pub data Written : Type 0 where
 
 -- 01, the table's row 12: RANGE
 abbrev pub range : ℕ
-range = 12
+range = rangeNo
 
 -- 01 "Numbers in text": spaces in front, up to the width
 abbrev pub spaced : ℕ → List ℕ → List ℕ
@@ -60,11 +61,6 @@ spaced width text = replicate (width - length text) space ++ text
 -- 01, the table's row 12: a text in a field of that width; 12 where it doesn't fit
 abbrev pub inField : ℕ → List ℕ → Written
 inField width text = cond (leb (length text) width) (filled (spaced width text)) refused
-
--- 01, the table's row 12: n units in a field of that width; 12 where they are over the largest amount, or their text doesn't
--- fit
-abbrev pub written : ℕ → ℕ → ℕ → ℕ → Written
-written places max width n = cond (leb n max) (inField width (textOf places n)) refused
 
 -- 01 "Numbers in text": "none" is all spaces
 abbrev pub blankText : ℕ → List ℕ

@@ -3,8 +3,9 @@ use Prim.Native.Nat.{ℕ}
 use mathlib.Core.Path.{_≡_, refl}
 use mathlib.Core.List.{List, [], _∷_, map}
 use Rattle.laws.specs.Texts.{codes}
-use Rattle.amount.specs.Kinds.{Kind, price, quantity, turnover, writtenAs}
+use Rattle.amount.specs.Kinds.{price, quantity, turnover, writtenAs}
 use Rattle.amount.specs.Write.{sizeIn, size, textOf, Written, filled, refused}
+use Rattle.amount.specs.declared.Kind.{Kind}
 
 -- 01 "Cases": a kind, a width, units; and what becomes of the field
 abbrev Case : Type 0

@@ -10,7 +10,9 @@ use lib.ListN.{length, replicate, length-append, length-replicate, length-map}
 use borrow.Author.Tests.{le-leb, lt-leb}
 use Rattle.laws.specs.Order.{order}
 use Rattle.amount.specs.Denotes.{space, digitChar, value, Digits, pointed, Denotes, AllSpaces}
-use Rattle.amount.specs.Write.{lastDigits, size, digits, trimmed, textOf, Written, filled, refused, spaced, inField, written, blankText, NoText, refusal, putNumber, Wrote}
+use Rattle.amount.specs.Kinds.{writtenAs}
+use Rattle.amount.specs.Write.{lastDigits, size, digits, trimmed, textOf, Written, filled, refused, spaced, inField, blankText, NoText, refusal, putNumber, Wrote}
+use Rattle.amount.specs.declared.Kind.{Kind}
 use Rattle.amount.specs.declared.write.Put.{Put}
 use Rattle.amount.specs.declared.write.Put.the-variants.{Fits, OutOfRange}
 use Rattle.amount.specs.ValueLaws.{digits-append, digits-zeros, value-zeros, value-lt}
@@ -113,12 +115,12 @@ module _ {places n : ℕ} {text : List ℕ} (d : Denotes places text n) where
 
 -- ---- the field is filled, or it is refused
 
-module _ (places max width n : ℕ) where
-  pub over : max < n → written places max width n ≡ refused
-  over h = rw (lt-leb n max h)
+module _ (kind : Kind) (width n : ℕ) where
+  pub over : kind .most < n → writtenAs kind width n ≡ refused
+  over h = rw (lt-leb n (kind .most) h)
 
-  pub within : n ≤ max → written places max width n ≡ inField width (textOf places n)
-  within h = rw (le-leb n max h)
+  pub within : n ≤ kind .most → writtenAs kind width n ≡ inField width (textOf (kind .places) n)
+  within h = rw (le-leb n (kind .most) h)
 
 module _ (width : ℕ) (text : List ℕ) where
   pub narrow : width < length text → inField width text ≡ refused
@@ -131,50 +133,50 @@ module _ (width : ℕ) (text : List ℕ) where
   spaced-length h = rw (length-append, length-replicate) (omega arith)
 
 -- a text that fills the width and denotes n, which is not over the largest
-pub record Right (places max width n : ℕ) (text : List ℕ) : Type 0 where
+pub record Right (kind : Kind) (width n : ℕ) (text : List ℕ) : Type 0 where
   pub full : length text ≡ width
-  pub means : Denotes places text n
-  pub small : n ≤ max
+  pub means : Denotes (kind .places) text n
+  pub small : n ≤ kind .most
 
-data Outcome (places max width n : ℕ) : Written → Type 0 where
-  fills : {text : List ℕ} → Right places max width n text → Outcome places max width n (filled text)
-  stops : (max < n) ⊎ NoText places width n → Outcome places max width n refused
+data Outcome (kind : Kind) (width n : ℕ) : Written → Type 0 where
+  fills : {text : List ℕ} → Right kind width n text → Outcome kind width n (filled text)
+  stops : (kind .most < n) ⊎ NoText (kind .places) width n → Outcome kind width n refused
 
 apart : {text : List ℕ} → refused ≡ filled text → ⊥
 apart e = let z : _≡_ {A = ℕ} 0 1 = cc in omega arith
 
-module _ (places max width n : ℕ) where
-  outcome : Outcome places max width n (written places max width n)
-  outcome = go (order n max) (order (length text) width)
+module _ (kind : Kind) (width n : ℕ) where
+  outcome : Outcome kind width n (writtenAs kind width n)
+  outcome = go (order n (kind .most)) (order (length text) width)
     where
       text : List ℕ
-      text = textOf places n
+      text = textOf (kind .places) n
 
-      go : (n ≤ max) ⊎ (max < n) → (length text ≤ width) ⊎ (width < length text) → Outcome places max width n (written places max width n)
+      go : (n ≤ kind .most) ⊎ (kind .most < n) → (length text ≤ width) ⊎ (width < length text) → Outcome kind width n (writtenAs kind width n)
       go (inl h) (inl room) =
-          rw (within places max width n h, fitting width text room)
-          (fills (record { full = spaced-length width text room; means = denotes places (width - length text) n; small = h }))
+          rw (within kind width n h, fitting width text room)
+          (fills (record { full = spaced-length width text room; means = denotes (kind .places) (width - length text) n; small = h }))
       go (inl h) (inr none) =
-          rw (within places max width n h, narrow width text none) (stops (inr (λ other e d. omega (arith, no-shorter d))))
-      go (inr large) room = rw (over places max width n large) (stops (inl large))
+          rw (within kind width n h, narrow width text none) (stops (inr (λ other e d. omega (arith, no-shorter d))))
+      go (inr large) room = rw (over kind width n large) (stops (inl large))
 
   -- what fills the field denotes the amount
-  pub fills-right : (text : List ℕ) → written places max width n ≡ filled text → Right places max width n text
-  fills-right text = go (written places max width n) outcome
+  pub fills-right : (text : List ℕ) → writtenAs kind width n ≡ filled text → Right kind width n text
+  fills-right text = go (writtenAs kind width n) outcome
     where
-      go : (w : Written) → Outcome places max width n w → w ≡ filled text → Right places max width n text
+      go : (w : Written) → Outcome kind width n w → w ≡ filled text → Right kind width n text
       go _ (fills {text = t} h) e = let same : t ≡ text = cc in rw same at h
       go _ (stops why) e = absurd (apart e)
 
   -- 12 exactly where the amount is over the largest or no text of the field's width denotes it
-  pub refuses : (written places max width n ≡ refused) ↔ ((max < n) ⊎ NoText places width n)
-  refuses = (why (written places max width n) outcome, so (written places max width n) outcome)
+  pub refuses : (writtenAs kind width n ≡ refused) ↔ ((kind .most < n) ⊎ NoText (kind .places) width n)
+  refuses = (why (writtenAs kind width n) outcome, so (writtenAs kind width n) outcome)
     where
-      why : (w : Written) → Outcome places max width n w → w ≡ refused → (max < n) ⊎ NoText places width n
+      why : (w : Written) → Outcome kind width n w → w ≡ refused → (kind .most < n) ⊎ NoText (kind .places) width n
       why _ (fills h) e = absurd (apart (sym e))
       why _ (stops h) e = h
 
-      so : (w : Written) → Outcome places max width n w → (max < n) ⊎ NoText places width n → w ≡ refused
+      so : (w : Written) → Outcome kind width n w → (kind .most < n) ⊎ NoText (kind .places) width n → w ≡ refused
       so _ (fills h) (inl large) = absurd (omega arith)
       so _ (fills {text = t} h) (inr none) = absurd (none t (h .full) (h .means))
       so _ (stops h) reason = refl
@@ -195,15 +197,15 @@ putNumber-apart OutOfRange Fits e = absurd (omega arith)
 putNumber-apart OutOfRange OutOfRange e = refl
 
 -- by its answer: refused exactly where the amount is over the largest or no text of the field's width denotes it
-module _ (places max n : ℕ) (before after : List ℕ) (answer : Put) (p : Wrote (written places max (length before) n) before answer after) where
-  pub refused-exactly : (answer ≡ OutOfRange) ↔ ((max < n) ⊎ NoText places (length before) n)
+module _ (kind : Kind) (n : ℕ) (before after : List ℕ) (answer : Put) (p : Wrote (writtenAs kind (length before) n) before answer after) where
+  pub refused-exactly : (answer ≡ OutOfRange) ↔ ((kind .most < n) ⊎ NoText (kind .places) (length before) n)
   refused-exactly = (
-    why (written places max (length before) n) (outcome places max (length before) n) p,
-    λ h. putNumber-apart answer OutOfRange (p .answers ∙ ap refusal (refuses places max (length before) n .1 h)),
+    why (writtenAs kind (length before) n) (outcome kind (length before) n) p,
+    λ h. putNumber-apart answer OutOfRange (p .answers ∙ ap refusal (refuses kind (length before) n .1 h)),
   )
     where
-      why : (w : Written) → Outcome places max (length before) n w → Wrote w before answer after → answer ≡ OutOfRange →
-          (max < n) ⊎ NoText places (length before) n
+      why : (w : Written) → Outcome kind (length before) n w → Wrote w before answer after → answer ≡ OutOfRange →
+          (kind .most < n) ⊎ NoText (kind .places) (length before) n
       why _ (fills h) q e = absurd (omega (arith, ap putNumber e, q .answers))
       why _ (stops h) q e = h
 

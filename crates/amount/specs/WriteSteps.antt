@@ -1,4 +1,4 @@
--- What a step of the writer promises to the next.
+-- Words of inner contracts only: what a step of the writer promises to the next.
 use Prim.Native.Nat.{ℕ, _-_, _%_, _<_}
 use mathlib.Core.Path.{_≡_}
 use mathlib.Core.List.{List, _∷_, map}

@@ -1,9 +1,11 @@
 // How a number in text is read: one walk over the characters. What comes next is chosen by the character, then by what
 // was read before it.
+use crate::Kind;
 use crate::Number;
 ghost use mathlib.Core.Path.{_≡_};
 ghost use Prim.Native.Nat.{_+_, _-_, _*_, _^_, _/_, _%_, _<_};
-ghost use Rattle.amount.specs.Read.{onSpace, onPoint, onDigit, ranged, answer, readText};
+ghost use Rattle.amount.specs.Kinds.{readAs};
+ghost use Rattle.amount.specs.Read.{onSpace, onPoint, onDigit, ranged, answer};
 ghost use Rattle.amount.specs.Kept.{cap, phaseOf, fineness, joined, moved, Stepped};
 
 // What was read so far. An amount counts the place of the last digit read; beside it stands how many digits follow the
@@ -163,15 +165,15 @@ fn scaled(amount: u64, noughts: usize) -> u64
 }
 
 // An amount that counts the place of the last of so many digits behind the point, in the kind's unit.
-fn ranged(amount: u64, digits: usize, places: usize, max: u64) -> Number
-    requires { ⌜ max + 1 < 2 ^ 64 ⌝ }
-    ensures { λ r. ⌜ r ≡ ranged places max amount digits ⌝ }
+fn ranged(amount: u64, digits: usize, kind: Kind) -> Number
+    requires { ⌜ kind .most + 1 < 2 ^ 64 ⌝ }
+    ensures { λ r. ⌜ r ≡ ranged kind amount digits ⌝ }
 {
-    if digits > places {
+    if digits > kind.places {
         return Number::OutOfRange;
     }
-    let units = scaled(amount, places - digits);
-    if units <= max {
+    let units = scaled(amount, kind.places - digits);
+    if units <= kind.most {
         Number::Amount(units)
     } else {
         Number::OutOfRange
@@ -287,24 +289,24 @@ fn joined(kept: Kept) -> State
 }
 
 // What the text is when it ends.
-fn answer(state: State, places: usize, max: u64) -> Number
-    requires { ⌜ max + 1 < 2 ^ 64 ⌝ }
-    ensures { λ r. ⌜ r ≡ answer places max state ⌝ }
+fn answer(state: State, kind: Kind) -> Number
+    requires { ⌜ kind .most + 1 < 2 ^ 64 ⌝ }
+    ensures { λ r. ⌜ r ≡ answer kind state ⌝ }
 {
     match state {
         State::Before => Number::None,
-        State::Whole(n) => ranged(n, 0, places, max),
+        State::Whole(n) => ranged(n, 0, kind),
         State::Pointed(_) => Number::Malformed,
-        State::Fraction(n, k) => ranged(n, k, places, max),
-        State::Behind(n, k) => ranged(n, k, places, max),
+        State::Fraction(n, k) => ranged(n, k, kind),
+        State::Behind(n, k) => ranged(n, k, kind),
         State::Bad => Number::Malformed,
     }
 }
 
-// Any width, any number of places behind the point, any largest amount that a cell can hold.
-pub fn read(text: &[u8], places: usize, max: u64) -> Number
-    requires { ⌜ max + 1 < 2 ^ 64 ⌝ }
-    ensures { λ r. ⌜ r ≡ readText places max (now (text .entry)) ⌝ }
+// Any width, any kind whose largest amount a cell can hold.
+pub fn read(text: &[u8], kind: Kind) -> Number
+    requires { ⌜ kind .most + 1 < 2 ^ 64 ⌝ }
+    ensures { λ r. ⌜ r ≡ readAs kind (now (text .entry)) ⌝ }
 {
     let mut kept = Kept {
         phase: Phase::Before,
@@ -313,8 +315,8 @@ pub fn read(text: &[u8], places: usize, max: u64) -> Number
     };
     let mut i = 0;
     while i < text.len() {
-        kept = step(kept, text[i], places);
+        kept = step(kept, text[i], kind.places);
         i += 1;
     }
-    answer(joined(kept), places, max)
+    answer(joined(kept), kind)
 }

@@ -1,8 +1,10 @@
 // The writer of numbers in text: the shortest text, spaces in front. A field is written only once the text is known to fit.
+use crate::Kind;
 ghost use mathlib.Core.Path.{_≡_};
 ghost use Prim.Native.Nat.{_/_, _%_, _^_, _≤_, _<_};
 ghost use lib.ListN.{length};
-ghost use Rattle.amount.specs.Write.{Wrote, written, inField, textOf, blankText, size};
+ghost use Rattle.amount.specs.Kinds.{writtenAs};
+ghost use Rattle.amount.specs.Write.{Wrote, inField, textOf, blankText, size};
 ghost use Rattle.amount.specs.WriteSteps.{Stripped, digitsIn, wholeIn, fractionIn};
 
 // What writing a number answers: the text fills the field, or 01's refusal 12 and the field is as it was.
@@ -132,13 +134,13 @@ fn lay(n: u64, behind: usize, field: &mut [u8]) -> Put
     Put::Fits
 }
 
-// So many units of a kind with so many places, of which `max` is the largest amount.
-pub fn write(units: u64, places: usize, max: u64, field: &mut [u8]) -> Put
-    ensures { λ r. ⌜ Wrote (written places max (length (now (field .entry))) units) (now (field .entry)) r (now (field .exit)) ⌝ }
+// So many units of any kind.
+pub fn write(units: u64, kind: Kind, field: &mut [u8]) -> Put
+    ensures { λ r. ⌜ Wrote (writtenAs kind (length (now (field .entry))) units) (now (field .entry)) r (now (field .exit)) ⌝ }
 {
-    if max < units {
+    if kind.most < units {
         return Put::OutOfRange;
     }
-    let bare = stripped(units, places);
+    let bare = stripped(units, kind.places);
     lay(bare.units, bare.places, field)
 }

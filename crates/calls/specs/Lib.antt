@@ -1,3 +1,1 @@
-pub mod Command
 pub mod Lent
-pub mod WrittenLaws

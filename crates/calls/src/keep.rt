@@ -1,9 +1,8 @@
 // The commands that make no call: what of the memory is lent, which list is handed over, and a gap-row cell stored.
-ghost use mathlib.Core.Path.{_≡_};
-ghost use Prim.Native.Nat.{_≤_, min};
+ghost use Prim.Native.Nat.{_≤_};
 ghost use lib.ListN.{length};
 ghost use Rattle.calls.specs.Lent.{Within};
-use crate::command;
+use console::least;
 
 // The bytes of the list, the gap-row cells and the record cells that are handed to the calls.
 pub struct Lent {
@@ -12,23 +11,12 @@ pub struct Lent {
     pub records: usize,
 }
 
-// Cells beyond the program's memory count as all of it.
-pub fn least(a: usize, b: usize) -> usize
-    ensures { λ r. ⌜ r ≡ min a b ⌝ }
-{
-    if a < b { a } else { b }
-}
-
 // The list's bytes, behind its length.
-fn keep_list(bytes: &[u8], list: &mut [u8]) -> usize
+fn keep_list(text: &[u8], list: &mut [u8]) -> usize
     ensures { λ r. ⌜ r ≤ length (now (list .entry)) ⌝ }
 {
-    let size = least(wire::u32_at(bytes, 1) as usize, list.len());
-    let mut i = 0;
-    while i < size {
-        list[i] = wire::u8_at(bytes, command::LENGTH_FRONT + i);
-        i += 1;
-    }
+    let size = least(text.len(), list.len());
+    console::copy(&text[0..size], list, 0);
     size
 }
 
@@ -50,7 +38,7 @@ pub fn keep(bytes: &[u8], list: &mut [u8], rows: &mut [u32], records: &[u64], le
             records: least(wire::u32_at(bytes, 5) as usize, records.len()),
         },
         b'L' => Lent {
-            list: keep_list(bytes, list),
+            list: keep_list(commands::batch_in(bytes), list),
             rows: lent.rows,
             records: lent.records,
         },

@@ -1,10 +1,5 @@
 // The test bench: makes the calls that it is told from standard input, and prints what each answers.
-mod answer;
-mod command;
 mod keep;
-mod lines;
-mod record;
-mod write;
 
 ghost use Prim.Native.Nat.{_≤_};
 ghost use lib.ListN.{length};
@@ -13,7 +8,7 @@ ghost use Rattle.calls.specs.Lent.{Within};
 use console::Desk;
 use keep::Lent;
 
-// What a turn leaves, and whether there may be another.
+// Where the program stands: in what it reads and says, with what is lent, and whether there may be another turn.
 struct Turn {
     desk: Desk,
     lent: Lent,
@@ -42,11 +37,11 @@ fn call(
     let size = lent.list;
     let row_cells = lent.rows;
     let record_cells = lent.records;
-    answer::answer(
+    answers::answer(
         bytes,
-        &list[..size],
-        &mut rows[..row_cells],
-        &mut records[..record_cells],
+        &list[0..size],
+        &mut rows[0..row_cells],
+        &mut records[0..record_cells],
         page,
         used,
     )
@@ -75,15 +70,16 @@ fn take_turn(
     list: &mut [u8],
     rows: &mut [u32],
     records: &mut [u64],
-    lent: Lent,
     room: &mut [u8],
     page: &mut [u8],
-    desk: Desk,
+    turn: Turn,
 ) -> Turn
-    requires { ⌜ Fits desk (now room) (now page) × Within lent (now list) (now rows) (now records) ⌝ }
+    requires { ⌜ Fits (turn .desk) (now room) (now page) × Within (turn .lent) (now list) (now rows) (now records) ⌝ }
     ensures { λ r. ⌜ Fits (r .desk) (now (room .exit)) (now (page .exit)) × Within (r .lent) (now (list .exit)) (now (rows .exit)) (now (records .exit)) ⌝ }
 {
-    let command = command::next(room, page, desk);
+    let desk = turn.desk;
+    let lent = turn.lent;
+    let command = commands::next(room, page, desk);
     let desk = command.desk;
     if command.length == 0 {
         return Turn {
@@ -107,7 +103,7 @@ fn take_turn(
     }
 }
 
-// Every command, and how much of the page is used. A proved loop has to end, so it counts down from a number that no run uses up.
+// Every command, and how much of the page is used.
 fn run(
     list: &mut [u8],
     size: usize,
@@ -119,27 +115,25 @@ fn run(
     requires { ⌜ size ≤ length (now list) ⌝ }
     ensures { λ r. ⌜ r ≤ length (now (page .entry)) ⌝ }
 {
-    let mut desk = Desk {
-        at: 0,
-        end: 0,
-        used: 0,
+    let mut turn = Turn {
+        desk: Desk {
+            at: 0,
+            end: 0,
+            used: 0,
+        },
+        lent: Lent {
+            list: size,
+            rows: rows.len(),
+            records: records.len(),
+        },
+        more: true,
     };
-    let mut lent = Lent {
-        list: size,
-        rows: rows.len(),
-        records: records.len(),
-    };
-    let mut turns = u64::MAX;
-    while turns > 0 {
-        let turn = take_turn(list, rows, records, lent, room, page, desk);
-        desk = turn.desk;
-        lent = turn.lent;
-        if !turn.more {
-            break;
-        }
-        turns -= 1;
+    let mut turns: u64 = 0;
+    while turns < console::LAST_TURN {
+        turn = take_turn(list, rows, records, room, page, turn);
+        turns = console::turn_after(turns, turn.more);
     }
-    desk.used
+    turn.desk.used
 }
 
 fn bench(list: &mut [u8], size: usize, page: &mut [u8]) -> usize

@@ -1,9 +1,11 @@
-// What the programs share: standard input and output in large pieces, the file of contracts and runs as they are said.
+// What the programs share: standard input and output in large pieces, the file of contracts, numbers read and lines said.
 mod file;
 mod input;
 mod memory;
+mod numbers;
 mod output;
 mod runs;
+mod turns;
 
 pub use file::FILE_ROOM;
 pub use file::MOST_LIST;
@@ -13,7 +15,18 @@ pub use input::fill;
 pub use memory::RECORD_CELLS;
 pub use memory::ROW_CELLS;
 pub use memory::RUN_CELLS;
+pub use numbers::bytes_at;
+pub use numbers::least;
+pub use numbers::u32s_at;
+pub use numbers::u64s_at;
+pub use output::copy;
 pub use output::flush;
 pub use output::put;
+pub use output::put_line;
+pub use output::put_numbers;
+pub use output::put_said;
 pub use output::put_with;
 pub use runs::put_runs;
+pub use runs::runs_in;
+pub use turns::LAST_TURN;
+pub use turns::turn_after;

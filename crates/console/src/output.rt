@@ -10,10 +10,10 @@ use libc::STDOUT_FILENO;
 pub fn flush(page: &[u8], used: usize)
     requires { ⌜ used ≤ length (now page) ⌝ }
 {
-    io::write_all(STDOUT_FILENO, &page[..used]);
+    io::write_all(STDOUT_FILENO, &page[0..used]);
 }
 
-fn copy(text: &[u8], page: &mut [u8], to: usize)
+pub fn copy(text: &[u8], page: &mut [u8], to: usize)
     requires { ⌜ to + length (now text) ≤ length (now page) ⌝ }
     ensures { λ _. ⌜ now (page .exit) ≡ sets (now (page .entry)) to (now (text .entry)) ⌝ }
 {
@@ -54,4 +54,37 @@ pub fn put_with(page: &mut [u8], used: usize, text: &[u8], number: u64) -> usize
 {
     let more = put(page, used, text);
     put_number(page, more, number)
+}
+
+// Each number behind a space.
+pub fn put_numbers(page: &mut [u8], used: usize, numbers: &[u64]) -> usize
+    requires { ⌜ used ≤ length (now page) ⌝ }
+    ensures { λ r. ⌜ r ≤ length (now (page .entry)) ⌝ }
+{
+    let mut more = used;
+    let mut i = 0;
+    while i < numbers.len() {
+        more = put_with(page, more, b" ", numbers[i]);
+        i += 1;
+    }
+    more
+}
+
+// A name, what is said of it, and numbers.
+pub fn put_said(page: &mut [u8], used: usize, name: &[u8], said: &[u8], numbers: &[u64]) -> usize
+    requires { ⌜ used ≤ length (now page) ⌝ }
+    ensures { λ r. ⌜ r ≤ length (now (page .entry)) ⌝ }
+{
+    let used = put(page, used, name);
+    let used = put(page, used, said);
+    put_numbers(page, used, numbers)
+}
+
+// The same, as a line.
+pub fn put_line(page: &mut [u8], used: usize, name: &[u8], said: &[u8], numbers: &[u64]) -> usize
+    requires { ⌜ used ≤ length (now page) ⌝ }
+    ensures { λ r. ⌜ r ≤ length (now (page .entry)) ⌝ }
+{
+    let used = put_said(page, used, name, said, numbers);
+    put(page, used, b"\n")
 }

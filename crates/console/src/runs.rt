@@ -1,6 +1,7 @@
 // Runs as text, `first-last`.
 ghost use Prim.Native.Nat.{_≤_};
 ghost use lib.ListN.{length};
+use crate::numbers::least;
 use crate::output::put;
 use crate::output::put_with;
 
@@ -32,4 +33,12 @@ pub fn put_runs(page: &mut [u8], used: usize, before: &[u8], runs: &[u32], behin
         i += 2;
     }
     more
+}
+
+// The cells that hold so many runs, two each, of those that there are.
+pub fn runs_in(cells: &[u32], runs: usize) -> &[u32]
+    ensures { λ r. ⌜ length (now r) ≤ length (now (cells .entry)) ⌝ }
+{
+    let end = 2 * least(runs, cells.len() / 2);
+    &cells[0..end]
 }

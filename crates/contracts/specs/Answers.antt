@@ -1,6 +1,7 @@
 -- The answers of this crate's lookups in the paper's numbers.
 use Prim.Native.Nat.{ℕ}
 use mathlib.Core.Option.{Option, none, some}
+use Rattle.laws.specs.Refused.{codeNo, contractNo}
 use Rattle.contracts.specs.declared.lookup.Found.{Found}
 use Rattle.contracts.specs.declared.lookup.Found.the-variants.{At, Nowhere}
 
@@ -10,14 +11,14 @@ placeOf (At place) = some place
 placeOf Nowhere = none
 
 -- 01, the table: 0 where it is listed; else the row's number, 6 for a letter and 13 for a key
-abbrev pub numberOf : ℕ → Found → ℕ
-numberOf refusal (At place) = 0
-numberOf refusal Nowhere = refusal
+abbrev pub foundNumber : ℕ → Found → ℕ
+foundNumber refusal (At place) = 0
+foundNumber refusal Nowhere = refusal
 
 -- 01, the table's row 6, CODE: letter not listed
 abbrev pub codeRefused : ℕ
-codeRefused = 6
+codeRefused = codeNo
 
 -- 01, the table's row 13, CONTRACT: key not listed
 abbrev pub contractRefused : ℕ
-contractRefused = 13
+contractRefused = contractNo

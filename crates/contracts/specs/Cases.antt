@@ -8,8 +8,8 @@ use lib.ListN.{length, replicate}
 use Rattle.contracts.specs.File.{segmentsOf, letterAt, zeroAt, countAt, offsetAt, keySize, keyFrom, contractsBefore}
 use Rattle.contracts.specs.Halving.{halvedIn, digits}
 use Rattle.contracts.specs.Lookup.{segmentOf, lookup, placeIn}
-use Rattle.contracts.specs.Records.{recordAt}
-use Rattle.contracts.specs.Sound.{entrySound, headerSound, bytesSound, keySound, bodySound, sound}
+use Rattle.contracts.specs.Records.{contractAmong}
+use Rattle.contracts.specs.Sound.{entrySound, headerSound, keySound, bodySound, sound}
 
 -- 01 "The contract list": a 39-byte key of one byte throughout
 abbrev pub keyOfBytes : ℕ → List ℕ
@@ -43,7 +43,7 @@ lists =
 
 -- the last three pass the short check, which doesn't look at the bodies
 pub checked : map sound lists ≡ true ∷ false ∷ false ∷ true ∷ false ∷ false ∷ false ∷ false ∷ false ∷ false ∷ false ∷ false ∷ []
-unfolding segmentsOf letterAt zeroAt countAt offsetAt keyFrom contractsBefore entrySound headerSound bytesSound keySound bodySound sound
+unfolding segmentsOf letterAt zeroAt countAt offsetAt keyFrom contractsBefore entrySound headerSound keySound bodySound sound
 checked = refl
 
 pub header-checked : map headerSound lists ≡ true ∷ false ∷ false ∷ true ∷ false ∷ false ∷ false ∷ false ∷ false ∷ true ∷ true ∷ true ∷ []
@@ -64,7 +64,7 @@ pub found-letters : map (segmentOf (twoOf 68 84 18 57 threeKeys)) (68 ∷ 84 ∷
 unfolding segmentsOf letterAt segmentOf
 found-letters = refl
 
-pub last-record : recordAt (twoOf 68 84 18 57 threeKeys) 1 1 ≡ 2
+pub last-record : contractAmong (twoOf 68 84 18 57 threeKeys) 1 1 ≡ 2
 unfolding segmentsOf countAt contractsBefore
 last-record = refl
 

@@ -42,8 +42,8 @@ abbrev pub keyAt : List ℕ → ℕ → ℕ → ℕ
 keyAt list i k = offsetAt list i + keySize * k
 
 -- 01 "The contract list": key k of segment i
-abbrev pub keyOf : List ℕ → ℕ → ℕ → List ℕ
-keyOf list i k = keyFrom list (keyAt list i k)
+abbrev pub listedKey : List ℕ → ℕ → ℕ → List ℕ
+listedKey list i k = keyFrom list (keyAt list i k)
 
 -- 01 "The contract list": the contracts of all segments before segment i
 unfoldable pub contractsBefore : List ℕ → ℕ → ℕ

@@ -1,8 +1,8 @@
 -- M-102: the rule of halving, over any row of keys. `stands k` says how the key sought stands to key k of the row.
 use Prim.Native.Nat.{ℕ, zero, suc, _+_, _-_, _/_}
 use mathlib.Core.Option.{Option, none, some}
-use Rattle.contracts.specs.declared.key.Order.{Order}
-use Rattle.contracts.specs.declared.key.Order.the-variants.{Below, Same, Above}
+use Rattle.contracts.specs.declared.key.Stands.{Stands}
+use Rattle.contracts.specs.declared.key.Stands.the-variants.{Below, Same, Above}
 
 -- M-102: the place found, and the number of keys compared
 pub record Halved : Type 0 where
@@ -15,7 +15,7 @@ oneMore h = record { place = h .place; compared = h .compared + 1 }
 
 -- M-102: of n keys left (here m + 1), the first of which is key `low`, compare the one with (n - 1) / 2, rounded down, below
 -- it; stop on a match, else go on in the half where the key belongs. Each time fewer keys are left, so n turns are enough
-unfoldable pub halvedIn : ℕ → (ℕ → Order) → ℕ → ℕ → Halved
+unfoldable pub halvedIn : ℕ → (ℕ → Stands) → ℕ → ℕ → Halved
 halvedIn zero stands low n = record { place = none; compared = 0 }
 halvedIn (suc turns) stands low zero = record { place = none; compared = 0 }
 halvedIn (suc turns) stands low (suc m) =
@@ -26,11 +26,11 @@ halvedIn (suc turns) stands low (suc m) =
     ]
 
 -- M-102: n keys from key `low` on
-abbrev pub halvedFrom : (ℕ → Order) → ℕ → ℕ → Halved
+abbrev pub halvedFrom : (ℕ → Stands) → ℕ → ℕ → Halved
 halvedFrom stands low n = halvedIn n stands low n
 
 -- M-102: a row of n keys
-abbrev pub halved : (ℕ → Order) → ℕ → Halved
+abbrev pub halved : (ℕ → Stands) → ℕ → Halved
 halved stands n = halvedFrom stands 0 n
 
 -- M-102: the binary digits of n: none of 0, and one more than half of it has. n turns are enough

@@ -8,15 +8,15 @@ use native.Mathlib.Numerals.{add-one}
 use native.Mathlib.Omega.{arith}
 use Rattle.laws.specs.Order.{three}
 use Rattle.laws.specs.Choice.{never}
-use Rattle.contracts.specs.declared.key.Order.{Order}
-use Rattle.contracts.specs.declared.key.Order.the-variants.{Below, Same, Above}
+use Rattle.contracts.specs.declared.key.Stands.{Stands}
+use Rattle.contracts.specs.declared.key.Stands.the-variants.{Below, Same, Above}
 use Rattle.contracts.specs.Halving.{Halved, oneMore, halvedIn, halvedFrom, halved, digitsIn, digits}
 
 -- below, the same or above
-abbrev Which : Order → Type 0
+abbrev Which : Stands → Type 0
 Which o = (o ≡ Same) ⊎ ((o ≡ Below) ⊎ (o ≡ Above))
 
-which : (o : Order) → Which o
+which : (o : Stands) → Which o
 which Same = inl refl
 which Below = inr (inl refl)
 which Above = inr (inr refl)
@@ -33,7 +33,7 @@ holds (suc t) (suc m) h =
 pub digits-hold : (n : ℕ) → n < 2 ^ digits n
 digits-hold n = holds n n (omega arith)
 
-module _ (stands : ℕ → Order) where
+module _ (stands : ℕ → Stands) where
   module _ (turns low m : ℕ) where
     matched : stands (low + m / 2) ≡ Same
         → halvedIn (suc turns) stands low (suc m) ≡ record { place = some (low + m / 2); compared = 1 }

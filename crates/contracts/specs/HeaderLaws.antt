@@ -13,7 +13,7 @@ use Rattle.laws.specs.Order.{three, climbs}
 use Rattle.laws.specs.Tests.{both, conj, any}
 use Rattle.contracts.specs.Below.{allBelow}
 use Rattle.contracts.specs.BelowLaws.{each-passes, all-pass, sum-under}
-use Rattle.contracts.specs.File.{segmentsOf, letterAt, zeroAt, countAt, offsetAt, keySize, keyAt, keyOf, contractsOf}
+use Rattle.contracts.specs.File.{segmentsOf, letterAt, zeroAt, countAt, offsetAt, keySize, keyAt, listedKey, contractsOf}
 use Rattle.contracts.specs.FileLaws.{none-before, before-sum, before-next, before-reaches, whole-key}
 use Rattle.contracts.specs.Sound.{Header, mostSegments, mostContracts, letterD, letterT, within, isLetter, letterAscends, bodyAt, entrySound, headerSound}
 
@@ -134,7 +134,7 @@ module _ (list : List ℕ) where
   pub key-inside : Header list → (i k : ℕ) → i < segmentsOf list → k < countAt list i → keyAt list i k + keySize ≤ length list
   key-inside h i k l m = omega (arith, body-begins h i l, size-is h, before-reaches list i l)
 
-  pub key-length : Header list → (i k : ℕ) → i < segmentsOf list → k < countAt list i → length (keyOf list i k) ≡ keySize
+  pub key-length : Header list → (i k : ℕ) → i < segmentsOf list → k < countAt list i → length (listedKey list i k) ≡ keySize
   key-length h i k l m = whole-key list (keyAt list i k) (key-inside h i k l m)
 
   pub contracts-few : Header list → contractsOf list ≤ mostSegments * mostContracts

@@ -3,11 +3,11 @@ use Prim.Native.Nat.{ℕ}
 use mathlib.Core.Bool.{cond}
 use mathlib.Core.List.{List, [], _∷_}
 use lib.Dec.{ltb}
-use Rattle.contracts.specs.declared.key.Order.{Order}
-use Rattle.contracts.specs.declared.key.Order.the-variants.{Below, Same, Above}
+use Rattle.contracts.specs.declared.key.Stands.{Stands}
+use Rattle.contracts.specs.declared.key.Stands.the-variants.{Below, Same, Above}
 
 -- 01 "The contract list": by the first byte in which they differ; what a longer one begins with stands below it
-abbrev pub orderOf : List ℕ → List ℕ → Order
+abbrev pub orderOf : List ℕ → List ℕ → Stands
 orderOf [] [] = Same
 orderOf [] (y ∷ ys) = Below
 orderOf (x ∷ xs) [] = Above

@@ -13,7 +13,7 @@ use borrow.Author.Tests.{lt-ltb, le-ltb}
 use Rattle.wire.specs.NumberLaws.{number-under}
 use Rattle.laws.specs.Order.{three}
 use Rattle.wire.specs.Number.{numberAt}
-use Rattle.contracts.specs.declared.key.Order.the-variants.{Below, Same, Above}
+use Rattle.contracts.specs.declared.key.Stands.the-variants.{Below, Same, Above}
 use Rattle.contracts.specs.Keys.{orderOf}
 
 module _ (x y : ℕ) (xs ys : List ℕ) where

@@ -3,9 +3,9 @@ use Prim.Native.Nat.{ℕ}
 use mathlib.Core.List.{List}
 use mathlib.Core.Option.{Option}
 use lib.Dec.{eqb}
-use Rattle.contracts.specs.declared.key.Order.{Order}
+use Rattle.contracts.specs.declared.key.Stands.{Stands}
 use Rattle.contracts.specs.Below.{firstBelow}
-use Rattle.contracts.specs.File.{segmentsOf, letterAt, countAt, keyOf}
+use Rattle.contracts.specs.File.{segmentsOf, letterAt, countAt, listedKey}
 use Rattle.contracts.specs.Halving.{Halved, halved}
 use Rattle.contracts.specs.Keys.{orderOf}
 
@@ -14,8 +14,8 @@ unfoldable pub segmentOf : List ℕ → ℕ → Option ℕ
 segmentOf list letter = firstBelow (segmentsOf list) (λ i. eqb (letterAt list i) letter)
 
 -- 01 "The contract list": how a key stands to key k of segment i
-abbrev pub standsTo : List ℕ → ℕ → List ℕ → ℕ → Order
-standsTo list i key k = orderOf key (keyOf list i k)
+abbrev pub standsTo : List ℕ → ℕ → List ℕ → ℕ → Stands
+standsTo list i key k = orderOf key (listedKey list i k)
 
 -- M-102: a key is looked up in segment i by halving, whatever the bodies hold
 unfoldable pub lookup : List ℕ → ℕ → List ℕ → Halved

@@ -10,16 +10,16 @@ use lib.Dec.{eqb}
 use Rattle.laws.specs.Choice.{never}
 use Rattle.contracts.specs.declared.lookup.Found.{Found}
 use Rattle.contracts.specs.declared.lookup.Found.the-variants.{At, Nowhere}
-use Rattle.contracts.specs.Answers.{placeOf, numberOf, codeRefused, contractRefused}
+use Rattle.contracts.specs.Answers.{placeOf, foundNumber, codeRefused, contractRefused}
 use Rattle.contracts.specs.BelowLaws.{first-passes, none-passes}
-use Rattle.contracts.specs.File.{segmentsOf, letterAt, countAt, keyOf}
+use Rattle.contracts.specs.File.{segmentsOf, letterAt, countAt, listedKey}
 use Rattle.contracts.specs.Halving.{digits}
 use Rattle.contracts.specs.HeaderLaws.{letters-apart}
 use Rattle.contracts.specs.HalvingLaws.{compared-few, found-matches, match-found}
 use Rattle.contracts.specs.Keys.{orderOf}
 use Rattle.contracts.specs.KeysLaws.{between, same-key, key-same}
 use Rattle.contracts.specs.Lookup.{segmentOf, standsTo, lookup, placeIn}
-use Rattle.contracts.specs.Sound.{Header, Sound}
+use Rattle.contracts.specs.Sound.{Header, SoundList}
 use Rattle.contracts.specs.SoundLaws.{keys-climb}
 
 -- a lookup that answers a place exactly where something is listed answers none exactly where nothing is
@@ -32,7 +32,7 @@ module _ (answer : Option ℕ) (Is : ℕ → Type 0) (exact : (i : ℕ) → answ
       go (some i) e nothing = absurd (nothing i (exact i .0 e))
 
   -- and then its number is the refusal's
-  refused-exact : (refusal : ℕ) → 0 < refusal → (r : Found) → placeOf r ≡ answer → numberOf refusal r ≡ refusal ↔ ((i : ℕ) → Is i → ⊥)
+  refused-exact : (refusal : ℕ) → 0 < refusal → (r : Found) → placeOf r ≡ answer → foundNumber refusal r ≡ refusal ↔ ((i : ℕ) → Is i → ⊥)
   refused-exact refusal h (At i) e =
       ((λ n. absurd (omega arith)), (λ nothing. absurd (never (sym (none-exact .1 nothing) ∙ sym e))))
   refused-exact refusal h Nowhere e = ((λ n. none-exact .0 (sym e)), (λ nothing. refl))
@@ -59,7 +59,7 @@ module _ (list : List ℕ) where
 
   -- 6 is given exactly when no segment has the letter
   pub letter-refused : Header list → (letter : ℕ) (r : Found) → placeOf r ≡ segmentOf list letter
-      → numberOf codeRefused r ≡ codeRefused ↔ ((i : ℕ) → (i < segmentsOf list) × (letterAt list i ≡ letter) → ⊥)
+      → foundNumber codeRefused r ≡ codeRefused ↔ ((i : ℕ) → (i < segmentsOf list) × (letterAt list i ≡ letter) → ⊥)
   letter-refused h letter r e =
       refused-exact (segmentOf list letter) (λ i. (i < segmentsOf list) × (letterAt list i ≡ letter)) (segment-exact h letter)
       codeRefused (omega arith) r e
@@ -71,26 +71,26 @@ module _ (list : List ℕ) where
     lookup-steps = compared-few (standsTo list i key) (countAt list i)
 
     -- a key that is found stands at its place, whatever the bodies hold
-    pub key-at-place : (k : ℕ) → placeIn list i key ≡ some k → (k < countAt list i) × (keyOf list i k ≡ key)
+    pub key-at-place : (k : ℕ) → placeIn list i key ≡ some k → (k < countAt list i) × (listedKey list i k ≡ key)
     unfolding lookup
     key-at-place k e =
         let h = found-matches (standsTo list i key) (countAt list i) k e in
-        (h .0, sym (same-key key (keyOf list i k) (h .1)))
+        (h .0, sym (same-key key (listedKey list i k) (h .1)))
 
     -- in a sound list a key is found exactly when it is listed, at its place
-    pub key-exact : Sound list → i < segmentsOf list → (k : ℕ) → placeIn list i key ≡ some k ↔ (k < countAt list i) × (keyOf list i k ≡ key)
+    pub key-exact : SoundList list → i < segmentsOf list → (k : ℕ) → placeIn list i key ≡ some k ↔ (k < countAt list i) × (listedKey list i k ≡ key)
     unfolding lookup
     key-exact s l k = (
       key-at-place k,
       (λ h.
           match-found (standsTo list i key) (countAt list i) k
-          (λ a b m n. between key (keyOf list i a) (keyOf list i b) (keys-climb list s i a b l m n))
+          (λ a b m n. between key (listedKey list i a) (listedKey list i b) (keys-climb list s i a b l m n))
           (h .0) (ap (orderOf key) (h .1) ∙ key-same key)),
     )
 
     -- 13 is given exactly when the key isn't listed
-    pub key-refused : Sound list → i < segmentsOf list → (r : Found) → placeOf r ≡ placeIn list i key
-        → numberOf contractRefused r ≡ contractRefused ↔ ((k : ℕ) → (k < countAt list i) × (keyOf list i k ≡ key) → ⊥)
+    pub key-refused : SoundList list → i < segmentsOf list → (r : Found) → placeOf r ≡ placeIn list i key
+        → foundNumber contractRefused r ≡ contractRefused ↔ ((k : ℕ) → (k < countAt list i) × (listedKey list i k ≡ key) → ⊥)
     key-refused s l r e =
-        refused-exact (placeIn list i key) (λ k. (k < countAt list i) × (keyOf list i k ≡ key)) (key-exact s l)
+        refused-exact (placeIn list i key) (λ k. (k < countAt list i) × (listedKey list i k ≡ key)) (key-exact s l)
         contractRefused (omega arith) r e

@@ -4,10 +4,10 @@ use mathlib.Core.List.{List}
 use Rattle.contracts.specs.File.{segmentsOf, countAt, contractsBefore}
 
 -- 01 "The contract list": contract k of segment i is listed
-pub record Listed (list : List ℕ) (i k : ℕ) : Type 0 where
+pub record ContractListed (list : List ℕ) (i k : ℕ) : Type 0 where
   pub segment : i < segmentsOf list
   pub place : k < countAt list i
 
 -- lent memory: behind the records of all segments before its own, and of the contracts before it
-abbrev pub recordAt : List ℕ → ℕ → ℕ → ℕ
-recordAt list i k = contractsBefore list i + k
+abbrev pub contractAmong : List ℕ → ℕ → ℕ → ℕ
+contractAmong list i k = contractsBefore list i + k

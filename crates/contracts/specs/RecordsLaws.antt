@@ -8,11 +8,11 @@ use Rattle.laws.specs.Order.{three}
 use Rattle.contracts.specs.BelowLaws.{sum-reaches}
 use Rattle.contracts.specs.File.{segmentsOf, countAt, contractsBefore, contractsOf}
 use Rattle.contracts.specs.FileLaws.{before-sum, before-reaches}
-use Rattle.contracts.specs.Records.{Listed, recordAt}
+use Rattle.contracts.specs.Records.{ContractListed, contractAmong}
 
 module _ (list : List ℕ) where
   -- a record is one of those kept
-  pub record-kept : (i k : ℕ) → Listed list i k → recordAt list i k < contractsOf list
+  pub record-kept : (i k : ℕ) → ContractListed list i k → contractAmong list i k < contractsOf list
   record-kept i k h = omega (arith, h .place, before-reaches list i (h .segment))
 
   -- the records of a segment end before those of a later one begin
@@ -20,7 +20,7 @@ module _ (list : List ℕ) where
   segments-apart i j h l = rw (before-sum list i (omega arith), before-sum list j (omega arith)) (sum-reaches (countAt list) j i h)
 
   -- two contracts have two records
-  pub records-apart : (i k j l : ℕ) → Listed list i k → Listed list j l → recordAt list i k ≡ recordAt list j l → (i ≡ j) × (k ≡ l)
+  pub records-apart : (i k j l : ℕ) → ContractListed list i k → ContractListed list j l → contractAmong list i k ≡ contractAmong list j l → (i ≡ j) × (k ≡ l)
   records-apart i k j l h g e =
       ⊎-elim (λ (m : i < j). absurd (omega (arith, h .place, segments-apart i j m (g .segment))))
       (⊎-elim (λ (m : j < i). absurd (omega (arith, g .place, segments-apart j i m (h .segment))))

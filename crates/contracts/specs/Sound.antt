@@ -6,10 +6,11 @@ use mathlib.Core.Bool.{Bool, true, false, _&&_, _||_}
 use mathlib.Core.List.{List}
 use lib.Dec.{leb, ltb, eqb}
 use lib.ListN.{length, getD}
-use Rattle.contracts.specs.declared.key.Order.{Order}
-use Rattle.contracts.specs.declared.key.Order.the-variants.{Below, Same, Above}
+use Rattle.wire.specs.Bytes.{lowestByte, highestByte, allPrintable}
+use Rattle.contracts.specs.declared.key.Stands.{Stands}
+use Rattle.contracts.specs.declared.key.Stands.the-variants.{Below, Same, Above}
 use Rattle.contracts.specs.Below.{allBelow}
-use Rattle.contracts.specs.File.{segmentsOf, entryAt, letterAt, zeroAt, countAt, offsetAt, keySize, keyOf, contractsBefore}
+use Rattle.contracts.specs.File.{segmentsOf, entryAt, letterAt, zeroAt, countAt, offsetAt, keySize, listedKey, contractsBefore}
 use Rattle.contracts.specs.Keys.{orderOf}
 
 -- 01 "The contract list": 1 or 2 segments
@@ -27,14 +28,6 @@ letterD = 68
 -- 01 "The contract list": letters are D or T
 abbrev pub letterT : ℕ
 letterT = 84
-
--- 01 "The contract list": a key's bytes are 32 to 126
-abbrev pub lowestByte : ℕ
-lowestByte = 32
-
--- 01 "The contract list": a key's bytes are 32 to 126
-abbrev pub highestByte : ℕ
-highestByte = 126
 
 -- 01, the table's row 16: the short check of the calls after start: the rules for all that stands before the bodies, and for
 -- the size
@@ -58,11 +51,11 @@ pub record SameContents (list other : List ℕ) : Type 0 where
   pub contents : (j : ℕ) → j < entryAt (segmentsOf list) → getD list j 0 ≡ getD other j 0
 
 -- 01, the table's row 16: the full check of start: the keys' bytes, and their order within a segment
-pub record Sound (list : List ℕ) : Type 0 where
+pub record SoundList (list : List ℕ) : Type 0 where
   pub header : Header list
   pub key-bytes : (i k b : ℕ) → i < segmentsOf list → k < countAt list i → b < keySize
-      → (lowestByte ≤ getD (keyOf list i k) b 0) × (getD (keyOf list i k) b 0 ≤ highestByte)
-  pub keys-ascend : (i k : ℕ) → i < segmentsOf list → k + 1 < countAt list i → orderOf (keyOf list i k) (keyOf list i (k + 1)) ≡ Below
+      → (lowestByte ≤ getD (listedKey list i k) b 0) × (getD (listedKey list i k) b 0 ≤ highestByte)
+  pub keys-ascend : (i k : ℕ) → i < segmentsOf list → k + 1 < countAt list i → orderOf (listedKey list i k) (listedKey list i (k + 1)) ≡ Below
 
 -- a word of our own: n is not under `low` and not above `high`
 abbrev pub within : ℕ → ℕ → ℕ → Bool
@@ -86,12 +79,8 @@ unfoldable pub entrySound : List ℕ → ℕ → Bool
 entrySound list i =
     isLetter (letterAt list i) && letterAscends list i && eqb (zeroAt list i) 0 && within 1 mostContracts (countAt list i) && eqb (offsetAt list i) (bodyAt list i)
 
--- 01 "The contract list": each byte of a key is 32 to 126
-unfoldable pub bytesSound : List ℕ → Bool
-bytesSound key = allBelow (length key) (λ b. within lowestByte highestByte (getD key b 0))
-
 -- 01 "The contract list": strictly ascending, so that the same is not below
-abbrev pub isBelow : Order → Bool
+abbrev pub isBelow : Stands → Bool
 isBelow Below = true
 isBelow Same = false
 isBelow Above = false
@@ -99,11 +88,11 @@ isBelow Above = false
 -- 01 "The contract list": each key but the first of its segment stands above the one before it
 abbrev pub keyAscends : List ℕ → ℕ → ℕ → Bool
 keyAscends list i zero = true
-keyAscends list i (suc k) = isBelow (orderOf (keyOf list i k) (keyOf list i (suc k)))
+keyAscends list i (suc k) = isBelow (orderOf (listedKey list i k) (listedKey list i (suc k)))
 
 -- 01 "The contract list": key k of segment i
 unfoldable pub keySound : List ℕ → ℕ → ℕ → Bool
-keySound list i k = bytesSound (keyOf list i k) && keyAscends list i k
+keySound list i k = allPrintable (listedKey list i k) && keyAscends list i k
 
 -- 01 "The contract list": every key of segment i
 unfoldable pub bodySound : List ℕ → ℕ → Bool

@@ -1,19 +1,15 @@
 ghost use mathlib.Core.Path.{_≡_};
 ghost use Prim.Native.Nat.{_<_};
-ghost use Rattle.contracts.specs.File.{countAt, keyOf};
+ghost use Rattle.contracts.specs.File.{countAt, listedKey};
 ghost use Rattle.contracts.specs.Inner.{partSound, eachSound};
-ghost use Rattle.contracts.specs.Sound.{lowestByte, highestByte, within, isLetter, letterAscends, bodyAt, entrySound, headerSound, bytesSound, isBelow, keyAscends, keySound, bodySound, sound};
+ghost use Rattle.contracts.specs.Sound.{within, isLetter, letterAscends, bodyAt, entrySound, headerSound, isBelow, keyAscends, keySound, bodySound, sound};
 use crate::header;
 use crate::key;
-use crate::key::Order;
+use crate::key::Stands;
 
 const MOST_SEGMENTS: usize = 2;
 
 const MOST_CONTRACTS: usize = 4096;
-
-const LOWEST_BYTE: u8 = 32;
-
-const HIGHEST_BYTE: u8 = 126;
 
 // What is looked at of a segment: its entry in the contents, or its body.
 pub enum Part {
@@ -63,39 +59,20 @@ fn entry_sound(list: &[u8], segment: usize) -> bool
         & (header::offset_at(list, segment) == body_at(list, segment))
 }
 
-fn byte_sound(byte: u8) -> bool
-    ensures { λ r. ⌜ r ≡ within lowestByte highestByte byte ⌝ }
-{
-    (LOWEST_BYTE <= byte) & (byte <= HIGHEST_BYTE)
-}
-
-fn bytes_sound(bytes: &[u8]) -> bool
-    ensures { λ r. ⌜ r ≡ bytesSound (now (bytes .entry)) ⌝ }
-{
-    let mut i = 0;
-    while i < bytes.len() {
-        if !byte_sound(bytes[i]) {
-            return false;
-        }
-        i += 1;
-    }
-    true
-}
-
 fn key_of(list: &[u8], segment: usize, place: usize) -> &[u8]
     requires { ⌜ place < countAt (now list) segment ⌝ }
-    ensures { λ r. ⌜ now r ≡ keyOf (now (list .entry)) segment place ⌝ }
+    ensures { λ r. ⌜ now r ≡ listedKey (now (list .entry)) segment place ⌝ }
 {
     key::key_from(list, header::offset_at(list, segment) + key::KEY * place)
 }
 
-fn is_below(order: Order) -> bool
+fn is_below(order: Stands) -> bool
     ensures { λ r. ⌜ r ≡ isBelow order ⌝ }
 {
     match order {
-        Order::Below => true,
-        Order::Same => false,
-        Order::Above => false,
+        Stands::Below => true,
+        Stands::Same => false,
+        Stands::Above => false,
     }
 }
 
@@ -116,7 +93,7 @@ fn key_sound(list: &[u8], segment: usize, place: usize) -> bool
     requires { ⌜ place < countAt (now list) segment ⌝ }
     ensures { λ r. ⌜ r ≡ keySound (now (list .entry)) segment place ⌝ }
 {
-    bytes_sound(key_of(list, segment, place)) & key_ascends(list, segment, place)
+    wire::all_printable(key_of(list, segment, place)) & key_ascends(list, segment, place)
 }
 
 fn body_sound(list: &[u8], segment: usize) -> bool

@@ -1,5 +1,4 @@
 ghost use mathlib.Core.Path.{_≡_};
-ghost use Prim.Native.Nat.{min};
 ghost use Rattle.contracts.specs.File.{segmentsOf, letterAt, zeroAt, countAt, offsetAt, contractsBefore, contractsOf};
 ghost use Rattle.contracts.specs.Inner.{EntryPlace};
 
@@ -50,17 +49,11 @@ pub fn offset_at(list: &[u8], segment: usize) -> usize
     wire::u32_at(list, entry(list, segment) + 4) as usize
 }
 
-fn least(a: usize, b: usize) -> usize
-    ensures { λ r. ⌜ r ≡ min a b ⌝ }
-{
-    if a < b { a } else { b }
-}
-
 // The contracts of all segments before this one: the place of its first record.
 pub fn contracts_before(list: &[u8], segment: usize) -> usize
     ensures { λ r. ⌜ r ≡ contractsBefore (now (list .entry)) segment ⌝ }
 {
-    let end = least(segment, segments(list));
+    let end = wire::least(segment, segments(list));
     let mut sum: usize = 0;
     let mut i = 0;
     while i < end {

@@ -8,39 +8,39 @@ ghost use Rattle.contracts.specs.Keys.{orderOf};
 pub(crate) const KEY: usize = 39;
 
 // How a key stands to another.
-pub enum Order {
+pub enum Stands {
     Below,
     Same,
     Above,
 }
 
 // The order of what is left of two keys from a byte on.
-fn order_from(a: &[u8], b: &[u8], from: usize) -> Order
+fn order_from(a: &[u8], b: &[u8], from: usize) -> Stands
     requires { ⌜ from ≤ length (now a) ⌝ }
     ensures { λ r. ⌜ r ≡ orderOf (drop from (now (a .entry))) (drop from (now (b .entry))) ⌝ }
 {
     let mut i = from;
     while i < a.len() {
         if b.len() <= i {
-            return Order::Above;
+            return Stands::Above;
         }
         if a[i] < b[i] {
-            return Order::Below;
+            return Stands::Below;
         }
         if b[i] < a[i] {
-            return Order::Above;
+            return Stands::Above;
         }
         i += 1;
     }
     if i < b.len() {
-        Order::Below
+        Stands::Below
     } else {
-        Order::Same
+        Stands::Same
     }
 }
 
 // By the first byte in which they differ; what a longer one begins with stands below it. Eight bytes are compared as one number.
-pub(crate) fn order_of(a: &[u8], b: &[u8]) -> Order
+pub(crate) fn order_of(a: &[u8], b: &[u8]) -> Stands
     ensures { λ r. ⌜ r ≡ orderOf (now (a .entry)) (now (b .entry)) ⌝ }
 {
     let mut i = 0;
@@ -48,10 +48,10 @@ pub(crate) fn order_of(a: &[u8], b: &[u8]) -> Order
         let x = wire::u64_at(a, i);
         let y = wire::u64_at(b, i);
         if x < y {
-            return Order::Below;
+            return Stands::Below;
         }
         if y < x {
-            return Order::Above;
+            return Stands::Above;
         }
         i += 8;
     }

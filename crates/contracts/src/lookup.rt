@@ -3,7 +3,7 @@ ghost use Rattle.contracts.specs.Answers.{placeOf};
 ghost use Rattle.contracts.specs.Lookup.{segmentOf, placeIn};
 use crate::header;
 use crate::key;
-use crate::key::Order;
+use crate::key::Stands;
 
 // Where a letter or a key is listed.
 pub enum Found {
@@ -38,13 +38,13 @@ pub fn place_of(list: &[u8], segment: usize, wanted: &[u8]) -> Found
         let below = (left - 1) / 2;
         let place = low + below;
         match key::order_of(wanted, key::key_from(list, offset + key::KEY * place)) {
-            Order::Same => {
+            Stands::Same => {
                 return Found::At(place);
             }
-            Order::Below => {
+            Stands::Below => {
                 left = below;
             }
-            Order::Above => {
+            Stands::Above => {
                 low = place + 1;
                 left = left - 1 - below;
             }

@@ -1,19 +1,19 @@
 // Document 01's program: starts at 1 with the file `contracts`, takes batches from standard input, and lists the gaps.
-mod lent;
 mod report;
 mod take;
 
 ghost use Prim.Native.Nat.{_≤_};
 ghost use lib.ListN.{length};
 use lent::RUNS;
+use quotebox::Refusal;
 use quotebox::Started;
 use runs::Run;
 
 // The most keys of a segment.
 const MOST_KEYS: usize = 64;
 
-// The refusal of what the program's memory doesn't hold.
-const MEMORY: u64 = 15;
+// The refusal of what the program's memory doesn't hold; of the cells wanted it says nothing.
+const NO_ROOM: Refusal = Refusal::Memory(0);
 
 // Whether a segment of the list has more keys than the program holds.
 fn too_many(list: &[u8]) -> bool {
@@ -49,7 +49,7 @@ fn start(list: &[u8], page: &mut [u8]) -> usize
         Started::Refused(refusal) => report::put_refused_start(page, refusal),
         Started::Started => {
             if too_many(list) {
-                return report::put_refused_number(page, MEMORY);
+                return report::put_refused_start(page, NO_ROOM);
             }
             run(list, rows, &mut records, page)
         }
@@ -60,7 +60,7 @@ fn answer(file: &[u8], page: &mut [u8]) -> usize
     ensures { λ r. ⌜ r ≤ length (now (page .entry)) ⌝ }
 {
     if console::MOST_LIST < file.len() {
-        return report::put_refused_number(page, MEMORY);
+        return report::put_refused_start(page, NO_ROOM);
     }
     start(file, page)
 }
@@ -69,6 +69,6 @@ fn main() {
     let mut page = io::buffer();
     let mut file = [0u8; console::FILE_ROOM];
     let size = console::read_contracts(&mut file);
-    let used = answer(&file[..size], &mut page);
+    let used = answer(&file[0..size], &mut page);
     console::flush(&page, used);
 }

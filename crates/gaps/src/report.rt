@@ -1,7 +1,6 @@
 // What the program says. Each line is put on the page behind what is used of it.
 ghost use Prim.Native.Nat.{_≤_};
 ghost use lib.ListN.{length};
-use crate::lent;
 use console::put;
 use console::put_with;
 use quotebox::Listed;
@@ -9,18 +8,20 @@ use quotebox::Refusal;
 use runs::Run;
 
 // A start that is refused, by the refusal's number.
-pub fn put_refused_number(page: &mut [u8], number: u64) -> usize
-    ensures { λ r. ⌜ r ≤ length (now (page .entry)) ⌝ }
-{
-    let used = put_with(page, 0, b"start refused ", number);
-    put(page, used, b"\n")
-}
-
 pub fn put_refused_start(page: &mut [u8], refusal: Refusal) -> usize
     ensures { λ r. ⌜ r ≤ length (now (page .entry)) ⌝ }
 {
     let numbers = quotebox::refusal_numbers(refusal);
-    put_refused_number(page, numbers[0])
+    console::put_line(page, 0, b"start", b" refused", &[numbers[0]])
+}
+
+fn put_refusal(page: &mut [u8], used: usize, number: u64, message: u64) -> usize
+    requires { ⌜ used ≤ length (now page) ⌝ }
+    ensures { λ r. ⌜ r ≤ length (now (page .entry)) ⌝ }
+{
+    let used = put_with(page, used, b" refused ", number);
+    let used = put_with(page, used, b" message ", message);
+    put(page, used, b"\n")
 }
 
 pub fn put_refused(page: &mut [u8], used: usize, batch: u64, refusal: Refusal) -> usize
@@ -29,9 +30,7 @@ pub fn put_refused(page: &mut [u8], used: usize, batch: u64, refusal: Refusal) -
 {
     let numbers = quotebox::refusal_numbers(refusal);
     let used = put_with(page, used, b"batch ", batch);
-    let used = put_with(page, used, b" refused ", numbers[0]);
-    let used = put_with(page, used, b" message ", numbers[1]);
-    put(page, used, b"\n")
+    put_refusal(page, used, numbers[0], numbers[1])
 }
 
 // A run's numbers.
@@ -58,10 +57,8 @@ fn put_segment(page: &mut [u8], used: usize, letter: u8, highest: u32, runs: &[u
     requires { ⌜ (used ≤ length (now page)) × (length (now runs) ≤ 128) ⌝ }
     ensures { λ r. ⌜ r ≤ length (now (page .entry)) ⌝ }
 {
-    let used = put(page, used, &[letter]);
-    let used = put_with(page, used, b" ", highest as u64);
-    let used = put_with(page, used, b" ", missing(runs));
-    let used = put(page, used, b"\n");
+    let numbers = [highest as u64, missing(runs)];
+    let used = console::put_line(page, used, &[letter], b"", &numbers);
     let before = [letter, b' ', b'g', b'a', b'p', b' '];
     console::put_runs(page, used, &before, runs, b"\n")
 }
@@ -79,7 +76,9 @@ fn put_listed(
     ensures { λ r. ⌜ r ≤ length (now (page .entry)) ⌝ }
 {
     match lent::list_gaps(list, rows, records, letter, cells) {
-        Listed::Runs(highest, runs) => put_segment(page, used, letter, highest, &cells[..2 * runs]),
+        Listed::Runs(highest, runs) => {
+            put_segment(page, used, letter, highest, console::runs_in(cells, runs))
+        }
         Listed::Refused(_) => used,
     }
 }

@@ -2,7 +2,6 @@
 ghost use Prim.Native.Nat.{_+_, _≤_};
 ghost use lib.ListN.{length};
 ghost use Rattle.console.specs.Desk.{Fits};
-use crate::lent;
 use crate::report;
 use console::Desk;
 use quotebox::Judged;
@@ -13,7 +12,7 @@ const FRONT: usize = 5;
 
 const MOST_DATA: usize = 32767;
 
-// What a turn leaves, and whether there may be another.
+// Where the program stands: in what it reads and says, whether there may be another batch, and the gap rows.
 struct Turn {
     desk: Desk,
     more: bool,
@@ -95,16 +94,17 @@ fn next(room: &mut [u8], page: &[u8], desk: Desk) -> Desk
 // One batch. The reading ends with the input, and behind a batch that is cut short or says it is too long.
 fn take_next(
     list: &[u8],
-    rows: [Run; lent::RUNS],
     records: &mut [u64],
     room: &mut [u8],
     batch: u64,
     page: &mut [u8],
-    desk: Desk,
+    turn: Turn,
 ) -> Turn
-    requires { ⌜ Fits desk (now room) (now page) ⌝ }
+    requires { ⌜ Fits (turn .desk) (now room) (now page) ⌝ }
     ensures { λ r. ⌜ Fits (r .desk) (now (room .exit)) (now (page .exit)) ⌝ }
 {
+    let rows = turn.rows;
+    let desk = turn.desk;
     let desk = next(room, page, desk);
     let at = desk.at;
     let end = desk.end;
@@ -131,7 +131,7 @@ fn take_next(
     }
 }
 
-// All batches, and how much of the page is used by their lines. The count of batches also bounds the loop, which has to end.
+// All batches, and how much of the page is used by their lines.
 pub fn take_all(
     list: &[u8],
     rows: [Run; lent::RUNS],
@@ -141,24 +141,23 @@ pub fn take_all(
 ) -> Taken
     ensures { λ r. ⌜ r .used ≤ length (now (page .entry)) ⌝ }
 {
-    let mut desk = Desk {
-        at: 0,
-        end: 0,
-        used: 0,
+    let mut turn = Turn {
+        desk: Desk {
+            at: 0,
+            end: 0,
+            used: 0,
+        },
+        more: true,
+        rows,
     };
-    let mut rows = rows;
     let mut batch: u64 = 0;
-    while batch < u64::MAX {
-        let turn = take_next(list, rows, records, room, batch, page, desk);
-        desk = turn.desk;
-        rows = turn.rows;
-        if !turn.more {
-            break;
-        }
-        batch += 1;
+    while batch < console::LAST_TURN {
+        turn = take_next(list, records, room, batch, page, turn);
+        batch = console::turn_after(batch, turn.more);
     }
+    let rows = turn.rows;
     Taken {
         rows,
-        used: desk.used,
+        used: turn.desk.used,
     }
 }

@@ -10,39 +10,40 @@ use lib.ListN.{length}
 use Rattle.laws.specs.Rules.{firstBroken}
 use Rattle.laws.specs.RulesLaws.{front-holds, none-hold, front-broken}
 use Rattle.laws.specs.Choice.{clash}
-use Rattle.contracts.specs.File.{letterAt}
 use Rattle.contracts.specs.Lookup.{segmentOf, placeIn}
 use Rattle.contracts.specs.LookupLaws.{segment-has}
-use Rattle.layout.specs.declared.rows.Level.{Level}
-use Rattle.layout.specs.Quote.{quoteOf}
+use Rattle.forms.specs.declared.rows.Level.{Level}
+use Rattle.quote.specs.Quote.{quoteOf}
 use Rattle.sequence.specs.Runs.{missing}
 use Rattle.sequence.specs.Gaps.{Gaps, wanted}
 use Rattle.sequence.specs.GapsLaws.{same-gaps}
 use Rattle.sequence.specs.Row.{gapsOf}
 use Rattle.message.specs.Message.{Message}
-use Rattle.quotebox.specs.declared.refusal.Refusal.{Refusal}
-use Rattle.quotebox.specs.declared.refusal.Refusal.the-variants.{Code, Contract, Memory}
-use Rattle.quotebox.specs.declared.answers.Listed.{Listed}
-use Rattle.quotebox.specs.declared.answers.Reading.{Reading}
-use Rattle.quotebox.specs.declared.answers.Recorded.{Recorded}
-use Rattle.quotebox.specs.Batch.{rowIn}
-use Rattle.quotebox.specs.AnswersLaws.{listed-told}
+use Rattle.state.specs.declared.refusal.Refusal.{Refusal}
+use Rattle.state.specs.declared.refusal.Refusal.the-variants.{Code, Contract, Memory}
+use Rattle.state.specs.declared.answers.Listed.{Listed}
+use Rattle.quotebox.specs.declared.record.Reading.{Reading}
+use Rattle.state.specs.declared.answers.Recorded.{Recorded}
+use Rattle.state.specs.Memory.{Lent, lends, gapRowIn}
+use Rattle.state.specs.Slots.{Slot, contract, formFor}
+use Rattle.state.specs.AnswersLaws.{listed-told}
 use Rattle.quotebox.specs.CallPromises.{ListedRuns, ReadRecord}
 use Rattle.quotebox.specs.CallPromisesLaws.{one-reading}
 use Rattle.quotebox.specs.CallsLaws.{record-refused}
-use Rattle.quotebox.specs.Calls.{answered, leftBy, gapsOfLetter, listRules, listValues, runsPut}
-use Rattle.quotebox.specs.Refusals.{Rule}
+use Rattle.quotebox.specs.Calls.{gapsOfLetter, listRules, listValues, runsPut}
+use Rattle.state.specs.Answers.{leftBy, answered}
+use Rattle.state.specs.Refusals.{Rule}
 use Rattle.quotebox.specs.Record.{recordRules, blank}
 use Rattle.quotebox.specs.RecordLaws.{segment-broken, key-broken}
 use Rattle.quotebox.specs.Start.{startOf}
-use Rattle.quotebox.specs.State.{segmentRules}
-use Rattle.quotebox.specs.StateLaws.{good-unrefused, letter-broken}
-use Rattle.history.specs.Past.{Event, wroteOffIn, held, takenOf, highestOf, numberOf}
+use Rattle.state.specs.State.{segmentRules}
+use Rattle.state.specs.StateLaws.{good-unrefused, letter-broken}
+use Rattle.history.specs.Past.{Event, wroteOffIn, held, takenOf, highestOf, sequenceNumber}
 use Rattle.history.specs.Segment.{Fits}
 use Rattle.history.specs.Histories.{Reached}
 use Rattle.history.specs.HoldsLaws.{reached-holds}
 use Rattle.history.specs.ListingLaws.{fits-here, segment-good}
-use Rattle.history.specs.Exactly.{Found, ReadsNewest, no-record, a-record, SameTaken}
+use Rattle.history.specs.Exactly.{FoundNewest, ReadsNewest, no-record, a-record, SameTaken}
 use Rattle.history.specs.RecordLaws.{reads-key}
 use Rattle.history.specs.TakenLaws.{taken-apart, same-held, same-highest, same-newest}
 
@@ -52,8 +53,14 @@ unlike e = clash (cc)
 same-some : {m k : Message} → some m ≡ some k → m ≡ k
 same-some e = cc
 
-module _ {list starts rows records starts′ rows′ records′ : List ℕ} {past past′ : List Event}
-    (r : Reached list starts rows records past) (r′ : Reached list starts′ rows′ records′ past′) (same : SameTaken list starts past starts′ past′) where
+module _ {list rows records rows′ records′ starts starts′ : List ℕ} {past past′ : List Event}
+    (r : Reached starts (lends list rows records) past) (r′ : Reached starts′ (lends list rows′ records′) past′) (same : SameTaken list starts past list starts′ past′) where
+  abbrev lent : Lent
+  lent = lends list rows records
+
+  abbrev lent′ : Lent
+  lent′ = lends list rows′ records′
+
   -- ---- a listed segment
 
   module _ (letter i : ℕ) (s : segmentOf list letter ≡ some i) where
@@ -63,36 +70,35 @@ module _ {list starts rows records starts′ rows′ records′ : List ℕ} {pas
     starts-are : startOf starts i ≡ startOf starts′ i
     starts-are = same .same-starts i (segment-has list letter i s .0)
 
-    taken-same : (m : Message) → List·Memᴰ m (takenOf letter start past) ↔ List·Memᴰ m (takenOf letter start past′)
+    taken-same : (m : Message) → List·Memᴰ m (takenOf i start past) ↔ List·Memᴰ m (takenOf i start past′)
     taken-same m =
-        subst (λ (l : ℕ). List·Memᴰ m (takenOf l start past) ↔ List·Memᴰ m (takenOf l start past′)) (segment-has list letter i s .1)
-        (subst (λ (n : ℕ). List·Memᴰ m (takenOf (letterAt list i) start past) ↔ List·Memᴰ m (takenOf (letterAt list i) n past′)) (sym starts-are)
-        (same .same-messages i (segment-has list letter i s .0) m))
+        subst (λ (n : ℕ). List·Memᴰ m (takenOf i start past) ↔ List·Memᴰ m (takenOf i n past′)) (sym starts-are)
+        (same .same-messages i (segment-has list letter i s .0) m)
 
     abbrev g : Gaps
-    g = gapsOfLetter list rows letter
+    g = gapsOfLetter lent letter
 
     abbrev g′ : Gaps
-    g′ = gapsOfLetter list rows′ letter
+    g′ = gapsOfLetter lent′ letter
 
-    fits : Fits start (takenOf letter start past) (wroteOffIn letter past) g
+    fits : Fits start (takenOf i start past) (wroteOffIn i past) g
     fits = fits-here r letter i s
 
-    fits′ : Fits start (takenOf letter start past′) (wroteOffIn letter past′) g′
+    fits′ : Fits start (takenOf i start past′) (wroteOffIn i past′) g′
     fits′ =
-        subst (λ (n : ℕ). Fits n (takenOf letter n past′) (wroteOffIn letter past′) g′) (sym starts-are) (fits-here r′ letter i s)
+        subst (λ (n : ℕ). Fits n (takenOf i n past′) (wroteOffIn i past′) g′) (sym starts-are) (fits-here r′ letter i s)
 
     highest-same : g .highest ≡ g′ .highest
-    highest-same = fits .highest-is ∙ same-highest (takenOf letter start past) (takenOf letter start past′) taken-same start ∙ sym (fits′ .highest-is)
+    highest-same = fits .highest-is ∙ same-highest (takenOf i start past) (takenOf i start past′) taken-same start ∙ sym (fits′ .highest-is)
 
     missing-same : (n : ℕ) → missing (g .runs) n ≡ missing (g′ .runs) n
     missing-same n =
-        let high = same-highest (takenOf letter start past) (takenOf letter start past′) taken-same start in
-        let own = same-held (takenOf letter start past) (takenOf letter start past′) taken-same n in
-        let off : wroteOffIn letter past n ≡ wroteOffIn letter past′ n = same .none-off letter n ∙ sym (same .none-off′ letter n) in
+        let high = same-highest (takenOf i start past) (takenOf i start past′) taken-same start in
+        let own = same-held (takenOf i start past) (takenOf i start past′) taken-same n in
+        let off : wroteOffIn i past n ≡ wroteOffIn i past′ n = same .none-off i n ∙ sym (same .none-off′ i n) in
         fits .missing-is n
-        ∙ ap (λ (h : ℕ). leb start n && leb n h && not (held (takenOf letter start past) n) && not (wroteOffIn letter past n)) high
-        ∙ ap₂ (λ (a b : Bool). leb start n && leb n (highestOf start (takenOf letter start past′)) && not a && not b) own off
+        ∙ ap (λ (h : ℕ). leb start n && leb n h && not (held (takenOf i start past) n) && not (wroteOffIn i past n)) high
+        ∙ ap₂ (λ (a b : Bool). leb start n && leb n (highestOf start (takenOf i start past′)) && not a && not b) own off
         ∙ sym (fits′ .missing-is n)
 
     runs-same : g .runs ≡ g′ .runs
@@ -103,41 +109,41 @@ module _ {list starts rows records starts′ rows′ records′ : List ℕ} {pas
         let begin : g .start ≡ g′ .start = fits .start-is ∙ sym (fits′ .start-is) in
         λ k. record { start = begin k; highest = highest-same k; runs = runs-same k }
 
-    readings-same : (place : ℕ) (level : Level) (a b : Reading)
-        → ReadsNewest place level (takenOf letter start past) a → ReadsNewest place level (takenOf letter (startOf starts′ i) past′) b → a ≡ b
-    readings-same place level a b p q = go p (subst (λ (n : ℕ). ReadsNewest place level (takenOf letter n past′) b) (sym starts-are) q)
+    readings-same : (slot : Slot) (a b : Reading)
+        → ReadsNewest slot (takenOf i start past) a → ReadsNewest slot (takenOf i (startOf starts′ i) past′) b → a ≡ b
+    readings-same slot a b p q = go p (subst (λ (n : ℕ). ReadsNewest slot (takenOf i n past′) b) (sym starts-are) q)
       where
-        one : (x y : Option Message) → Found place level (takenOf letter start past) x → Found place level (takenOf letter start past′) y → x ≡ y
-        one = same-newest (takenOf letter start past) (takenOf letter start past′) taken-same (taken-apart letter start past) place level
+        one : (x y : Option Message) → FoundNewest slot (takenOf i start past) x → FoundNewest slot (takenOf i start past′) y → x ≡ y
+        one = same-newest (takenOf i start past) (takenOf i start past′) taken-same (taken-apart i start past) slot
 
         alike : a .answer ≡ b .answer → a .quote ≡ b .quote → a ≡ b
         alike e f = λ k. record { answer = e k; quote = f k }
 
-        go : ReadsNewest place level (takenOf letter start past) a → ReadsNewest place level (takenOf letter start past′) b → a ≡ b
+        go : ReadsNewest slot (takenOf i start past) a → ReadsNewest slot (takenOf i start past′) b → a ≡ b
         go (no-record u e f) (no-record v g h) = alike (e ∙ sym g) (f ∙ sym h)
         go (no-record u e f) (a-record m v g h) = absurd (unlike (sym (one none (some m) u v)))
         go (a-record m u e f) (no-record v g h) = absurd (unlike (one (some m) none u v))
         go (a-record m u e f) (a-record k v g h) =
             let is : m ≡ k = same-some (one (some m) (some k) u v) in
-            alike (e ∙ ap (λ (x : Message). Recorded.Record (numberOf x)) is ∙ sym g) (f ∙ ap (λ (x : Message). quoteOf level (x .cells)) is ∙ sym h)
+            alike (e ∙ ap (λ (x : Message). Recorded.Record (sequenceNumber x)) is ∙ sym g) (f ∙ ap (λ (x : Message). quoteOf (formFor slot) (x .cells)) is ∙ sym h)
 
   -- ---- the letter is refused in both, or in neither
 
-  rules-same : (letter : ℕ) → firstBroken (segmentRules list rows records letter) ≡ firstBroken (segmentRules list rows′ records′ letter)
+  rules-same : (letter : ℕ) → firstBroken (segmentRules lent letter) ≡ firstBroken (segmentRules lent′ letter)
   rules-same letter = go (segmentOf list letter) refl
     where
-      go : (o : Option ℕ) → segmentOf list letter ≡ o → firstBroken (segmentRules list rows records letter) ≡ firstBroken (segmentRules list rows′ records′ letter)
+      go : (o : Option ℕ) → segmentOf list letter ≡ o → firstBroken (segmentRules lent letter) ≡ firstBroken (segmentRules lent′ letter)
       go none e =
-          letter-broken list rows records letter (good-unrefused list rows records (reached-holds r .state)) e
-          ∙ sym (letter-broken list rows′ records′ letter (good-unrefused list rows′ records′ (reached-holds r′ .state)) e)
+          letter-broken lent letter (good-unrefused lent (reached-holds r .state)) e
+          ∙ sym (letter-broken lent′ letter (good-unrefused lent′ (reached-holds r′ .state)) e)
       go (some i) e = segment-good r letter i e ∙ sym (segment-good r′ letter i e)
 
-  gaps-agree : (letter : ℕ) → gapsOfLetter list rows letter ≡ gapsOfLetter list rows′ letter
+  gaps-agree : (letter : ℕ) → gapsOfLetter lent letter ≡ gapsOfLetter lent′ letter
   unfolding gapsOfLetter
   gaps-agree letter = go (segmentOf list letter) refl
     where
-      go : (o : Option ℕ) → segmentOf list letter ≡ o → gapsOfLetter list rows letter ≡ gapsOfLetter list rows′ letter
-      go none e = ap (λ (o : Option ℕ). gapsOf (rowIn rows o)) e ∙ sym (ap (λ (o : Option ℕ). gapsOf (rowIn rows′ o)) e)
+      go : (o : Option ℕ) → segmentOf list letter ≡ o → gapsOfLetter lent letter ≡ gapsOfLetter lent′ letter
+      go none e = ap (λ (o : Option ℕ). gapsOf (gapRowIn rows o)) e ∙ sym (ap (λ (o : Option ℕ). gapsOf (gapRowIn rows′ o)) e)
       go (some i) e = gaps-same letter i e
 
   -- rules in front that answer the same in both, and others behind them
@@ -148,16 +154,16 @@ module _ {list starts rows records starts′ rows′ records′ : List ℕ} {pas
       go none f = front-holds front rules (none-hold front f) ∙ sym (front-holds front′ rules (none-hold front′ (sym e ∙ f)))
       go (some refusal) f = front-broken front rules refusal f ∙ sym (front-broken front′ rules refusal (sym e ∙ f))
 
-  listing-same : (letter cells : ℕ) → firstBroken (listRules list rows records letter cells) ≡ firstBroken (listRules list rows′ records′ letter cells)
+  listing-same : (letter cells : ℕ) → firstBroken (listRules lent letter cells) ≡ firstBroken (listRules lent′ letter cells)
   unfolding listRules
   listing-same letter cells =
-      ap (λ (g : Gaps). firstBroken (segmentRules list rows records letter ++ (record { holds = leb (wanted (g .runs)) cells; refusal = Memory (wanted (g .runs)) } ∷ []))) (gaps-agree letter)
-      ∙ front-same (segmentRules list rows records letter) (segmentRules list rows′ records′ letter) _ (rules-same letter)
+      ap (λ (g : Gaps). firstBroken (segmentRules lent letter ++ (record { holds = leb (wanted (g .runs)) cells; refusal = Memory (wanted (g .runs)) } ∷ []))) (gaps-agree letter)
+      ∙ front-same (segmentRules lent letter) (segmentRules lent′ letter) _ (rules-same letter)
 
   -- ---- "Two boxes that took the same messages agree": in gap lists
 
   pub listings-agree : (letter : ℕ) (cells : List ℕ) (a b : Listed) (cells′ cells″ : List ℕ)
-      → ListedRuns list rows records letter cells a cells′ → ListedRuns list rows′ records′ letter cells b cells″ → (a ≡ b) × (cells′ ≡ cells″)
+      → ListedRuns lent letter cells a cells′ → ListedRuns lent′ letter cells b cells″ → (a ≡ b) × (cells′ ≡ cells″)
   listings-agree letter cells a b cells′ cells″ p q =
       let rules = listing-same letter (length cells) in
       let gaps = gaps-agree letter in (
@@ -167,28 +173,28 @@ module _ {list starts rows records starts′ rows′ records′ : List ℕ} {pas
 
   -- ---- and in records
 
-  record-rules-same : (letter : ℕ) (key : List ℕ) → firstBroken (recordRules list rows records letter key) ≡ firstBroken (recordRules list rows′ records′ letter key)
+  record-rules-same : (letter : ℕ) (key : List ℕ) → firstBroken (recordRules lent letter key) ≡ firstBroken (recordRules lent′ letter key)
   unfolding recordRules
-  record-rules-same letter key = front-same (segmentRules list rows records letter) (segmentRules list rows′ records′ letter) _ (rules-same letter)
+  record-rules-same letter key = front-same (segmentRules lent letter) (segmentRules lent′ letter) _ (rules-same letter)
 
-  module _ (letter : ℕ) (key : List ℕ) (level : Level) (a b : Reading) (p : ReadRecord list rows records letter key level a) (q : ReadRecord list rows′ records′ letter key level b) where
-    refused-same : (refusal : Refusal) → firstBroken (recordRules list rows records letter key) ≡ some refusal → a ≡ b
+  module _ (letter : ℕ) (key : List ℕ) (level : Level) (a b : Reading) (p : ReadRecord lent letter key level a) (q : ReadRecord lent′ letter key level b) where
+    refused-same : (refusal : Refusal) → firstBroken (recordRules lent letter key) ≡ some refusal → a ≡ b
     refused-same refusal e =
-        one-reading a (record { answer = Recorded.Refused refusal; quote = blank }) p (record-refused list rows records letter key level refusal e)
+        one-reading a (record { answer = Recorded.Refused refusal; quote = blank }) p (record-refused lent letter key level refusal e)
         ∙ sym
         (one-reading b (record { answer = Recorded.Refused refusal; quote = blank }) q
-        (record-refused list rows′ records′ letter key level refusal (sym (record-rules-same letter key) ∙ e)))
+        (record-refused lent′ letter key level refusal (sym (record-rules-same letter key) ∙ e)))
 
     pub records-agree : a ≡ b
     records-agree = go (segmentOf list letter) refl
       where
         there : (i : ℕ) → segmentOf list letter ≡ some i → (o : Option ℕ) → placeIn list i key ≡ o → a ≡ b
-        there i s none f = refused-same (Contract 0) (key-broken list rows records letter key (segment-good r letter i s) i s f)
+        there i s none f = refused-same (Contract 0) (key-broken lent letter key (segment-good r letter i s) i s f)
         there i s (some place) f =
-            readings-same letter i s place level a b (reads-key r letter i s key place f level a p) (reads-key r′ letter i s key place f level b q)
+            readings-same letter i s (contract i place level) a b (reads-key r letter i s key place f level a p) (reads-key r′ letter i s key place f level b q)
 
         go : (o : Option ℕ) → segmentOf list letter ≡ o → a ≡ b
         go none e =
             refused-same (Code 0)
-            (segment-broken list rows records letter key (Code 0) (letter-broken list rows records letter (good-unrefused list rows records (reached-holds r .state)) e))
+            (segment-broken lent letter key (Code 0) (letter-broken lent letter (good-unrefused lent (reached-holds r .state)) e))
         go (some i) e = there i e (placeIn list i key) refl

@@ -1,41 +1,41 @@
 -- The theorems: what `Demands` states holds after every history, of any two, and of every call.
 use Prim.Native.Nat.{ℕ}
-use mathlib.Core.Path.{refl, sym, ap, ap₂, _∙_}
+use mathlib.Core.Path.{_≡_, sym, ap, ap₂, subst, _∙_}
 use mathlib.Core.Bool.{Bool, _||_}
 use mathlib.Core.List.{List}
 use mathlib.Core.Logic.{Iff·trans, Iff·symm}
 use native.Mathlib.Omega.{arith}
 use lib.Dec.{ltb}
 use lib.ListN.{getD}
-use Rattle.contracts.specs.File.{letterAt, keyOf}
-use Rattle.contracts.specs.LookupLaws.{segment-exact, key-exact}
-use Rattle.quotebox.specs.declared.refusal.Refusal.the-variants.{Gaps}
-use Rattle.quotebox.specs.declared.answers.Judged.{Judged}
-use Rattle.quotebox.specs.Batch.{batchActs, actedNumbers}
-use Rattle.quotebox.specs.BatchLaws.{accepted-box}
+use Rattle.state.specs.declared.refusal.Refusal.the-variants.{Gaps}
+use Rattle.state.specs.declared.answers.Judged.{Judged}
+use Rattle.batch.specs.Batch.{batchActs, actedNumbers}
+use Rattle.batch.specs.BatchLaws.{accepted-box}
+use Rattle.batch.specs.LeftLaws.{is-listed}
+use Rattle.state.specs.Memory.{Lent, lends}
 use Rattle.quotebox.specs.CallPromisesLaws.{start-refusal, list-refusal, off-refusal, start-leaves, off-leaves}
-use Rattle.quotebox.specs.OrderLaws.{refused-exact}
-use Rattle.quotebox.specs.Promises.{JudgedBatch, TookBatch}
+use Rattle.batch.specs.OrderLaws.{refused-exact}
+use Rattle.batch.specs.Promises.{JudgedBatch, TookBatch}
 use Rattle.quotebox.specs.Start.{startOf}
-use Rattle.quotebox.specs.TookLaws.{judged-refused, refused-keeps, state-good}
-use Rattle.quotebox.specs.WriterPromisesLaws.{write-refusal}
+use Rattle.batch.specs.TookLaws.{judged-refused, refused-keeps, state-good}
+use Rattle.writer.specs.WriterPromisesLaws.{write-refusal}
 use Rattle.history.specs.Past.{Event, wroteOffIn, takenOf}
 use Rattle.history.specs.SegmentLaws.{takes-new}
 use Rattle.history.specs.Histories.{Reached}
-use Rattle.history.specs.HoldsLaws.{reached-holds, batch-listed, batch-turned, off-listed}
+use Rattle.history.specs.HoldsLaws.{reached-holds, batch-turned, off-listed}
 use Rattle.history.specs.Exactly.{CountsCame, SameTaken}
-use Rattle.history.specs.ListingLaws.{fits-here, gaps-exactly, runs-answered, runs-refused}
-use Rattle.history.specs.RecordLaws.{reads-key}
+use Rattle.history.specs.ListingLaws.{gaps-exactly, runs-answered, runs-refused}
+use Rattle.history.specs.RecordLaws.{reads-slot}
 use Rattle.history.specs.FullLaws.{acts-over}
 use Rattle.history.specs.AgreeLaws.{listings-agree, records-agree}
 use Rattle.history.specs.Demands.{AfterCalls, Agree, RefusalsKeep, AcceptedLeave}
 
-module _ {list starts rows records : List ℕ} {past : List Event} (r : Reached list starts rows records past) where
-  counts : (batch : List ℕ) (taken old heartbeats : ℕ) → JudgedBatch list rows records batch (Judged.Accepted taken old heartbeats) → CountsCame list starts past batch taken old heartbeats
+module _ {starts : List ℕ} {lent : Lent} {past : List Event} (r : Reached starts lent past) where
+  counts : (batch : List ℕ) (taken old heartbeats : ℕ) → JudgedBatch lent batch (Judged.Accepted taken old heartbeats) → CountsCame (lent .list) starts past batch taken old heartbeats
   counts batch taken old heartbeats p =
       let h = reached-holds r in
-      let did = accepted-box (batchActs list rows records batch) (p .answers) in
-      let l = batch-listed h batch (did .0) (did .1) in
+      let did = accepted-box (batchActs lent batch) (p .answers) in
+      let l = is-listed lent batch (did .0) (did .1) in
       let turned = batch-turned h batch (did .0) (did .1) (l .0) (l .1) in
       let numbers = p .answers ∙ ap actedNumbers (did .1) in
       record {
@@ -47,53 +47,55 @@ module _ {list starts rows records : List ℕ} {past : List Event} (r : Reached 
       }
 
   -- demand 3, after any sequence of calls from a fresh start
-  pub after-calls : AfterCalls list starts rows records past
+  pub after-calls : AfterCalls starts lent past
   after-calls =
       record {
         names-missing = gaps-exactly r;
         list-answered = runs-answered r;
         list-refused = runs-refused r;
-        reads-newest = λ i place l.
-            let sound = reached-holds r .list-sound in
-            reads-key r (letterAt list i) i (segment-exact list (sound .header) (letterAt list i) i .1 (l .segment, refl)) (keyOf list i place) place
-            (key-exact list i (keyOf list i place) sound (l .segment) place .1 (l .place, refl));
-        takes-missing = λ letter i s n.
+        reads-newest = reads-slot r;
+        takes-missing = λ i there n.
             let start : ℕ = startOf starts i in
-            let f = fits-here r letter i s in
-            sym (takes-new start (takenOf letter start past) (wroteOffIn letter past) _ f n)
+            let f = reached-holds r .gaps-fit i there in
+            sym (takes-new start (takenOf i start past) (wroteOffIn i past) _ f n)
             ∙ ap₂ (λ (h : ℕ) (m : Bool). ltb h n || m) (f .highest-is) (f .missing-is n);
         counts-came = counts;
         refused-for-gaps = λ batch answer p i.
-            Iff·trans (judged-refused list rows records batch answer p (Gaps i)) (Iff·trans (Iff·symm (refused-exact list rows records batch (Gaps i))) (acts-over r batch i));
+            Iff·trans (judged-refused lent batch answer p (Gaps i)) (Iff·trans (Iff·symm (refused-exact lent batch (Gaps i))) (acts-over r batch i));
         state-passes = reached-holds r .state;
       }
 
 -- what is said of judging a batch is said of taking it
-pub took-judged : {list rows records batch rows′ records′ : List ℕ} {answer : Judged} → TookBatch list rows records batch answer rows′ records′ → JudgedBatch list rows records batch answer
+pub took-judged : {lent lent′ : Lent} {batch : List ℕ} {answer : Judged} → TookBatch lent batch answer lent′ → JudgedBatch lent batch answer
 took-judged t = record { answers = t .answers }
 
 -- two boxes that took the same messages agree
-pub two-agree : {list starts rows records starts′ rows′ records′ : List ℕ} {past past′ : List Event}
-    → Reached list starts rows records past → Reached list starts′ rows′ records′ past′ → SameTaken list starts past starts′ past′
-    → Agree list rows records rows′ records′
-two-agree r r′ same = record { same-gaps = listings-agree r r′ same; same-records = records-agree r r′ same }
+pub two-agree : {lent lent′ : Lent} {starts starts′ : List ℕ} {past past′ : List Event}
+    → Reached starts lent past → Reached starts′ lent′ past′ → SameTaken (lent .list) starts past (lent′ .list) starts′ past′ → Agree lent lent′
+two-agree {lent} {lent′} {starts} {starts′} {past} {past′} r r′ same = go (lent′ .list) (same .same-list) r′ same
+  where
+    go : (list′ : List ℕ) → lent .list ≡ list′ → Reached starts′ (lends list′ (lent′ .rows) (lent′ .records)) past′ → SameTaken (lent .list) starts past list′ starts′ past′
+        → Agree lent (lends list′ (lent′ .rows) (lent′ .records))
+    go list′ e =
+        subst (λ (l : List ℕ). Reached starts′ (lends l (lent′ .rows) (lent′ .records)) past′ → SameTaken (lent .list) starts past l starts′ past′ → Agree lent (lends l (lent′ .rows) (lent′ .records)))
+        e (λ r′ same. record { same-gaps = listings-agree r r′ same; same-records = records-agree r r′ same })
 
 -- a refused call changes nothing
-pub refusals-keep : (list rows records : List ℕ) → RefusalsKeep list rows records
-refusals-keep list rows records =
+pub refusals-keep : (lent : Lent) → RefusalsKeep lent
+refusals-keep lent =
     record {
-      start-keeps = λ starts refusal rows′ records′ p. let kept = start-refusal refusal p in (kept .1, kept .2);
-      take-keeps = refused-keeps list rows records;
+      start-keeps = λ starts refusal lent′ p. start-refusal refusal p .1;
+      take-keeps = refused-keeps lent;
       list-keeps = λ letter cells refusal cells′ p. list-refusal refusal p .1;
-      write-off-keeps = λ letter refusal rows′ p. off-refusal refusal p .1;
+      write-off-keeps = λ letter refusal lent′ p. off-refusal refusal p .1;
       write-keeps = λ code level number key quote out refusal out′ p. write-refusal code level number key quote out refusal p .1;
     }
 
 -- an accepted call leaves a state that passes
-pub accepted-leave : (list rows records : List ℕ) → AcceptedLeave list rows records
-accepted-leave list rows records =
+pub accepted-leave : (lent : Lent) → AcceptedLeave lent
+accepted-leave lent =
     record {
-      start-leaves = λ starts rows′ records′ p. start-leaves p;
-      take-leaves = state-good list rows records;
-      write-off-leaves = λ letter first last rows′ p. let l = off-listed first last p in off-leaves first last p (l .0) (l .1);
+      start-leaves = λ starts lent′ p. start-leaves p;
+      take-leaves = state-good lent;
+      write-off-leaves = λ letter first last lent′ p. let l = off-listed first last p in off-leaves first last p (l .0) (l .1);
     }

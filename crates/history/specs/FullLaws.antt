@@ -24,22 +24,24 @@ use Rattle.message.specs.Fields.{lengthOf}
 use Rattle.message.specs.Good.{GoodMessage}
 use Rattle.message.specs.GoodLaws.{good-exact}
 use Rattle.message.specs.Message.{Message, messageOf}
-use Rattle.message.specs.Numbers.{verdictOf, numberIn}
+use Rattle.message.specs.Numbers.{verdictOf}
 use Rattle.message.specs.RulesLaws.{unlike}
-use Rattle.quotebox.specs.declared.refusal.Refusal.{Refusal}
-use Rattle.quotebox.specs.declared.refusal.Refusal.the-variants.{Size, Packed, Flag, Count, Gaps as GapsOver}
-use Rattle.quotebox.specs.ActsLaws.{acts-as}
-use Rattle.quotebox.specs.Batch.{Box, Acted, acted, refused, stored, contractAt, recordOf, numberActs, messageActs, messagesAct, batchActs, batchRules, batchLetter, boxOf, flagOf, sizeOf, countOf, dataOf}
-use Rattle.quotebox.specs.BatchLaws.{front-refuses, messages-decide}
-use Rattle.quotebox.specs.GoodLaws.{front-exact}
-use Rattle.quotebox.specs.ScratchLaws.{never-good}
-use Rattle.quotebox.specs.StateLaws.{state-exact}
-use Rattle.quotebox.specs.Memory.{recordAt, stateRules}
-use Rattle.quotebox.specs.MessagesLaws.{not-both, messages-next, messages-refused}
-use Rattle.quotebox.specs.Refusals.{ofFault}
+use Rattle.state.specs.declared.refusal.Refusal.{Refusal}
+use Rattle.state.specs.declared.refusal.Refusal.the-variants.{Size, Packed, Flag, Count, Gaps as GapsOver}
+use Rattle.batch.specs.ActsLaws.{acts-as}
+use Rattle.batch.specs.Batch.{Box, Acted, acted, refused, numberActs, messageActs, messagesAct, batchActs, batchRules, batchLetter, boxOf, flagOf, sizeOf, countOf, batchData}
+use Rattle.state.specs.Memory.{Lent}
+use Rattle.state.specs.State.{stateRules}
+use Rattle.batch.specs.BatchLaws.{front-refuses, messages-decide}
+use Rattle.batch.specs.GoodLaws.{front-exact}
+use Rattle.batch.specs.ScratchLaws.{never-good}
+use Rattle.state.specs.StateLaws.{state-exact}
+use Rattle.batch.specs.MessagesLaws.{not-both, messages-next, messages-refused}
+use Rattle.state.specs.Refusals.{ofFault}
 use Rattle.quotebox.specs.Start.{startOf}
-use Rattle.history.specs.Past.{Event, came, isNumbered, numberOf, wroteOffIn, takenOf, comesNew, standingBy, runsStanding}
+use Rattle.history.specs.Past.{Event, came, isNumbered, wroteOffIn, takenOf, comesNew, standingBy, runsStanding, sequenceNumber}
 use Rattle.history.specs.SegmentLaws.{takes-new, after-standing, fits-standing}
+use Rattle.history.specs.DoesLaws.{storedIn, Does, is-bad, beats, passes, updates, does}
 use Rattle.history.specs.Turn.{BoxFits}
 use Rattle.history.specs.TurnLaws.{taken-here, message-turns}
 use Rattle.history.specs.Exactly.{cameNext, TooMany, OverAt, OverInBatch}
@@ -88,16 +90,16 @@ module _ (list starts : List ℕ) (letter s : ℕ) (listed : segmentOf list lett
   start = startOf starts s
 
   abbrev standing : List Event → ℕ
-  standing past = runsStanding letter start past
+  standing past = runsStanding s start past
 
   too-many : {n : ℕ} → TooMany n → n ≤ most → ⊥
   too-many h l = omega arith
 
-  box-standing : (past : List Event) (box : Box) → BoxFits list starts letter s past box → standing past ≤ most
+  box-standing : (past : List Event) (box : Box) → BoxFits list starts s past box → standing past ≤ most
   box-standing past box f =
-      subst (λ (n : ℕ). n ≤ most) (fits-standing start (takenOf letter start past) (wroteOffIn letter past) (gapsOf (box .row)) (f .gaps-fit)) (f .gaps-fit .sound .few)
+      subst (λ (n : ℕ). n ≤ most) (fits-standing start (takenOf s start past) (wroteOffIn s past) (gapsOf (box .row)) (f .gaps-fit)) (f .gaps-fit .sound .few)
 
-  module _ (past : List Event) (box : Box) (f : BoxFits list starts letter s past box) (k : ℕ) (bytes : List ℕ) where
+  module _ (past : List Event) (box : Box) (f : BoxFits list starts s past box) (k : ℕ) (bytes : List ℕ) where
     abbrev m : Message
     m = messageOf list letter bytes
 
@@ -105,79 +107,74 @@ module _ (list starts : List ℕ) (letter s : ℕ) (listed : segmentOf list lett
     g = gapsOf (box .row)
 
     abbrev later : List Event
-    later = came letter m ∷ past
+    later = came s m ∷ past
 
     -- a number that is refused
-    numbered-over : isNumbered (m .what) ≡ true → takes g (numberOf m) ≡ true → full g (numberOf m) ≡ true → TooMany (standing later)
+    numbered-over : isNumbered (m .what) ≡ true → takes g (sequenceNumber m) ≡ true → full g (sequenceNumber m) ≡ true → TooMany (standing later)
     numbered-over numbered t over =
-        let earlier : List Message = takenOf letter start past in
-        let new : comesNew start earlier (wroteOffIn letter past) m ≡ true = rw numbered (sym (takes-new start earlier (wroteOffIn letter past) g (f .gaps-fit) (numberOf m)) ∙ t) in
-        let now : takenOf letter start later ≡ m ∷ earlier = taken-here letter start m past ∙ ap (λ (t : Bool). cond t (m ∷ earlier) earlier) new in
-        let count : standing later ≡ length (runsAfter g (numberOf m)) =
-        ap (λ (taken : List Message). standingBy start taken (wroteOffIn letter past)) now ∙ sym (after-standing start earlier (wroteOffIn letter past) g (f .gaps-fit) m)
+        let earlier : List Message = takenOf s start past in
+        let new : comesNew start earlier (wroteOffIn s past) m ≡ true = rw numbered (sym (takes-new start earlier (wroteOffIn s past) g (f .gaps-fit) (sequenceNumber m)) ∙ t) in
+        let now : takenOf s start later ≡ m ∷ earlier = taken-here s start m past ∙ ap (λ (t : Bool). cond t (m ∷ earlier) earlier) new in
+        let count : standing later ≡ length (runsAfter g (sequenceNumber m)) =
+        ap (λ (taken : List Message). standingBy start taken (wroteOffIn s past)) now ∙ sym (after-standing start earlier (wroteOffIn s past) g (f .gaps-fit) m)
         in
-        subst TooMany (sym count) (ltb-true most (length (runsAfter g (numberOf m))) over)
+        subst TooMany (sym count) (ltb-true most (length (runsAfter g (sequenceNumber m))) over)
 
     -- what becomes of message k: it is bad, or it acts and at most 64 runs stand, or over 64 would
     pub data Comes : Type 0 where
       bad : (fault : Fault) → messageActs list letter box k bytes ≡ refused (ofFault fault k) → (GoodMessage list letter bytes → ⊥) → Comes
-      goes : (box′ : Box) → messageActs list letter box k bytes ≡ acted box′ → GoodMessage list letter bytes → BoxFits list starts letter s later box′ → Comes
+      goes : (box′ : Box) → messageActs list letter box k bytes ≡ acted box′ → GoodMessage list letter bytes → BoxFits list starts s later box′ → Comes
       over : messageActs list letter box k bytes ≡ refused (GapsOver k) → GoodMessage list letter bytes → TooMany (standing later) → Comes
 
-    numbered-comes : (w : What) → m .what ≡ w → isNumbered w ≡ true → verdictOf w ≡ Good → (changed : List ℕ → List ℕ)
-        → messageActs list letter box k bytes ≡ numberActs box k (numberOf m) changed → Comes
-    numbered-comes w e numbered v changed is = go (messageActs list letter box k bytes) refl
+    numbered-comes : (isNumbered (m .what) ≡ true) × (verdictOf (m .what) ≡ Good) → (changed : List ℕ → List ℕ)
+        → messageActs list letter box k bytes ≡ numberActs box k (sequenceNumber m) changed → Comes
+    numbered-comes numbered changed is = go (messageActs list letter box k bytes) refl
       where
         is-good : GoodMessage list letter bytes
-        is-good = good-exact list letter bytes .0 (ap verdictOf e ∙ v)
+        is-good = good-exact list letter bytes .0 (numbered .1)
 
         go : (a : Acted) → messageActs list letter box k bytes ≡ a → Comes
         go (acted box′) h = goes box′ h is-good (message-turns list starts letter s listed past box f k bytes box′ h .fits)
         go (refused refusal) h =
-            let fell = number-fell box k (numberOf m) changed refusal (sym is ∙ h) in
-            over (h ∙ ap refused (sym (fell .2))) is-good (numbered-over (ap isNumbered e ∙ numbered) (fell .0) (fell .1))
+            let fell = number-fell box k (sequenceNumber m) changed refusal (sym is ∙ h) in
+            over (h ∙ ap refused (sym (fell .2))) is-good (numbered-over (numbered .0) (fell .0) (fell .1))
 
     comes : Comes
-    comes = go (m .what) refl
+    comes = go (does list letter s bytes listed)
       where
-        go : (w : What) → m .what ≡ w → Comes
-        go (what.Bad fault) e =
+        go : Does list letter s bytes → Comes
+        go (is-bad fault e) =
             bad fault (acts-as list letter bytes m refl e box k) (λ good. unlike (sym (ap verdictOf e) ∙ good-exact list letter bytes .1 good))
-        go what.Heartbeat e =
+        go (beats e) =
             let h = acts-as list letter bytes m refl e box k in
             goes _ h (good-exact list letter bytes .0 (ap verdictOf e)) (message-turns list starts letter s listed past box f k bytes _ h .fits)
-        go (what.PassedOver number) e =
-            numbered-comes (what.PassedOver number) e refl refl (λ records. records)
-            (acts-as list letter bytes m refl e box k ∙ ap (λ (n : ℕ). numberActs box k n (λ records. records)) (sym (ap numberIn e)))
-        go (what.Update number level place) e =
-            let changed : List ℕ → List ℕ = stored (recordAt (contractAt list letter place) level) number (recordOf level (m .cells)) in
-            numbered-comes (what.Update number level place) e refl refl changed
-            (acts-as list letter bytes m refl e box k ∙ ap (λ (n : ℕ). numberActs box k n changed) (sym (ap numberIn e)))
+        go (passes numbered none-of is) = numbered-comes numbered (λ records. records) (is box k)
+        go (updates slot numbered of-slot is u) = numbered-comes numbered (storedIn list slot m) (is box k)
 
   -- ---- messages in turn
 
-  pub over-exact : (count k : ℕ) (past : List Event) (box : Box) (bytes : List ℕ) (i : ℕ) → BoxFits list starts letter s past box
-      → messagesAct count list letter k box bytes ≡ refused (GapsOver i) ↔ OverAt count list letter start past k bytes i
+  pub over-exact : (count k : ℕ) (past : List Event) (box : Box) (bytes : List ℕ) (i : ℕ) → BoxFits list starts s past box
+      → messagesAct count list letter k box bytes ≡ refused (GapsOver i) ↔ OverAt count list letter s start past k bytes i
   unfolding messagesAct
   over-exact zero k past box bytes i f = (end-not-gaps box i (eqb (length bytes) 0), (λ w. absurd w))
   over-exact (suc more) k past box bytes i f =
-      go (comes past box f k bytes) (λ box′ fit. over-exact more (suc k) (cameNext list letter bytes past) box′ (drop (lengthOf bytes) bytes) i fit)
+      go (comes past box f k bytes) (λ box′ fit. over-exact more (suc k) (cameNext list letter s bytes past) box′ (drop (lengthOf bytes) bytes) i fit)
     where
       go : Comes past box f k bytes
-          → ((box′ : Box) → BoxFits list starts letter s (cameNext list letter bytes past) box′
-          → messagesAct more list letter (suc k) box′ (drop (lengthOf bytes) bytes) ≡ refused (GapsOver i) ↔ OverAt more list letter start (cameNext list letter bytes past) (suc k) (drop (lengthOf bytes) bytes) i)
-          → messagesAct (suc more) list letter k box bytes ≡ refused (GapsOver i) ↔ OverAt (suc more) list letter start past k bytes i
+          → ((box′ : Box) → BoxFits list starts s (cameNext list letter s bytes past) box′
+          → messagesAct more list letter (suc k) box′ (drop (lengthOf bytes) bytes) ≡ refused (GapsOver i) ↔ OverAt more list letter s start (cameNext list letter s bytes past) (suc k) (drop (lengthOf bytes) bytes) i)
+          → messagesAct (suc more) list letter k box bytes ≡ refused (GapsOver i) ↔ OverAt (suc more) list letter s start past k bytes i
       go (bad fault acts not-good) rest = (
         (λ e. absurd (fault-not-gaps fault k i (same-refusal (sym (messages-refused list letter more k box bytes (ofFault fault k) acts) ∙ e)))),
         (λ w. absurd (not-good (w .0))),
       )
       go (goes box′ acts good fit) rest =
-          let few = box-standing (cameNext list letter bytes past) box′ fit in
+          let few = box-standing (cameNext list letter s bytes past) box′ fit in
           let next = messages-next list letter more k box bytes box′ acts in (
             (λ e. (good, inr (few, rest box′ fit .0 (sym next ∙ e)))),
             (λ w.
-                ⊎-elim (λ (o : (i ≡ k) × TooMany (standing (cameNext list letter bytes past))). absurd (too-many (o .1) few))
-                (λ (o : (standing (cameNext list letter bytes past) ≤ most) × OverAt more list letter start (cameNext list letter bytes past) (suc k) (drop (lengthOf bytes) bytes) i).
+                ⊎-elim (λ (o : (i ≡ k) × TooMany (standing (cameNext list letter s bytes past))). absurd (too-many (o .1) few))
+                (λ (o : (standing (cameNext list letter s bytes past) ≤ most) × OverAt more list letter s start (cameNext list letter s bytes past) (suc k) (drop (lengthOf bytes) bytes) i).
                 next ∙ rest box′ fit .1 (o .1))
                 (w .1)),
           )
@@ -185,8 +182,8 @@ module _ (list starts : List ℕ) (letter s : ℕ) (listed : segmentOf list lett
           let stops = messages-refused list letter more k box bytes (GapsOver k) acts in (
             (λ e. (good, inl (sym (same-place (same-refusal (sym stops ∙ e))), many))),
             (λ w.
-                ⊎-elim (λ (o : (i ≡ k) × TooMany (standing (cameNext list letter bytes past))). stops ∙ ap (λ (n : ℕ). refused (GapsOver n)) (sym (o .0)))
-                (λ (o : (standing (cameNext list letter bytes past) ≤ most) × OverAt more list letter start (cameNext list letter bytes past) (suc k) (drop (lengthOf bytes) bytes) i).
+                ⊎-elim (λ (o : (i ≡ k) × TooMany (standing (cameNext list letter s bytes past))). stops ∙ ap (λ (n : ℕ). refused (GapsOver n)) (sym (o .0)))
+                (λ (o : (standing (cameNext list letter s bytes past) ≤ most) × OverAt more list letter s start (cameNext list letter s bytes past) (suc k) (drop (lengthOf bytes) bytes) i).
                 absurd (too-many many (o .0)))
                 (w .1)),
           )
@@ -221,41 +218,44 @@ unlisted-not-gaps list letter u (suc more) box bytes i e = go (messageOf list le
         (sym (messages-refused list letter more 0 box bytes (ofFault fault 0) (acts-as list letter bytes (messageOf list letter bytes) refl f box 0)) ∙ e))
     go what.Heartbeat f = never-good list letter u bytes (ap verdictOf f)
     go (what.PassedOver number) f = never-good list letter u bytes (ap verdictOf f)
-    go (what.Update number level place) f = never-good list letter u bytes (ap verdictOf f)
+    go (what.Update number form place) f = never-good list letter u bytes (ap verdictOf f)
 
-module _ {list starts rows records : List ℕ} {past : List Event} (r : Reached list starts rows records past) (batch : List ℕ) (i : ℕ) where
+module _ {starts : List ℕ} {lent : Lent} {past : List Event} (r : Reached starts lent past) (batch : List ℕ) (i : ℕ) where
   abbrev letter : ℕ
   letter = batchLetter batch
 
-  state : Hold (stateRules list rows records)
-  state = state-exact list rows records .1 (reached-holds r .state)
+  abbrev list : List ℕ
+  list = lent .list
 
-  pub acts-over : batchActs list rows records batch ≡ refused (GapsOver i) ↔ OverInBatch list starts past batch i
+  state : Hold (stateRules lent)
+  state = state-exact lent .1 (reached-holds r .state)
+
+  pub acts-over : batchActs lent batch ≡ refused (GapsOver i) ↔ OverInBatch list starts past batch i
   acts-over = (is-over, over-is)
     where
-      is-over : batchActs list rows records batch ≡ refused (GapsOver i) → OverInBatch list starts past batch i
+      is-over : batchActs lent batch ≡ refused (GapsOver i) → OverInBatch list starts past batch i
       is-over e = front (firstBroken (batchRules batch)) refl
         where
           listed : Hold (batchRules batch) → (o : Option ℕ) → segmentOf list letter ≡ o → OverInBatch list starts past batch i
           listed h none u =
-              absurd (unlisted-not-gaps list letter u (countOf batch) (boxOf list letter rows records) (dataOf batch) i (sym (messages-decide list rows records batch state h) ∙ e))
+              absurd (unlisted-not-gaps list letter u (countOf batch) (boxOf lent letter) (batchData batch) i (sym (messages-decide lent batch state h) ∙ e))
           listed h (some s) l =
               record {
                 front = front-exact batch .0 h;
                 segment = s;
                 listed = l;
                 over =
-                    over-exact list starts letter s l (countOf batch) 0 past (boxOf list letter rows records) (dataOf batch) i (box-before (reached-holds r) batch s l) .0
-                    (sym (messages-decide list rows records batch state h) ∙ e);
+                    over-exact list starts letter s l (countOf batch) 0 past (boxOf lent letter) (batchData batch) i (box-before (reached-holds r) batch s l) .0
+                    (sym (messages-decide lent batch state h) ∙ e);
               }
 
           front : (o : Option Refusal) → firstBroken (batchRules batch) ≡ o → OverInBatch list starts past batch i
           front none h = listed (none-hold (batchRules batch) h) (segmentOf list letter) refl
           front (some refusal) h =
-              absurd (front-not-gaps batch i (h ∙ ap some (same-refusal (sym (front-refuses list rows records batch state refusal h) ∙ e))))
+              absurd (front-not-gaps batch i (h ∙ ap some (same-refusal (sym (front-refuses lent batch state refusal h) ∙ e))))
 
-      over-is : OverInBatch list starts past batch i → batchActs list rows records batch ≡ refused (GapsOver i)
+      over-is : OverInBatch list starts past batch i → batchActs lent batch ≡ refused (GapsOver i)
       over-is w =
-          messages-decide list rows records batch state (front-exact batch .1 (w .front))
-          ∙ over-exact list starts letter (w .segment) (w .listed) (countOf batch) 0 past (boxOf list letter rows records) (dataOf batch) i
+          messages-decide lent batch state (front-exact batch .1 (w .front))
+          ∙ over-exact list starts letter (w .segment) (w .listed) (countOf batch) 0 past (boxOf lent letter) (batchData batch) i
           (box-before (reached-holds r) batch (w .segment) (w .listed)) .1 (w .over)

@@ -1,46 +1,81 @@
--- Histories: 01 "What may be asked". Any finite sequence of public calls with any arguments from an accepted start, with no
--- other accepted start in it, each call handed the memory that the one before left.
+-- Histories: 01 "What may be asked". Any finite list of public calls with any arguments, folded by their step. Each is handed the
+-- box's own memory, which is what the call before left with the list of the latest accepted start, or other memory than that.
+use mathlib.Core.Path.{_≡_}
+use mathlib.Core.List.{List, [], _∷_}
+use mathlib.Core.Option.{Option, none, some}
 use Prim.Native.Nat.{ℕ}
-use mathlib.Core.List.{List, []}
-use Rattle.layout.specs.declared.quote.Quote.{Quote}
-use Rattle.layout.specs.declared.rows.Level.{Level}
-use Rattle.quotebox.specs.declared.refusal.Refusal.{Refusal}
-use Rattle.quotebox.specs.declared.answers.Started.{Started}
-use Rattle.quotebox.specs.declared.answers.Judged.{Judged}
-use Rattle.quotebox.specs.declared.answers.Listed.{Listed}
-use Rattle.quotebox.specs.declared.answers.WrittenOff.{WrittenOff}
-use Rattle.quotebox.specs.declared.answers.Reading.{Reading}
-use Rattle.quotebox.specs.declared.answers.Written.{Written}
-use Rattle.quotebox.specs.declared.writing.Code.{Code}
-use Rattle.quotebox.specs.Promises.{JudgedBatch, TookBatch}
-use Rattle.quotebox.specs.CallPromises.{StartedBox, ListedRuns, WroteOffRun, ReadRecord}
-use Rattle.quotebox.specs.WriterPromises.{WroteMessage}
+use Rattle.state.specs.Answers.{leftBy}
+use Rattle.state.specs.Memory.{Lent}
 use Rattle.history.specs.Past.{Event, afterTake, afterWriteOff}
+use Rattle.history.specs.Calls.{Call, Answer, start, judge, take, listGaps, writeOff, readRecord, writeMessage, startRefusal, batchAnswer, offAnswer, step}
 
--- demand 3, "After any sequence of calls from a fresh start": the gap rows and records that a history leaves, and its past:
--- `list` and `starts` are those of its start
-pub data Reached (list starts : List ℕ) : List ℕ → List ℕ → List Event → Type 0 where
-  begun : {rows records rows′ records′ : List ℕ} → StartedBox list starts rows records Started.Started rows′ records′ → Reached list starts rows′ records′ []
-  refusedStart : {rows records rows′ records′ : List ℕ} {past : List Event} → Reached list starts rows records past
-      → (list′ starts′ : List ℕ) (refusal : Refusal) → StartedBox list′ starts′ rows records (Started.Refused refusal) rows′ records′
-      → Reached list starts rows′ records′ past
-  judge : {rows records : List ℕ} {past : List Event} → Reached list starts rows records past
-      → (batch : List ℕ) (answer : Judged) → JudgedBatch list rows records batch answer
-      → Reached list starts rows records past
-  take : {rows records rows′ records′ : List ℕ} {past : List Event} → Reached list starts rows records past
-      → (batch : List ℕ) (answer : Judged) → TookBatch list rows records batch answer rows′ records′
-      → Reached list starts rows′ records′ (afterTake list batch answer past)
-  listGaps : {rows records : List ℕ} {past : List Event} → Reached list starts rows records past
-      → (letter : ℕ) (cells : List ℕ) (answer : Listed) (cells′ : List ℕ) → ListedRuns list rows records letter cells answer cells′
-      → Reached list starts rows records past
-  writeOff : {rows records rows′ : List ℕ} {past : List Event} → Reached list starts rows records past
-      → (letter : ℕ) (answer : WrittenOff) → WroteOffRun list rows records letter answer rows′
-      → Reached list starts rows′ records (afterWriteOff letter answer past)
-  readRecord : {rows records : List ℕ} {past : List Event} → Reached list starts rows records past
-      → (letter : ℕ) (key : List ℕ) (level : Level) (reading : Reading) → ReadRecord list rows records letter key level reading
-      → Reached list starts rows records past
-  -- the writer is handed no gap rows and no records
-  writeMessage : {rows records : List ℕ} {past : List Event} → Reached list starts rows records past
-      → (code : Code) (level : Level) (number : ℕ) (key : List ℕ) (quote : Quote) (out : List ℕ) (answer : Written) (out′ : List ℕ)
-      → WroteMessage code level number key quote out answer out′
-      → Reached list starts rows records past
+-- 01 "What may be asked": a call handed the box's own memory (a start with any list), or one lent other memory
+pub data Made : Type 0 where
+  own : Call → Made
+  elsewhere : Lent → Call → Made
+
+-- demand 3, "a fresh start": what there is since the latest accepted start: its start numbers, and what has come
+pub record Since : Type 0 where
+  pub starts : List ℕ
+  pub past : List Event
+
+-- 01 "Sequence and gaps": what has come, where there was a start
+abbrev pub pastIn : Option Since → List Event
+pastIn none = []
+pastIn (some since) = since .past
+
+-- 01 "What may be asked": a box: its memory, and what there is since its latest accepted start, if there was one
+pub record BoxNow : Type 0 where
+  pub lent : Lent
+  pub since : Option Since
+
+-- 01 "What may be asked": memory before any start
+abbrev pub unstarted : Lent → BoxNow
+unstarted lent = record { lent = lent; since = none }
+
+-- 01 "Sequence and gaps": more has come since the start
+abbrev pub comes : (List Event → List Event) → Option Since → Option Since
+comes more none = none
+comes more (some since) = some (record { starts = since .starts; past = more (since .past) })
+
+-- 01 "What may be asked": what there is since the start after a call, by its input and its answer: an accepted start begins
+-- anew; taking a batch and a write-off add to the past; no other call does
+abbrev pub sinceAfter : Lent → Call → Option Since → Option Since
+sinceAfter lent (start list starts) since = leftBy (startRefusal lent list starts) since (some (record { starts = starts; past = [] }))
+sinceAfter lent (judge batch) since = since
+sinceAfter lent (take batch) since = comes (afterTake (lent .list) batch (batchAnswer lent batch)) since
+sinceAfter lent (listGaps letter cells) since = since
+sinceAfter lent (writeOff letter) since = comes (afterWriteOff (lent .list) letter (offAnswer lent letter)) since
+sinceAfter lent (readRecord letter key level) since = since
+sinceAfter lent (writeMessage code level number key quote out) since = since
+
+-- 01 "What may be asked": the box after one call; a call lent other memory changes nothing of it
+abbrev pub afterCall : BoxNow → Made → BoxNow
+afterCall now (own call) = record { lent = step (now .lent) call .left; since = sinceAfter (now .lent) call (now .since) }
+afterCall now (elsewhere lent call) = now
+
+-- 01 "What may be asked": the box after calls made in turn
+abbrev pub allAfter : BoxNow → List Made → BoxNow
+allAfter now [] = now
+allAfter now (call ∷ calls) = allAfter (afterCall now call) calls
+
+-- 01 "What may be asked": what one call answers, by the memory that it is handed
+abbrev pub answerGiven : BoxNow → Made → Answer
+answerGiven now (own call) = step (now .lent) call .answer
+answerGiven now (elsewhere lent call) = step lent call .answer
+
+-- 01 "What may be asked": what calls made in turn answer
+abbrev pub allAnswers : BoxNow → List Made → List Answer
+allAnswers now [] = []
+allAnswers now (call ∷ calls) = answerGiven now call ∷ allAnswers (afterCall now call) calls
+
+-- 01 "Sequence and gaps": what has come since the latest accepted start
+abbrev pub pastOf : BoxNow → List Event
+pastOf now = pastIn (now .since)
+
+-- demand 3, "After any sequence of calls from a fresh start": some memory and some calls lead to this memory, with these start
+-- numbers and this past since the latest accepted start
+pub record Reached (starts : List ℕ) (lent : Lent) (past : List Event) : Type 0 where
+  pub memory : Lent
+  pub calls : List Made
+  pub reaches : allAfter (unstarted memory) calls ≡ record { lent = lent; since = some (record { starts = starts; past = past }) }

@@ -1,94 +1,108 @@
 -- Storing an update keeps the records beside what the past says.
 use Prim.Native.Nat.{ℕ, suc, _+_, _≤_, _<_}
-use mathlib.Core.Path.{_≡_, refl, sym, ap, _∙_}
-use mathlib.Core.Bool.{true, false, true≢false}
+use mathlib.Core.Path.{_≡_, refl, sym, ap, subst, _∙_}
+use mathlib.Core.Bool.{true, false, cond, true≢false}
 use mathlib.Core.List.{List, _∷_, _++_}
 use mathlib.Core.Option.{Option, none, some}
 use mathlib.Core.Logic.{_⊎_, inl, inr, ⊎-elim}
 use native.Mathlib.Omega.{arith}
-use borrow.Author.Tests.{lt-ltb}
-use lib.Dec.{ltb}
+use borrow.Author.Tests.{lt-ltb, eq-eqb, ne-eqb, eqb-true}
+use lib.Dec.{ltb, eqb}
 use lib.ListN.{length, getD, take, drop, replicate}
 use lib.Seq.{sets}
 use Rattle.laws.specs.Choice.{either}
-use Rattle.laws.specs.Order.{order}
-use Rattle.layout.specs.declared.rows.Level.{Level}
-use Rattle.layout.specs.declared.rows.Level.the-variants.{One, Two}
-use Rattle.layout.specs.declared.quote.Quote.{Quote}
-use Rattle.layout.specs.Cells.{filled}
-use Rattle.layout.specs.Quote.{cellsOf}
-use Rattle.layout.specs.Rows.{keyRows, rowsOf}
+use Rattle.laws.specs.Tests.{all-three}
+use Rattle.forms.specs.declared.rows.Level.{Level}
+use Rattle.forms.specs.declared.rows.Level.the-variants.{One, Two}
+use Rattle.quote.specs.declared.quote.Quote.{Quote}
+use Rattle.layout.specs.Cells.{zerosBehind}
+use Rattle.quote.specs.Quote.{cellsOf}
+use Rattle.forms.specs.declared.forms.Subject.{Subject}
+use Rattle.forms.specs.declared.forms.Subject.the-variants.{Nothing, Contract}
+use Rattle.forms.specs.Forms.{namedRows, rowsOf, sameLevel, subjectOf}
+use Rattle.forms.specs.Sizes.{keyRowCount}
+use Rattle.message.specs.declared.body.What.{What}
+use Rattle.message.specs.declared.body.What.the-variants as what
 use Rattle.message.specs.Message.{Message}
-use Rattle.quotebox.specs.Batch.{stored, recordOf}
-use Rattle.quotebox.specs.Memory.{recordAt}
-use Rattle.quotebox.specs.Record.{recordRows}
-use Rattle.history.specs.Past.{numberOf, sameLevel}
-use Rattle.history.specs.Kept.{higher, KeptAs, Kept}
+use Rattle.stores.specs.Stored.{stored}
+use Rattle.state.specs.Slots.{Slot, contract, formFor, slotFor, SlotListed, slotAt, slotCells, recordOf, recordRows, recordsWanted}
+use Rattle.state.specs.SlotsLaws.{cells-by-rows, slot-inside, slot-some, slots-apart}
+use Rattle.history.specs.Past.{sequenceNumber}
+use Rattle.history.specs.Updates.{sameSlot, slotOf, isSlot, segmentIn, levelIn}
+use Rattle.history.specs.Kept.{higher, RecordHolds, HoldsUpdate}
 use Rattle.history.specs.StoresLaws.{part-first, stored-here, stored-apart}
 
 -- ---- the cells of an update
 
-pub quote-long : (level : Level) (quote : Quote) → length (recordOf level (cellsOf level quote)) ≡ recordRows level
-unfolding recordRows rowsOf cellsOf
-quote-long One quote = refl
-quote-long Two quote = refl
+pub quote-long : (slot : Slot) (quote : Quote) → length (recordOf (levelIn slot) (cellsOf (formFor slot) quote)) ≡ recordRows (levelIn slot)
+unfolding recordRows rowsOf namedRows cellsOf
+quote-long (contract i place One) quote = refl
+quote-long (contract i place Two) quote = refl
 
 -- the key's cells are 0, and so are those behind the last row
-pub quote-cells : (level : Level) (quote : Quote) → filled (replicate (length keyRows) 0 ++ recordOf level (cellsOf level quote)) ≡ cellsOf level quote
-unfolding rowsOf cellsOf
-quote-cells One quote = refl
-quote-cells Two quote = refl
+pub quote-cells : (slot : Slot) (quote : Quote) → zerosBehind (replicate keyRowCount 0 ++ recordOf (levelIn slot) (cellsOf (formFor slot) quote)) ≡ cellsOf (formFor slot) quote
+unfolding rowsOf namedRows cellsOf
+quote-cells (contract i place One) quote = refl
+quote-cells (contract i place Two) quote = refl
 
--- ---- two records stand apart
+-- ---- one slot or another
 
-pub same-level : (a b : Level) → sameLevel a b ≡ true → a ≡ b
+same-level : (a b : Level) → sameLevel a b ≡ true → a ≡ b
 same-level One One e = refl
 same-level One Two e = cc
 same-level Two One e = cc
 same-level Two Two e = refl
 
-abbrev Apart : ℕ → Level → ℕ → Level → Type 0
-Apart c a d b =
-    (recordAt c a + suc (recordRows a) ≤ recordAt d b) ⊎ (recordAt d b + suc (recordRows b) ≤ recordAt c a)
+pub same-slot : (a b : Slot) → sameSlot a b ≡ true → a ≡ b
+same-slot (contract i p x) (contract j q y) e =
+    let parts = all-three (eqb i j) (eqb p q) (sameLevel x y) e in
+    let segments = eqb-true i j (parts .0) in
+    let places = eqb-true p q (parts .1) in
+    let levels = same-level x y (parts .2) in
+    λ k. contract (segments k) (places k) (levels k)
 
-pub levels-apart : (c : ℕ) (a b : Level) → sameLevel b a ≡ false → Apart c a c b
-unfolding recordRows rowsOf
-levels-apart c One One e = absurd (true≢false e)
-levels-apart c One Two e = inl (omega arith)
-levels-apart c Two One e = inr (omega arith)
-levels-apart c Two Two e = absurd (true≢false e)
+pub slot-itself : (a : Slot) → sameSlot a a ≡ true
+slot-itself (contract i p One) = simp (eq-eqb i i refl, eq-eqb p p refl)
+slot-itself (contract i p Two) = simp (eq-eqb i i refl, eq-eqb p p refl)
 
-pub contracts-apart : (c : ℕ) (a : Level) (d : ℕ) (b : Level) → (c ≡ d → ⊥) → Apart c a d b
-unfolding recordRows rowsOf
-contracts-apart c a d b n = ⊎-elim (λ (h : c ≤ d). inl (below c a d b (omega arith))) (λ (h : d < c). inr (below d b c a h)) (order c d)
+-- a message of another segment is no update of a slot
+pub not-its : (slot : Slot) (i : ℕ) (w : What) → (i ≡ segmentIn slot → ⊥) → isSlot slot (slotOf i w) ≡ false
+not-its (contract j p x) i what.Heartbeat n = refl
+not-its (contract j p x) i (what.PassedOver number) n = refl
+not-its (contract j p x) i (what.Bad fault) n = refl
+not-its (contract j p x) i (what.Update number form place) n = go (subjectOf form)
   where
-    below : (c : ℕ) (a : Level) (d : ℕ) (b : Level) → c < d → recordAt c a + suc (recordRows a) ≤ recordAt d b
-    below c One d One h = omega arith
-    below c One d Two h = omega arith
-    below c Two d One h = omega arith
-    below c Two d Two h = omega arith
+    go : (s : Subject) → isSlot (contract j p x) (slotFor s i place) ≡ false
+    go Nothing = refl
+    go (Contract level) = simp (ne-eqb i j n)
+
+-- a slot's cells: its number, then one a row
+pub slot-rows : (slot : Slot) → slotCells slot ≡ suc (recordRows (levelIn slot))
+slot-rows (contract i p level) = cells-by-rows level
 
 -- ---- an update stored
 
 -- the number that a record holds
 abbrev pub heldNumber : Option Message → ℕ
 heldNumber none = 0
-heldNumber (some m) = numberOf m
+heldNumber (some m) = sequenceNumber m
 
-module _ (records : List ℕ) (at : ℕ) (level : Level) where
-  pub kept-number : (o : Option Message) → Kept records at level o → getD records at 0 ≡ heldNumber o
+module _ (list records : List ℕ) (slot : Slot) where
+  abbrev at : ℕ
+  at = slotAt list slot
+
+  pub kept-number : (o : Option Message) → RecordHolds list records slot o → getD records at 0 ≡ heldNumber o
   kept-number none k = k
-  kept-number (some m) k =
-      sym (part-first records at (suc (recordRows level)) (omega arith)) ∙ ap (λ (l : List ℕ). getD l 0 0) (k .cells-kept)
+  kept-number (some m) k = sym (part-first records at (slotCells slot) (slot-some slot)) ∙ ap (λ (l : List ℕ). getD l 0 0) (k .cells-kept)
 
-  module _ (m : Message) (some-number : 0 < numberOf m) (quote : Quote) (of-quote : m .cells ≡ cellsOf level quote) (room : at + recordRows level < length records) where
+  module _ (m : Message) (some-number : 0 < sequenceNumber m) (quote : Quote) (of-quote : m .cells ≡ cellsOf (formFor slot) quote) (room : at + slotCells slot ≤ length records) where
     abbrev own : List ℕ
-    own = numberOf m ∷ recordOf level (m .cells)
+    own = sequenceNumber m ∷ recordOf (levelIn slot) (m .cells)
 
-    own-long : length own ≡ suc (recordRows level)
-    own-long = ap suc (ap (λ (cells : List ℕ). length (recordOf level cells)) of-quote ∙ quote-long level quote)
+    own-long : length own ≡ slotCells slot
+    own-long = ap suc (ap (λ (cells : List ℕ). length (recordOf (levelIn slot) cells)) of-quote ∙ quote-long slot quote) ∙ sym (slot-rows slot)
 
-    put : KeptAs (sets records at own) at level m
+    put : HoldsUpdate list (sets records at own) slot m
     put =
         let long = own-long in
         record {
@@ -99,27 +113,59 @@ module _ (records : List ℕ) (at : ℕ) (level : Level) where
         }
 
     -- "replaces its contract's record at its level only if its number is greater than the record's"
-    pub kept-stored : (o : Option Message) → Kept records at level o → Kept (stored at (numberOf m) (recordOf level (m .cells)) records) at level (higher m o)
-    kept-stored none k = rw (k, lt-ltb 0 (numberOf m) some-number) put
+    pub kept-stored : (o : Option Message) → RecordHolds list records slot o → RecordHolds list (stored at (sequenceNumber m) (recordOf (levelIn slot) (m .cells)) records) slot (higher m o)
+    kept-stored none k = rw (k, lt-ltb 0 (sequenceNumber m) some-number) put
     kept-stored (some other) k =
         rw (kept-number (some other) k)
-        (⊎-elim (λ (e : ltb (numberOf other) (numberOf m) ≡ true). rw e put) (λ (e : ltb (numberOf other) (numberOf m) ≡ false). rw e k) (either (ltb (numberOf other) (numberOf m))))
+        (⊎-elim (λ (e : ltb (sequenceNumber other) (sequenceNumber m) ≡ true). rw e put) (λ (e : ltb (sequenceNumber other) (sequenceNumber m) ≡ false). rw e k) (either (ltb (sequenceNumber other) (sequenceNumber m))))
 
   -- what is stored apart changes nothing
-  pub kept-apart : (at′ number : ℕ) (cells : List ℕ) → at′ + suc (length cells) ≤ length records
-      → (at + suc (recordRows level) ≤ at′) ⊎ (at′ + suc (length cells) ≤ at)
-      → (o : Option Message) → Kept records at level o → Kept (stored at′ number cells records) at level o
+  kept-apart : (at′ number : ℕ) (cells : List ℕ) → at′ + suc (length cells) ≤ length records
+      → (at + slotCells slot ≤ at′) ⊎ (at′ + suc (length cells) ≤ at)
+      → (o : Option Message) → RecordHolds list records slot o → RecordHolds list (stored at′ number cells records) slot o
   kept-apart at′ number cells room apart o k =
       ⊎-elim (λ (e : ltb (getD records at′ 0) number ≡ true). rw e (moved o k)) (λ (e : ltb (getD records at′ 0) number ≡ false). rw e k) (either (ltb (getD records at′ 0) number))
     where
       new : List ℕ
       new = sets records at′ (number ∷ cells)
 
-      part : take (suc (recordRows level)) (drop at new) ≡ take (suc (recordRows level)) (drop at records)
-      part = stored-apart records (number ∷ cells) at′ room at (suc (recordRows level)) apart
+      part : take (slotCells slot) (drop at new) ≡ take (slotCells slot) (drop at records)
+      part = stored-apart records (number ∷ cells) at′ room at (slotCells slot) apart
 
-      moved : (o : Option Message) → Kept records at level o → Kept new at level o
+      moved : (o : Option Message) → RecordHolds list records slot o → RecordHolds list new slot o
       moved none k =
-          sym (part-first new at (suc (recordRows level)) (omega arith)) ∙ ap (λ (l : List ℕ). getD l 0 0) part
-          ∙ part-first records at (suc (recordRows level)) (omega arith) ∙ k
+          sym (part-first new at (slotCells slot) (slot-some slot)) ∙ ap (λ (l : List ℕ). getD l 0 0) part
+          ∙ part-first records at (slotCells slot) (slot-some slot) ∙ k
       moved (some m) k = record { cells-kept = part ∙ k .cells-kept; some-number = k .some-number; quote = k .quote; of-quote = k .of-quote }
+
+-- an update stored in its slot changes that one's record alone
+module _ (list records : List ℕ) (long : recordsWanted list ≤ length records) (own : Slot) (there : SlotListed list own)
+    (m : Message) (some-number : 0 < sequenceNumber m) (quote : Quote) (of-quote : m .cells ≡ cellsOf (formFor own) quote) where
+  abbrev cells : List ℕ
+  cells = recordOf (levelIn own) (m .cells)
+
+  abbrev new : List ℕ
+  new = stored (slotAt list own) (sequenceNumber m) cells records
+
+  room : slotAt list own + slotCells own ≤ length records
+  room = omega (arith, slot-inside list own there)
+
+  cells-long : suc (length cells) ≡ slotCells own
+  cells-long = own-long list records own m some-number quote of-quote room
+
+  pub update-changes : (slot : Slot) → SlotListed list slot → (o : Option Message) → RecordHolds list records slot o → RecordHolds list new slot (cond (sameSlot own slot) (higher m o) o)
+  update-changes slot listed o k =
+      ⊎-elim (λ (e : sameSlot own slot ≡ true). rw e (here (same-slot own slot e)))
+      (λ (e : sameSlot own slot ≡ false).
+      rw e
+      (kept-apart list records slot (slotAt list own) (sequenceNumber m) cells (subst (λ (n : ℕ). slotAt list own + n ≤ length records) (sym cells-long) room)
+      (⊎-elim (λ (b : slotAt list own + slotCells own ≤ slotAt list slot). inr (subst (λ (n : ℕ). slotAt list own + n ≤ slotAt list slot) (sym cells-long) b))
+      (λ (b : slotAt list slot + slotCells slot ≤ slotAt list own). inl b)
+      (slots-apart list own slot there listed (λ f. true≢false (sym (slot-itself own) ∙ ap (sameSlot own) f ∙ e))))
+      o k))
+      (either (sameSlot own slot))
+    where
+      here : own ≡ slot → RecordHolds list new slot (higher m o)
+      here f =
+          subst (λ (s : Slot). RecordHolds list new s (higher m o)) f
+          (kept-stored list records own m some-number quote of-quote room o (subst (λ (s : Slot). RecordHolds list records s o) (sym f) k))

@@ -14,37 +14,39 @@ use Rattle.laws.specs.Rules.{firstBroken}
 use Rattle.laws.specs.RulesLaws.{last-holds, last-broken}
 use Rattle.laws.specs.Order.{three, climbs}
 use Rattle.contracts.specs.Lookup.{segmentOf}
+use Rattle.contracts.specs.LookupLaws.{segment-has}
 use Rattle.sequence.specs.Runs.{Run, run, names, missing}
 use Rattle.sequence.specs.RunsLaws.{named}
 use Rattle.sequence.specs.Gaps.{Gaps, wanted}
 use Rattle.sequence.specs.Row.{pairs, flat}
-use Rattle.sequence.specs.Sound.{Sound}
+use Rattle.sequence.specs.Sound.{SoundGaps}
 use Rattle.sequence.specs.SoundLaws.{sound-apart}
-use Rattle.quotebox.specs.declared.answers.Listed.{Listed}
+use Rattle.state.specs.declared.answers.Listed.{Listed}
 use Rattle.quotebox.specs.CallPromises.{ListedRuns}
 use Rattle.quotebox.specs.CallPromisesLaws.{answers-runs, runs-in-cells}
 use Rattle.quotebox.specs.CallsLaws.{gaps-are}
-use Rattle.quotebox.specs.Calls.{answered, gapsOfLetter, listRules, listValues}
-use Rattle.quotebox.specs.AnswersLaws.{listed-told}
-use Rattle.quotebox.specs.Answers.{listedNumbers}
+use Rattle.quotebox.specs.Calls.{gapsOfLetter, listRules, listValues}
+use Rattle.state.specs.Answers.{answered, listedNumbers}
+use Rattle.state.specs.AnswersLaws.{listed-told}
 use Rattle.quotebox.specs.Start.{startOf}
-use Rattle.quotebox.specs.State.{segmentRules}
-use Rattle.quotebox.specs.StateLaws.{good-unrefused, segment-holds}
-use Rattle.quotebox.specs.declared.refusal.Refusal.{Refusal}
-use Rattle.quotebox.specs.declared.refusal.Refusal.the-variants.{Memory}
+use Rattle.state.specs.Memory.{Lent}
+use Rattle.state.specs.State.{segmentRules}
+use Rattle.state.specs.StateLaws.{good-unrefused, segment-holds}
+use Rattle.state.specs.declared.refusal.Refusal.{Refusal}
+use Rattle.state.specs.declared.refusal.Refusal.the-variants.{Memory}
 use Rattle.history.specs.Past.{Event, wroteOffIn, takenOf, highestIn, runsStanding}
 use Rattle.history.specs.Segment.{Fits}
 use Rattle.history.specs.SegmentLaws.{fits-standing}
 use Rattle.history.specs.Histories.{Reached}
 use Rattle.history.specs.HoldsLaws.{reached-holds}
-use Rattle.history.specs.Exactly.{runsPut, NamesMissing}
+use Rattle.history.specs.Exactly.{NamesMissing, runsThere}
 
 pairs-flat : (rs : List Run) → pairs (flat rs) ≡ rs
 pairs-flat [] = refl
 pairs-flat (r ∷ rs) = ap (λ (l : List Run). r ∷ l) (pairs-flat rs)
 
 -- runs that ascend and don't touch name no number twice
-module _ {g : Gaps} (s : Sound g) where
+module _ {g : Gaps} (s : SoundGaps g) where
   abbrev Before : ℕ → ℕ → Type 0
   Before i j = (run (g .runs) i .last < run (g .runs) j .first) × (run (g .runs) j .first ≤ run (g .runs) j .last)
 
@@ -66,27 +68,27 @@ module _ {g : Gaps} (s : Sound g) where
 
 -- ---- the theorem
 
-module _ {list starts rows records : List ℕ} {past : List Event} (r : Reached list starts rows records past) (letter i : ℕ) (s : segmentOf list letter ≡ some i) where
+module _ {starts : List ℕ} {lent : Lent} {past : List Event} (r : Reached starts lent past) (letter i : ℕ) (s : segmentOf (lent .list) letter ≡ some i) where
   abbrev start : ℕ
   start = startOf starts i
 
-  pub segment-good : firstBroken (segmentRules list rows records letter) ≡ none
-  segment-good = segment-holds list rows records letter (good-unrefused list rows records (reached-holds r .state)) i s
+  pub segment-good : firstBroken (segmentRules lent letter) ≡ none
+  segment-good = segment-holds lent letter (good-unrefused lent (reached-holds r .state)) i s
 
-  pub fits-here : Fits start (takenOf letter start past) (wroteOffIn letter past) (gapsOfLetter list rows letter)
-  fits-here = rw (gaps-are list rows records letter segment-good i s) (reached-holds r .gaps-fit letter i s)
+  pub fits-here : Fits start (takenOf i start past) (wroteOffIn i past) (gapsOfLetter lent letter)
+  fits-here = rw (gaps-are lent letter segment-good i s) (reached-holds r .gaps-fit i (segment-has (lent .list) letter i s .0))
 
   -- as many runs stand as the missing numbers make
-  pub runs-are : length (gapsOfLetter list rows letter .runs) ≡ runsStanding letter start past
-  runs-are = fits-standing start (takenOf letter start past) (wroteOffIn letter past) (gapsOfLetter list rows letter) fits-here
+  pub runs-are : length (gapsOfLetter lent letter .runs) ≡ runsStanding i start past
+  runs-are = fits-standing start (takenOf i start past) (wroteOffIn i past) (gapsOfLetter lent letter) fits-here
 
   -- "After any sequence of calls from a fresh start, the gap list names exactly the missing numbers"
-  pub gaps-exactly : (cells : List ℕ) (highest runs : ℕ) (cells′ : List ℕ) → ListedRuns list rows records letter cells (Listed.Runs highest runs) cells′
-      → NamesMissing letter start past highest runs cells′
+  pub gaps-exactly : (cells : List ℕ) (highest runs : ℕ) (cells′ : List ℕ) → ListedRuns lent letter cells (Listed.Runs highest runs) cells′
+      → NamesMissing i start past highest runs cells′
   gaps-exactly cells highest runs cells′ p =
-      let g : Gaps = gapsOfLetter list rows letter in
+      let g : Gaps = gapsOfLetter lent letter in
       let said = answers-runs highest runs p in
-      let put : runsPut runs cells′ ≡ g .runs = ap pairs (runs-in-cells highest runs p .0) ∙ pairs-flat (g .runs) in
+      let put : runsThere runs cells′ ≡ g .runs = ap pairs (runs-in-cells highest runs p .0) ∙ pairs-flat (g .runs) in
       let f = fits-here in
       record {
         highest-taken = said .0 ∙ f .highest-is;
@@ -98,27 +100,27 @@ module _ {list starts rows records : List ℕ} {past : List Event} (r : Reached 
 
   -- ---- what is answered: highest and the number of runs where the cells are enough, else 15
 
-  wanted-are : wanted (gapsOfLetter list rows letter .runs) ≡ 2 * runsStanding letter start past
+  wanted-are : wanted (gapsOfLetter lent letter .runs) ≡ 2 * runsStanding i start past
   wanted-are = ap (λ (n : ℕ). 2 * n) runs-are
 
-  module _ (cells : List ℕ) (answer : Listed) (cells′ : List ℕ) (p : ListedRuns list rows records letter cells answer cells′) where
+  module _ (cells : List ℕ) (answer : Listed) (cells′ : List ℕ) (p : ListedRuns lent letter cells answer cells′) where
     abbrev told : Option Refusal → List ℕ
-    told o = answered o (listValues (gapsOfLetter list rows letter))
+    told o = answered o (listValues (gapsOfLetter lent letter))
 
-    pub runs-answered : 2 * runsStanding letter start past ≤ length cells → answer ≡ Listed.Runs (highestIn letter start past) (runsStanding letter start past)
+    pub runs-answered : 2 * runsStanding i start past ≤ length cells → answer ≡ Listed.Runs (highestIn i start past) (runsStanding i start past)
     unfolding listRules
     runs-answered h =
-        let g : Gaps = gapsOfLetter list rows letter in
+        let g : Gaps = gapsOfLetter lent letter in
         let room = le-leb (wanted (g .runs)) (length cells) (rw wanted-are h) in
-        let holds = last-holds (segmentRules list rows records letter) (record { holds = leb (wanted (g .runs)) (length cells); refusal = Memory (wanted (g .runs)) }) segment-good room in
-        let values : 0 ∷ listValues g ≡ listedNumbers (Listed.Runs (highestIn letter start past) (runsStanding letter start past)) = ap₂ (λ (a b : ℕ). 0 ∷ a ∷ b ∷ []) (fits-here .highest-is) runs-are in
-        listed-told answer (Listed.Runs (highestIn letter start past) (runsStanding letter start past)) (p .answers ∙ ap told holds ∙ values)
+        let holds = last-holds (segmentRules lent letter) (record { holds = leb (wanted (g .runs)) (length cells); refusal = Memory (wanted (g .runs)) }) segment-good room in
+        let values : 0 ∷ listValues g ≡ listedNumbers (Listed.Runs (highestIn i start past) (runsStanding i start past)) = ap₂ (λ (a b : ℕ). 0 ∷ a ∷ b ∷ []) (fits-here .highest-is) runs-are in
+        listed-told answer (Listed.Runs (highestIn i start past) (runsStanding i start past)) (p .answers ∙ ap told holds ∙ values)
 
-    pub runs-refused : length cells < 2 * runsStanding letter start past → answer ≡ Listed.Refused (Memory (2 * runsStanding letter start past))
+    pub runs-refused : length cells < 2 * runsStanding i start past → answer ≡ Listed.Refused (Memory (2 * runsStanding i start past))
     unfolding listRules
     runs-refused h =
-        let g : Gaps = gapsOfLetter list rows letter in
+        let g : Gaps = gapsOfLetter lent letter in
         let short = lt-leb (wanted (g .runs)) (length cells) (rw wanted-are h) in
-        let broken = last-broken (segmentRules list rows records letter) (record { holds = leb (wanted (g .runs)) (length cells); refusal = Memory (wanted (g .runs)) }) segment-good short in
-        listed-told answer (Listed.Refused (Memory (2 * runsStanding letter start past)))
+        let broken = last-broken (segmentRules lent letter) (record { holds = leb (wanted (g .runs)) (length cells); refusal = Memory (wanted (g .runs)) }) segment-good short in
+        listed-told answer (Listed.Refused (Memory (2 * runsStanding i start past)))
         (p .answers ∙ ap told broken ∙ ap (λ (n : ℕ). listedNumbers (Listed.Refused (Memory n))) wanted-are)

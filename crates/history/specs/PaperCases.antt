@@ -5,42 +5,42 @@ use Prim.Native.String.{String}
 use mathlib.Core.Path.{_≡_, refl}
 use mathlib.Core.Bool.{Bool, cond}
 use mathlib.Core.List.{List, [], _∷_, _++_, map}
-use mathlib.Core.Option.{none}
+use mathlib.Core.Option.{some}
 use lib.ListN.{length, replicate, drop, set}
-use Rattle.laws.specs.Rules.{firstBroken}
 use Rattle.laws.specs.Texts.{codes}
 use Rattle.wire.specs.Checksum.{bitStep, byteStep, sumOf, checksumOf}
 use Rattle.amount.specs.Answers.{numberNumbers}
 use Rattle.amount.specs.Kinds.{price, readAs}
-use Rattle.amount.specs.Read.{step, walk, readText}
+use Rattle.amount.specs.Read.{step, walk}
 use Rattle.amount.specs.Write.{size, sizeIn, textOf}
-use Rattle.layout.specs.declared.rows.Level.the-variants.{One, Two}
-use Rattle.layout.specs.Quote.{quoteOf, cellsOf}
+use Rattle.forms.specs.declared.rows.Level.the-variants.{One, Two}
+use Rattle.quote.specs.Quote.{quoteOf, cellsOf}
 use Rattle.layout.specs.Read.{readRow}
-use Rattle.layout.specs.Rows.{rowsOf}
 use Rattle.layout.specs.Write.{rowText}
 use Rattle.contracts.specs.Cases.{keyOfBytes, twoOf, threeKeys}
 use Rattle.contracts.specs.File.{segmentsOf, letterAt, zeroAt, countAt, offsetAt, keyFrom, contractsBefore}
 use Rattle.contracts.specs.Halving.{halvedIn}
 use Rattle.contracts.specs.Lookup.{segmentOf, lookup}
-use Rattle.contracts.specs.Sound.{entrySound, headerSound, bytesSound, keySound, bodySound, sound}
-use Rattle.sequence.specs.Row.{gapsOf, laid, soundRow}
-use Rattle.message.specs.Codes.{takesLength, levelOf}
-use Rattle.message.specs.Fields.{letterOf, secondOf, lengthOf, numberOf, sumSent, endByte, kindIn, rightSum, dataOf as dataIn}
+use Rattle.contracts.specs.Sound.{entrySound, headerSound, keySound, bodySound, sound}
+use Rattle.sequence.specs.Row.{gapsOf, laid, soundGapRow}
+use Rattle.forms.specs.Forms.{namedRows, rowsOf, formsOf, formOf, sumRule, writtenForm}
+use Rattle.message.specs.Fields.{letterOf, secondOf, lengthOf, numberOf, sumSent, endByte, formIn, sumIn, rightSum, dataOf as dataIn}
 use Rattle.message.specs.Head.{framed, coded, trailed, summed, headOf}
-use Rattle.message.specs.Message.{keyOf, keyPlace, contentsOf, messageOf}
-use Rattle.quotebox.specs.Batch.{flagOf, sizeOf, countOf, messageActs, messagesAct, batchActs}
-use Rattle.quotebox.specs.Calls.{answered as answeredBy, gapsOfLetter, listRules, runsPut, writeOffRules, rowsWrittenOff}
+use Rattle.message.specs.Message.{messageKey, keyPlace, contentsBy, messageOf}
+use Rattle.batch.specs.Batch.{flagOf, sizeOf, countOf, messageActs, messagesAct, batchActs}
+use Rattle.state.specs.Memory.{Lent, lends}
+use Rattle.quotebox.specs.Calls.{gapsOfLetter, listRules, runsPut, writeOffRules, lentWrittenOff}
 use Rattle.quotebox.specs.Record.{recordRules}
 use Rattle.quotebox.specs.Start.{eachStarts, startRules, rowsStarted, recordsCleared}
-use Rattle.quotebox.specs.State.{segmentRules}
-use Rattle.quotebox.specs.Writer.{dataWritten, lengthWritten, writeRules, messageBytes}
+use Rattle.state.specs.State.{segmentRules}
+use Rattle.writer.specs.Writer.{dataWritten, lengthWritten, writeRules, messageBytes}
 use Rattle.history.specs.Past.{Event, isTaken, highestIn, missingIn, runsStanding}
 use Rattle.history.specs.Exactly.{cameNext}
-use Rattle.history.specs.Calls.{Call, Left, take, writeOff, listGaps, readRecord, startLeaves, allLeave, answers, ReachedBy}
-use Rattle.history.specs.CallsLaws.{start-reached, calls-reached}
-use Rattle.history.specs.ReadBack.{plainBatch}
-use Rattle.history.specs.WrittenCases as writer
+use Rattle.history.specs.Calls.{Call, start, take, writeOff, listGaps, readRecord, step as stepOf, answerNumbers}
+use Rattle.history.specs.Histories.{own, Since, BoxNow, unstarted, allAfter, pastOf, Reached, afterCall}
+use Rattle.history.specs.HistoriesLaws.{calls-reach, all-since}
+use Rattle.written.specs.ReadBack.{plainBatch}
+use Rattle.written.specs.WrittenCases as writer
 
 -- ---- the box that is asked: D and T listed, each started at 1
 
@@ -52,29 +52,35 @@ list = twoOf 68 84 18 57 threeKeys
 abbrev pub T : ℕ
 T = 84
 
+-- 01 "The contract list": T's segment, which is listed behind D's
+abbrev pub segmentT : ℕ
+segmentT = 1
+
 -- 01 "Cases": start 1, of both
 abbrev starts : List ℕ
 starts = 1 ∷ 1 ∷ []
 
--- lent memory: gap rows for two segments
-abbrev lentRows : List ℕ
-lentRows = replicate 264 0
+-- lent memory: so many cells for gap rows, and records for three contracts, with no list yet
+abbrev lentFirst : ℕ → Lent
+lentFirst cells = lends [] (replicate cells 0) (replicate 144 0)
 
--- lent memory: records for three contracts
-abbrev lentRecords : List ℕ
-lentRecords = replicate 144 0
+-- 01 "Cases": the box after its start: 264 cells are gap rows for two segments
+abbrev pub started : BoxNow
+started = afterCall (unstarted (lentFirst 264)) (own (start list starts))
 
--- 01 "Cases": the box after its start
-abbrev pub started : Left
-started = startLeaves list starts lentRows lentRecords
+-- 01 "Cases": the box after its start and calls
+abbrev pub box : List Call → BoxNow
+box cs = allAfter started (map own cs)
 
-start-accepted : firstBroken (startRules list starts (length lentRows) (length lentRecords)) ≡ none
-unfolding startRules eachStarts segmentsOf letterAt zeroAt countAt offsetAt keyFrom contractsBefore entrySound headerSound bytesSound keySound bodySound sound
+start-accepted : started .since ≡ some (record { starts = starts; past = [] })
+unfolding startRules eachStarts segmentsOf letterAt zeroAt countAt offsetAt keyFrom contractsBefore entrySound headerSound keySound bodySound sound
 start-accepted = refl
 
 -- whatever calls follow, they are a history
-pub a-history : (cs : List Call) → ReachedBy list starts (allLeave list started cs)
-a-history = calls-reached list starts started (start-reached list starts lentRows lentRecords start-accepted)
+pub a-history : (cs : List Call) → (since : Since) × (box cs .since ≡ some since) × Reached (since .starts) (box cs .lent) (since .past)
+a-history cs =
+    let l = all-since started (record { starts = starts; past = [] }) start-accepted (map own cs) in
+    (l .0, l .1, calls-reach (lentFirst 264) (own (start list starts) ∷ map own cs) (l .0) (l .1))
 
 -- ---- what comes
 
@@ -148,10 +154,8 @@ pub data Asked : Type 0 where
   text : String → Asked
   -- a call after others
   call : List Call → Call → Asked
-  -- a start with this list, these start numbers and so many cells lent for gap rows
-  start : List ℕ → List ℕ → ℕ → Asked
-  -- a call handed this list and these gap rows back, whatever the start left
-  handed : List ℕ → List ℕ → Call → Asked
+  -- a call lent other memory than the box's own
+  lent : Lent → Call → Asked
   -- what the past of calls says of T: its missing numbers, and how many runs they make
   missing standing : List Call → Asked
   -- of a number that comes next: 1 where it is taken, and how many runs would stand
@@ -159,21 +163,24 @@ pub data Asked : Type 0 where
   -- the writer, of a message
   write : writer.Asked → Asked
 
+-- 01 "What may be asked": the numbers that a call answers
+abbrev answers : Lent → Call → List ℕ
+answers memory c = answerNumbers (stepOf memory c .answer)
+
 -- demand 3: the past of these calls, made after the start
-abbrev pastOf : List Call → List Event
-pastOf cs = allLeave list started cs .past
+abbrev past : List Call → List Event
+past cs = pastOf (box cs)
 
 -- 01 "Cases": the answer, by the definitions that the promises cite and by the past of the calls
 abbrev answerTo : Asked → List ℕ
 answerTo (sum bytes) = sumOf bytes ∷ []
 answerTo (sent bytes) = checksumOf bytes
 answerTo (text t) = numberNumbers (readAs price (codes t))
-answerTo (call cs c) = answers list (allLeave list started cs) c
-answerTo (start list′ starts′ cells) = answeredBy (firstBroken (startRules list′ starts′ cells (length lentRecords))) []
-answerTo (handed list′ rows c) = answers list′ (record { rows = rows; records = started .records; past = [] }) c
-answerTo (missing cs) = those (missingIn T 1 (pastOf cs)) (suc (highestIn T 1 (pastOf cs)))
-answerTo (standing cs) = runsStanding T 1 (pastOf cs) ∷ []
-answerTo (next cs n) = cond (isTaken T 1 (pastOf cs) (messageOf list T (messages (n ∷ [])))) 1 0 ∷ runsStanding T 1 (cameNext list T (messages (n ∷ [])) (pastOf cs)) ∷ []
+answerTo (call cs c) = answers (box cs .lent) c
+answerTo (lent memory c) = answers memory c
+answerTo (missing cs) = those (missingIn segmentT 1 (past cs)) (suc (highestIn segmentT 1 (past cs)))
+answerTo (standing cs) = runsStanding segmentT 1 (past cs) ∷ []
+answerTo (next cs n) = cond (isTaken segmentT 1 (past cs) (messageOf list T (messages (n ∷ [])))) 1 0 ∷ runsStanding segmentT 1 (cameNext list T segmentT (messages (n ∷ [])) (past cs)) ∷ []
 answerTo (write a) = writer.answerTo a
 
 -- 01 "Cases": what is asked, and what the paper says
@@ -226,7 +233,7 @@ unfoldable pub sayings : List Case → List (List ℕ)
 sayings = map (λ (c : Case). c .says)
 
 pub P1-to-P14 : answered cases ≡ sayings cases
-unfolding cases answered sayings bitStep byteStep step walk readText segmentsOf letterAt zeroAt countAt offsetAt contractsBefore segmentOf entrySound headerSound gapsOf laid soundRow takesLength levelOf letterOf secondOf lengthOf numberOf dataIn sumSent endByte kindIn rightSum framed coded trailed summed headOf keyOf keyPlace contentsOf messageOf flagOf sizeOf countOf messageActs messagesAct batchActs gapsOfLetter listRules runsPut writeOffRules rowsWrittenOff rowsStarted recordsCleared segmentRules writeRules lengthWritten dataWritten rowsOf rowText quoteOf cellsOf textOf size sizeIn
+unfolding cases answered sayings bitStep byteStep step walk readAs segmentsOf letterAt zeroAt countAt offsetAt contractsBefore segmentOf entrySound headerSound gapsOf laid soundGapRow formsOf formOf sumRule writtenForm letterOf secondOf lengthOf numberOf dataIn sumSent endByte formIn sumIn rightSum framed coded trailed summed headOf messageKey keyPlace contentsBy messageOf flagOf sizeOf countOf messageActs messagesAct batchActs gapsOfLetter listRules runsPut writeOffRules lentWrittenOff rowsStarted recordsCleared segmentRules writeRules lengthWritten dataWritten rowText quoteOf cellsOf textOf size sizeIn startRules eachStarts keyFrom keySound bodySound sound rowsOf namedRows
 P1-to-P14 = refl
 
 -- ---- the table of refusals, where P1 to P14 are silent
@@ -252,6 +259,10 @@ blank = "                 "
 abbrev batch : ℕ → List ℕ → Asked
 batch count bytes = call [] (take (plainBatch count bytes))
 
+-- 01 "What may be asked": a batch taken with this list and these gap rows, whatever the start left
+abbrev handed : List ℕ → List ℕ → List ℕ → Asked
+handed list′ rows bytes = lent (lends list′ rows (started .lent .records)) (take bytes)
+
 -- 01, the table of refusals: P5's batch with one thing wrong, in it or in the list and gap rows that are handed with it; an update
 -- behind its heartbeat with one thing wrong; and a start, a reading, a listing of P11's gaps and a write-off that are refused
 unfoldable pub refusals : List Case
@@ -266,21 +277,21 @@ refusals =
     ∷ record { asked = batch 1 (bare 68 78 11 0 0 13); says = 8 ∷ 0 ∷ 0 ∷ 0 ∷ [] }
     ∷ record { asked = batch 1 (bare 68 72 11 0 1 13); says = 9 ∷ 0 ∷ 0 ∷ 0 ∷ [] }
     ∷ record { asked = batch 1 (bare 68 72 11 1 0 13); says = 10 ∷ 0 ∷ 0 ∷ 0 ∷ [] }
-    ∷ record { asked = start list (1 ∷ 0 ∷ []) 264; says = 10 ∷ 0 ∷ 0 ∷ 0 ∷ [] }
+    ∷ record { asked = lent (lentFirst 264) (start list (1 ∷ 0 ∷ [])); says = 10 ∷ 0 ∷ 0 ∷ 0 ∷ [] }
     ∷ record { asked = batch 2 (heartbeat ++ update 65 79 blank); says = 11 ∷ 1 ∷ 5 ∷ 0 ∷ [] }  -- at its market type O
     ∷ record { asked = batch 2 (heartbeat ++ update 65 78 "               -1"); says = 11 ∷ 1 ∷ 6 ∷ 0 ∷ [] }  -- at P10's text
     ∷ record { asked = batch 2 (heartbeat ++ update 65 78 "     100000000000"); says = 12 ∷ 1 ∷ 6 ∷ 0 ∷ [] }  -- at P9's text
     ∷ record { asked = batch 2 (heartbeat ++ update 66 78 blank); says = 13 ∷ 1 ∷ 0 ∷ 0 ∷ [] }
     ∷ record { asked = call [] (readRecord T (keyOfBytes 65) One); says = 13 ∷ 0 ∷ 0 ∷ 0 ∷ [] }  -- a key of D
     ∷ record { asked = call p11 (gapsIn 3); says = 15 ∷ 0 ∷ 0 ∷ 4 ∷ 0 ∷ 0 ∷ 0 ∷ [] }  -- and three cells as before
-    ∷ record { asked = start list starts 263; says = 15 ∷ 0 ∷ 0 ∷ 264 ∷ [] }
-    ∷ record { asked = handed list (drop 1 (started .rows)) (take p5); says = 15 ∷ 0 ∷ 0 ∷ 264 ∷ [] }
-    ∷ record { asked = start (twoOf 68 84 18 57 (keyOfBytes 65 ++ keyOfBytes 66 ++ keyOfBytes 66)) starts 264; says = 16 ∷ 0 ∷ 0 ∷ 0 ∷ [] }  -- a key twice
-    ∷ record { asked = handed (list ++ (65 ∷ [])) (started .rows) (take p5); says = 16 ∷ 0 ∷ 0 ∷ 0 ∷ [] }  -- a byte too many
+    ∷ record { asked = lent (lentFirst 263) (start list starts); says = 15 ∷ 0 ∷ 0 ∷ 264 ∷ [] }
+    ∷ record { asked = handed list (drop 1 (started .lent .rows)) p5; says = 15 ∷ 0 ∷ 0 ∷ 264 ∷ [] }
+    ∷ record { asked = lent (lentFirst 264) (start (twoOf 68 84 18 57 (keyOfBytes 65 ++ keyOfBytes 66 ++ keyOfBytes 66)) starts); says = 16 ∷ 0 ∷ 0 ∷ 0 ∷ [] }  -- a key twice
+    ∷ record { asked = handed (list ++ (65 ∷ [])) (started .lent .rows) p5; says = 16 ∷ 0 ∷ 0 ∷ 0 ∷ [] }  -- a byte too many
     ∷ record { asked = call [] (writeOff T); says = 17 ∷ 0 ∷ 0 ∷ 0 ∷ [] }
-    ∷ record { asked = handed list (set (started .rows) 132 0) (take p5); says = 18 ∷ 0 ∷ 0 ∷ 0 ∷ [] }  -- T's row, start 0
+    ∷ record { asked = handed list (set (started .lent .rows) 132 0) p5; says = 18 ∷ 0 ∷ 0 ∷ 0 ∷ [] }  -- T's row, start 0
     ∷ []
 
 pub refusals-told : answered refusals ≡ sayings refusals
-unfolding refusals answered sayings bitStep byteStep step walk readText segmentsOf letterAt zeroAt countAt offsetAt keyFrom contractsBefore segmentOf lookup halvedIn entrySound headerSound bytesSound keySound bodySound sound gapsOf laid soundRow takesLength levelOf letterOf secondOf lengthOf numberOf dataIn sumSent endByte kindIn rightSum framed coded trailed summed headOf keyOf keyPlace contentsOf messageOf flagOf sizeOf countOf messageActs messagesAct batchActs gapsOfLetter listRules runsPut writeOffRules recordRules startRules eachStarts rowsStarted recordsCleared segmentRules messageBytes rowsOf readRow
+unfolding refusals answered sayings bitStep byteStep step walk readAs segmentsOf letterAt zeroAt countAt offsetAt keyFrom contractsBefore segmentOf lookup halvedIn entrySound headerSound keySound bodySound sound gapsOf laid soundGapRow formsOf formOf sumRule writtenForm letterOf secondOf lengthOf numberOf dataIn sumSent endByte formIn sumIn rightSum framed coded trailed summed headOf messageKey keyPlace contentsBy messageOf flagOf sizeOf countOf messageActs messagesAct batchActs gapsOfLetter listRules runsPut writeOffRules recordRules startRules eachStarts rowsStarted recordsCleared segmentRules messageBytes readRow rowsOf namedRows
 refusals-told = refl

@@ -15,10 +15,11 @@ use Rattle.sequence.specs.Runs.{_to_, names, missing, runsIn}
 use Rattle.sequence.specs.RunsCountLaws.{runs-counted}
 use Rattle.sequence.specs.SoundLaws.{sound-apart}
 use Rattle.sequence.specs.RunsLaws.{named}
-use Rattle.sequence.specs.Gaps.{Gaps, begun, takes, full, after, wroteOff, writtenOff, writeOffAnswer}
+use Rattle.sequence.specs.Gaps.{Gaps, begun, takes, full, after, wroteOff}
+use Rattle.sequence.specs.Answers.{writeOffAnswer, writtenOff as removed}
 use Rattle.sequence.specs.GapsLaws.{begun-sound, after-sound, after-missing, after-counted, wroteOff-sound, wroteOff-lowest, wroteOff-missing, missing-inside}
 use Rattle.message.specs.Message.{Message}
-use Rattle.history.specs.Past.{numberOf, held, isNew, highestOf, missingBy, standingBy}
+use Rattle.history.specs.Past.{held, isNew, highestOf, missingBy, standingBy, sequenceNumber}
 use Rattle.history.specs.Segment.{Fits}
 
 -- a number taken is not above the highest
@@ -26,9 +27,9 @@ pub held-below : (start : ℕ) (taken : List Message) (n : ℕ) → held taken n
 held-below start [] n e = absurd (true≢false (sym e))
 held-below start (m ∷ ms) n e =
     let rest = held-below start ms n in
-    ⊎-elim (λ (f : eqb (numberOf m) n ≡ true). let same = eqb-true (numberOf m) n f in omega arith)
+    ⊎-elim (λ (f : eqb (sequenceNumber m) n ≡ true). let same = eqb-true (sequenceNumber m) n f in omega arith)
     (λ (f : held ms n ≡ true). let under = rest f in omega arith)
-    (any (eqb (numberOf m) n) (held ms n) e)
+    (any (eqb (sequenceNumber m) n) (held ms n) e)
 
 pub not-held : (start : ℕ) (taken : List Message) (n : ℕ) → highestOf start taken < n → held taken n ≡ false
 not-held start taken n h =
@@ -46,38 +47,38 @@ fits-begun start h =
           ⊎-elim (λ (o : start ≤ n). simp (lt-leb n (start - 1) (omega arith), and-false))
           (λ (o : n < start). simp (lt-leb start n o))
           (order start n);
-      written-below = λ n e. absurd (true≢false (sym e));
+      off-below = λ n e. absurd (true≢false (sym e));
     }
 
-module _ (start : ℕ) (taken : List Message) (written : ℕ → Bool) (g : Gaps) (f : Fits start taken written g) where
-  not-written : (n : ℕ) → g .highest < n → written n ≡ false
-  not-written n h =
-      ⊎-elim (λ (e : written n ≡ true). let under = f .written-below n e in absurd (omega arith)) (λ (e : written n ≡ false). e) (either (written n))
+module _ (start : ℕ) (taken : List Message) (writtenOff : ℕ → Bool) (g : Gaps) (f : Fits start taken writtenOff g) where
+  not-off : (n : ℕ) → g .highest < n → writtenOff n ≡ false
+  not-off n h =
+      ⊎-elim (λ (e : writtenOff n ≡ true). let under = f .off-below n e in absurd (omega arith)) (λ (e : writtenOff n ≡ false). e) (either (writtenOff n))
 
   above-not-held : (n : ℕ) → g .highest < n → held taken n ≡ false
   above-not-held n h = let e = f .highest-is in not-held start taken n (omega arith)
 
   -- ---- a number comes: it is taken exactly where it is not below the start, was not taken and was not written off
 
-  pub takes-new : (n : ℕ) → takes g n ≡ isNew start taken written n
+  pub takes-new : (n : ℕ) → takes g n ≡ isNew start taken writtenOff n
   takes-new n =
       let high = f .highest-is in
       let reached = f .sound .reached in
       let started = f .start-is in
       ⊎-elim (λ (o : n ≤ g .highest). simp (le-ltb (g .highest) n o, f .missing-is n, le-leb n (highestOf start taken) (omega arith), and-true))
-      (λ (o : g .highest < n). simp (lt-ltb (g .highest) n o, le-leb start n (omega arith), above-not-held n o, not-written n o))
+      (λ (o : g .highest < n). simp (lt-ltb (g .highest) n o, le-leb start n (omega arith), above-not-held n o, not-off n o))
       (order n (g .highest))
 
   -- the numbers that are missing when a message has been taken
   module _ (m : Message) where
     abbrev k : ℕ
-    k = numberOf m
+    k = sequenceNumber m
 
-    pub after-is : (j : ℕ) → missing (after g k .runs) j ≡ missingBy start (m ∷ taken) written j
+    pub after-is : (j : ℕ) → missing (after g k .runs) j ≡ missingBy start (m ∷ taken) writtenOff j
     after-is j = after-missing g (f .sound) k j ∙ missing-now j
       where
         Now : ℕ → Type 0
-        Now j = not (eqb j k) && (missing (g .runs) j || ltb (g .highest) j && ltb j k) ≡ missingBy start (m ∷ taken) written j
+        Now j = not (eqb j k) && (missing (g .runs) j || ltb (g .highest) j && ltb j k) ≡ missingBy start (m ∷ taken) writtenOff j
 
         above : (j : ℕ) → (j ≡ k → ⊥) → g .highest < j → Now j
         above j n o =
@@ -92,7 +93,7 @@ module _ (start : ℕ) (taken : List Message) (written : ℕ → Bool) (g : Gaps
               lt-ltb (g .highest) j o,
               le-leb start j (omega arith),
               above-not-held j o,
-              not-written j o,
+              not-off j o,
               and-true,
             )
             (⊎-elim (λ (l : j ≤ k). simp (lt-ltb j k (omega arith), le-leb j (max k (highestOf start taken)) (omega arith)))
@@ -122,33 +123,33 @@ module _ (start : ℕ) (taken : List Message) (written : ℕ → Bool) (g : Gaps
     highest-after = let high = f .highest-is in omega arith
 
     -- 14 counts the runs that would stand by the missing numbers
-    pub after-standing : length (after g k .runs) ≡ standingBy start (m ∷ taken) written
+    pub after-standing : length (after g k .runs) ≡ standingBy start (m ∷ taken) writtenOff
     after-standing =
         after-counted g (f .sound) k
         ∙ ap (λ (missed : ℕ → Bool). runsIn missed (suc (after g k .highest))) (fun-ext (λ j. sym (after-missing g (f .sound) k j) ∙ after-is j))
-        ∙ ap (λ (n : ℕ). runsIn (missingBy start (m ∷ taken) written) (suc n)) highest-after
+        ∙ ap (λ (n : ℕ). runsIn (missingBy start (m ∷ taken) writtenOff) (suc n)) highest-after
 
-    pub fits-taken : full g k ≡ false → Fits start (m ∷ taken) written (after g k)
+    pub fits-taken : full g k ≡ false → Fits start (m ∷ taken) writtenOff (after g k)
     fits-taken few =
         record {
           sound = after-sound g (f .sound) k few;
           start-is = f .start-is;
           highest-is = highest-after;
           missing-is = after-is;
-          written-below = λ j e. let under = f .written-below j e in omega arith;
+          off-below = λ j e. let under = f .off-below j e in omega arith;
         }
 
   -- as many runs stand as the missing numbers make
-  pub fits-standing : length (g .runs) ≡ standingBy start taken written
+  pub fits-standing : length (g .runs) ≡ standingBy start taken writtenOff
   fits-standing =
       runs-counted (suc (g .highest)) (sound-apart (f .sound)) (omega arith)
       ∙ ap (λ (missed : ℕ → Bool). runsIn missed (suc (g .highest))) (fun-ext (f .missing-is))
-      ∙ ap (λ (n : ℕ). runsIn (missingBy start taken written) (suc n)) (f .highest-is)
+      ∙ ap (λ (n : ℕ). runsIn (missingBy start taken writtenOff) (suc n)) (f .highest-is)
 
   -- ---- a run is written off
 
-  module _ (a b : ℕ) (e : writeOffAnswer g ≡ writtenOff a b) where
-    pub fits-off : Fits start taken (λ n. names (a to b) n || written n) (wroteOff g)
+  module _ (a b : ℕ) (e : writeOffAnswer g ≡ removed a b) where
+    pub fits-off : Fits start taken (λ n. names (a to b) n || writtenOff n) (wroteOff g)
     fits-off =
         record {
           sound = wroteOff-sound (f .sound);
@@ -156,13 +157,13 @@ module _ (start : ℕ) (taken : List Message) (written : ℕ → Bool) (g : Gaps
           highest-is = f .highest-is;
           missing-is = λ n.
               wroteOff-missing g (f .sound) a b e n ∙ ap (λ (t : Bool). not (names (a to b) n) && t) (f .missing-is n)
-              ∙ apart (names (a to b) n) (leb start n && leb n (highestOf start taken) && not (held taken n)) (written n);
-          written-below = λ n w.
+              ∙ apart (names (a to b) n) (leb start n && leb n (highestOf start taken) && not (held taken n)) (writtenOff n);
+          off-below = λ n w.
               ⊎-elim (λ (in-run : names (a to b) n ≡ true).
               let both = named (a to b) n in-run in
               missing-inside n (f .sound) (wroteOff-lowest g (f .sound) a b e n (omega arith) ∙ in-run) .1)
-              (λ (before : written n ≡ true). f .written-below n before)
-              (any (names (a to b) n) (written n) w);
+              (λ (before : writtenOff n ≡ true). f .off-below n before)
+              (any (names (a to b) n) (writtenOff n) w);
         }
       where
         apart : (s t u : Bool) → not s && (t && not u) ≡ t && not (s || u)

@@ -4,25 +4,25 @@ use mathlib.Core.Path.{_≡_}
 use mathlib.Core.Bool.{true}
 use mathlib.Core.List.{List}
 use lib.ListN.{length}
-use Rattle.sequence.specs.Row.{gapsOf, soundRow}
+use Rattle.sequence.specs.Row.{gapsOf, soundGapRow}
 use Rattle.message.specs.Message.{Message}
-use Rattle.quotebox.specs.Batch.{Box}
-use Rattle.quotebox.specs.Memory.{recordsWanted}
+use Rattle.batch.specs.Batch.{Box}
+use Rattle.state.specs.Slots.{recordsWanted}
 use Rattle.quotebox.specs.Start.{startOf}
 use Rattle.history.specs.Past.{Event, wroteOffIn, takenOf, isTaken, isOld, isHeartbeat, howMany, allCame}
 use Rattle.history.specs.Segment.{Fits}
 use Rattle.history.specs.Kept.{RecordsFit}
 
--- demand 3: the gap row of segment i, whose letter the batch has, and all records are those of the past
-pub record BoxFits (list starts : List ℕ) (letter i : ℕ) (past : List Event) (box : Box) : Type 0 where
-  pub row-sound : soundRow (box .row) ≡ true
-  pub gaps-fit : Fits (startOf starts i) (takenOf letter (startOf starts i) past) (wroteOffIn letter past) (gapsOf (box .row))
+-- demand 3: the gap row of segment i, which is the batch's, and all records are those of the past
+pub record BoxFits (list starts : List ℕ) (i : ℕ) (past : List Event) (box : Box) : Type 0 where
+  pub row-sound : soundGapRow (box .row) ≡ true
+  pub gaps-fit : Fits (startOf starts i) (takenOf i (startOf starts i) past) (wroteOffIn i past) (gapsOf (box .row))
   pub records-fit : RecordsFit list starts (box .records) past
   pub records-long : recordsWanted list ≤ length (box .records)
 
 -- demand 3: and so are they after messages that came, with the counts by what became of each
-pub record Turned (list starts : List ℕ) (letter i : ℕ) (past : List Event) (box : Box) (ms : List Message) (box′ : Box) : Type 0 where
-  pub fits : BoxFits list starts letter i (allCame letter ms past) box′
-  pub taken-are : box′ .taken ≡ box .taken + howMany (isTaken letter (startOf starts i)) letter ms past
-  pub old-are : box′ .old ≡ box .old + howMany (isOld letter (startOf starts i)) letter ms past
-  pub heartbeats-are : box′ .heartbeats ≡ box .heartbeats + howMany (λ before m. isHeartbeat (m .what)) letter ms past
+pub record Turned (list starts : List ℕ) (i : ℕ) (past : List Event) (box : Box) (ms : List Message) (box′ : Box) : Type 0 where
+  pub fits : BoxFits list starts i (allCame i ms past) box′
+  pub taken-are : box′ .taken ≡ box .taken + howMany (isTaken i (startOf starts i)) i ms past
+  pub old-are : box′ .old ≡ box .old + howMany (isOld i (startOf starts i)) i ms past
+  pub heartbeats-are : box′ .heartbeats ≡ box .heartbeats + howMany (λ before m. isHeartbeat (m .what)) i ms past

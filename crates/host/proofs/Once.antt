@@ -1,7 +1,8 @@
 -- Against the contracts that the check makes of the source: each function takes any input, and what it returns, answers and leaves follows from what it is handed.
-use mathlib.Core.Path.{_≡_}
+use mathlib.Core.Path.{_≡_, ap}
 use contract.Lifetimes.{Lfts}
 use denote.Ref.{now}
+use Rattle.state.specs.Memory.{Lent}
 use Rattle.host.specs.PromisesLaws.{start-once, judge-once, take-once, list-once, write-off-once, read-once, write-once}
 use Rattle.host.proofs.calls.quotebox_start.Reads as start
 use Rattle.host.proofs.calls.quotebox_judge.Reads as judge
@@ -13,6 +14,13 @@ use Rattle.host.proofs.calls.quotebox_read_level2.Reads as read-level2
 use Rattle.host.proofs.calls.quotebox_write_level1.Reads as write-level1
 use Rattle.host.proofs.calls.quotebox_write_level2.Reads as write-level2
 
+-- one lent memory has one of each row of cells
+rows-one : {lent lent′ : Lent} → lent ≡ lent′ → lent .rows ≡ lent′ .rows
+rows-one e = ap (λ (l : Lent). l .rows) e
+
+records-one : {lent lent′ : Lent} → lent ≡ lent′ → lent .records ≡ lent′ .records
+records-one e = ap (λ (l : Lent). l .records) e
+
 -- no contract asks anything of what is handed
 any-input : ((κs : Lfts 5) (a : _) → start.Pre κs a) × ((κs : Lfts 5) (a : _) → judge.Pre κs a) × ((κs : Lfts 5) (a : _) → take.Pre κs a)
     × ((κs : Lfts 5) (a : _) → list-gaps.Pre κs a) × ((κs : Lfts 4) (a : _) → write-off.Pre κs a) × ((κs : Lfts 6) (a : _) → read-level1.Pre κs a)
@@ -22,7 +30,7 @@ any-input =
 
 start-outcome : (κs : Lfts 5) (a : _) (r s : _) (x y : _) → start.Post κs a r x → start.Post κs a s y
     → ((r ≡ s) × (now (x .1 .1 .1 .1 .0) ≡ now (y .1 .1 .1 .1 .0))) × (now (x .1 .1 .0) ≡ now (y .1 .1 .0)) × (now (x .1 .1 .1 .0) ≡ now (y .1 .1 .1 .0))
-start-outcome κs a r s x y p q = start-once p q
+start-outcome κs a r s x y p q = let one = start-once p q in (one .0, rows-one (one .1), records-one (one .1))
 
 judge-outcome : (κs : Lfts 5) (a : _) (r s : _) (x y : _) → judge.Post κs a r x → judge.Post κs a s y
     → (r ≡ s) × (now (x .1 .1 .1 .1 .0) ≡ now (y .1 .1 .1 .1 .0))
@@ -30,7 +38,7 @@ judge-outcome κs a r s x y p q = judge-once p q
 
 take-outcome : (κs : Lfts 5) (a : _) (r s : _) (x y : _) → take.Post κs a r x → take.Post κs a s y
     → ((r ≡ s) × (now (x .1 .1 .1 .1 .0) ≡ now (y .1 .1 .1 .1 .0))) × (now (x .1 .0) ≡ now (y .1 .0)) × (now (x .1 .1 .0) ≡ now (y .1 .1 .0))
-take-outcome κs a r s x y p q = take-once p q
+take-outcome κs a r s x y p q = let one = take-once p q in (one .0, rows-one (one .1), records-one (one .1))
 
 list-gaps-outcome : (κs : Lfts 5) (a : _) (r s : _) (x y : _) → list-gaps.Post κs a r x → list-gaps.Post κs a s y
     → ((r ≡ s) × (now (x .1 .1 .1 .1 .1 .0) ≡ now (y .1 .1 .1 .1 .1 .0))) × (now (x .1 .1 .1 .1 .0) ≡ now (y .1 .1 .1 .1 .0))
@@ -38,7 +46,7 @@ list-gaps-outcome κs a r s x y p q = list-once p q
 
 write-off-outcome : (κs : Lfts 4) (a : _) (r s : _) (x y : _) → write-off.Post κs a r x → write-off.Post κs a s y
     → ((r ≡ s) × (now (x .1 .1 .1 .1 .0) ≡ now (y .1 .1 .1 .1 .0))) × (now (x .1 .0) ≡ now (y .1 .0))
-write-off-outcome κs a r s x y p q = write-off-once p q
+write-off-outcome κs a r s x y p q = let one = write-off-once p q in (one .0, rows-one (one .1))
 
 read-level1-outcome : (κs : Lfts 6) (a : _) (r s : _) (x y : _) → read-level1.Post κs a r x → read-level1.Post κs a s y
     → ((r ≡ s) × (now (x .1 .1 .1 .1 .1 .1 .0) ≡ now (y .1 .1 .1 .1 .1 .1 .0))) × (now (x .1 .1 .1 .1 .1 .0) ≡ now (y .1 .1 .1 .1 .1 .0))

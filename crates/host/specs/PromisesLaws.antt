@@ -2,52 +2,51 @@
 use Prim.Native.Nat.{ℕ}
 use mathlib.Core.Path.{_≡_, sym, ap, _∙_}
 use mathlib.Core.List.{List}
-use Rattle.layout.specs.declared.rows.Level.{Level}
-use Rattle.quotebox.specs.declared.answers.Reading.{Reading}
-use Rattle.quotebox.specs.Answers.{startedNumbers, judgedNumbers, listedNumbers, writtenOffNumbers, writtenNumbers}
+use Rattle.forms.specs.declared.rows.Level.{Level}
+use Rattle.quotebox.specs.declared.record.Reading.{Reading}
+use Rattle.state.specs.Answers.{startedNumbers, judgedNumbers, listedNumbers, writtenOffNumbers, writtenNumbers}
+use Rattle.state.specs.Memory.{Lent}
 use Rattle.quotebox.specs.CallPromisesLaws.{one-started, one-listed, one-written-off, one-reading}
-use Rattle.quotebox.specs.TookLaws.{one-judged, one-took}
-use Rattle.quotebox.specs.WriterPromisesLaws.{one-written}
+use Rattle.batch.specs.TookLaws.{one-judged, one-took}
+use Rattle.writer.specs.WriterPromisesLaws.{one-written}
 use Rattle.host.specs.Told.{recordNumbers}
 use Rattle.host.specs.ToldLaws.{told-once}
-use Rattle.host.specs.Values.{valuesAfter, quoteIn}
+use Rattle.values.specs.Values.{quoteIn}
+use Rattle.host.specs.Shown.{valuesAfter}
 use Rattle.host.specs.Promises.{HostStarted, HostJudged, HostTook, HostListed, HostWroteOff, HostRead, codeOf, HostWrote}
 
-pub start-once : {list starts rows records rows′ rows″ records′ records″ answer′ answer″ : List ℕ} {r s : ℕ}
-    → HostStarted list starts rows records r rows′ records′ answer′ → HostStarted list starts rows records s rows″ records″ answer″
-    → ((r ≡ s) × (answer′ ≡ answer″)) × (rows′ ≡ rows″) × (records′ ≡ records″)
+pub start-once : {lent lent′ lent″ : Lent} {starts answer′ answer″ : List ℕ} {r s : ℕ}
+    → HostStarted lent starts r lent′ answer′ → HostStarted lent starts s lent″ answer″ → ((r ≡ s) × (answer′ ≡ answer″)) × (lent′ ≡ lent″)
 start-once p q =
     let one = one-started (p .started) (q .started) (p .promised) (q .promised) in
-    (told-once startedNumbers (one .0) (p .tells) (q .tells), one .1, one .2)
+    (told-once startedNumbers (one .0) (p .tells) (q .tells), one .1)
 
-pub judge-once : {list rows records batch answer′ answer″ : List ℕ} {r s : ℕ} → HostJudged list rows records batch r answer′
-    → HostJudged list rows records batch s answer″ → (r ≡ s) × (answer′ ≡ answer″)
-judge-once {list} {rows} {records} {batch} p q =
-    told-once judgedNumbers (one-judged list rows records batch (p .judged) (q .judged) (p .promised) (q .promised)) (p .tells) (q .tells)
+pub judge-once : {lent : Lent} {batch answer′ answer″ : List ℕ} {r s : ℕ} → HostJudged lent batch r answer′
+    → HostJudged lent batch s answer″ → (r ≡ s) × (answer′ ≡ answer″)
+judge-once {lent} {batch} p q =
+    told-once judgedNumbers (one-judged lent batch (p .judged) (q .judged) (p .promised) (q .promised)) (p .tells) (q .tells)
 
-pub take-once : {list rows records batch rows′ rows″ records′ records″ answer′ answer″ : List ℕ} {r s : ℕ}
-    → HostTook list rows records batch r rows′ records′ answer′ → HostTook list rows records batch s rows″ records″ answer″
-    → ((r ≡ s) × (answer′ ≡ answer″)) × (rows′ ≡ rows″) × (records′ ≡ records″)
-take-once {list} {rows} {records} {batch} {rows′} {rows″} {records′} {records″} p q =
-    let one = one-took list rows records batch (p .judged) (q .judged) rows′ records′ rows″ records″ (p .promised) (q .promised) in
-    (told-once judgedNumbers (one .0) (p .tells) (q .tells), one .1, one .2)
+pub take-once : {lent lent′ lent″ : Lent} {batch answer′ answer″ : List ℕ} {r s : ℕ} → HostTook lent batch r lent′ answer′
+    → HostTook lent batch s lent″ answer″ → ((r ≡ s) × (answer′ ≡ answer″)) × (lent′ ≡ lent″)
+take-once {lent} {lent′} {lent″} {batch} p q =
+    let one = one-took lent batch (p .judged) (q .judged) lent′ lent″ (p .promised) (q .promised) in
+    (told-once judgedNumbers (one .0) (p .tells) (q .tells), one .1)
 
-pub list-once : {list rows records cells cells′ cells″ answer′ answer″ : List ℕ} {letter r s : ℕ}
-    → HostListed list rows records letter cells r cells′ answer′ → HostListed list rows records letter cells s cells″ answer″
+pub list-once : {lent : Lent} {cells cells′ cells″ answer′ answer″ : List ℕ} {letter r s : ℕ}
+    → HostListed lent letter cells r cells′ answer′ → HostListed lent letter cells s cells″ answer″
     → ((r ≡ s) × (answer′ ≡ answer″)) × (cells′ ≡ cells″)
 list-once p q =
     let one = one-listed (p .listed) (q .listed) (p .promised) (q .promised) in
     (told-once listedNumbers (one .0) (p .tells) (q .tells), one .1)
 
-pub write-off-once : {list rows records rows′ rows″ answer′ answer″ : List ℕ} {letter r s : ℕ}
-    → HostWroteOff list rows records letter r rows′ answer′ → HostWroteOff list rows records letter s rows″ answer″
-    → ((r ≡ s) × (answer′ ≡ answer″)) × (rows′ ≡ rows″)
+pub write-off-once : {lent lent′ lent″ : Lent} {answer′ answer″ : List ℕ} {letter r s : ℕ} → HostWroteOff lent letter r lent′ answer′
+    → HostWroteOff lent letter s lent″ answer″ → ((r ≡ s) × (answer′ ≡ answer″)) × (lent′ ≡ lent″)
 write-off-once p q =
     let one = one-written-off (p .written-off) (q .written-off) (p .promised) (q .promised) in
     (told-once writtenOffNumbers (one .0) (p .tells) (q .tells), one .1)
 
-pub read-once : {list rows records key values values′ values″ answer′ answer″ : List ℕ} {letter r s : ℕ} {level : Level}
-    → HostRead list rows records letter key level values r values′ answer′ → HostRead list rows records letter key level values s values″ answer″
+pub read-once : {lent : Lent} {key values values′ values″ answer′ answer″ : List ℕ} {letter r s : ℕ} {level : Level}
+    → HostRead lent letter key level values r values′ answer′ → HostRead lent letter key level values s values″ answer″
     → ((r ≡ s) × (answer′ ≡ answer″)) × (values′ ≡ values″)
 read-once {values = values} {level = level} p q =
     let one : p .reading ≡ q .reading = one-reading (p .reading) (q .reading) (p .promised) (q .promised) in (

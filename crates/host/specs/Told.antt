@@ -4,9 +4,9 @@ use mathlib.Core.Path.{_≡_}
 use mathlib.Core.List.{List, [], _∷_, _++_}
 use lib.ListN.{getD, take, drop, replicate}
 use Rattle.host.specs.declared.told.Told.{Told}
-use Rattle.quotebox.specs.declared.answers.Recorded.{Recorded}
-use Rattle.quotebox.specs.declared.answers.Recorded.the-variants.{Record, NoRecord, Refused}
-use Rattle.quotebox.specs.Refusals.{refusalNumbers}
+use Rattle.state.specs.declared.answers.Recorded.{Recorded}
+use Rattle.state.specs.declared.answers.Recorded.the-variants.{Record, NoRecord, Refused}
+use Rattle.state.specs.Refusals.{refusalNumbers}
 
 -- the host's header: the function returns the refusal's number, 0 for accepted; the four numbers of `answer` are the values
 -- behind it, and 0 where there are fewer

@@ -1,8 +1,10 @@
 // A function for each public call. None has a `requires`: they stand any contents.
-ghost use Rattle.layout.specs.declared.rows.Level.the-variants.{One, Two};
+ghost use Rattle.forms.specs.declared.rows.Level.the-variants.{One, Two};
+ghost use Rattle.state.specs.Memory.{lends};
 ghost use Rattle.host.specs.Promises.{HostStarted, HostJudged, HostTook, HostListed, HostWroteOff, HostRead, HostWrote};
+use crate::shown;
 use crate::told;
-use crate::values;
+use layout::KEY_BYTES;
 use layout::Level;
 use quotebox::Code;
 
@@ -14,7 +16,7 @@ pub extern "C" fn quotebox_start(
     records: &mut [u64],
     answer: &mut [u64; 4],
 ) -> u32
-    ensures { λ r. ⌜ HostStarted (now (list .entry)) (now (starts .entry)) (now (rows .entry)) (now (records .entry)) r (now (rows .exit)) (now (records .exit)) (now (answer .exit)) ⌝ }
+    ensures { λ r. ⌜ HostStarted (lends (now (list .entry)) (now (rows .entry)) (now (records .entry))) (now (starts .entry)) r (lends (now (list .entry)) (now (rows .exit)) (now (records .exit))) (now (answer .exit)) ⌝ }
 {
     let started = quotebox::start(list, starts, rows, records);
     told::tell(told::of_started(started), answer)
@@ -28,7 +30,7 @@ pub extern "C" fn quotebox_judge(
     batch: &[u8],
     answer: &mut [u64; 4],
 ) -> u32
-    ensures { λ r. ⌜ HostJudged (now (list .entry)) (now (rows .entry)) (now (records .entry)) (now (batch .entry)) r (now (answer .exit)) ⌝ }
+    ensures { λ r. ⌜ HostJudged (lends (now (list .entry)) (now (rows .entry)) (now (records .entry))) (now (batch .entry)) r (now (answer .exit)) ⌝ }
 {
     let judged = quotebox::judge(list, rows, records, batch);
     told::tell(told::of_judged(judged), answer)
@@ -42,7 +44,7 @@ pub extern "C" fn quotebox_take(
     batch: &[u8],
     answer: &mut [u64; 4],
 ) -> u32
-    ensures { λ r. ⌜ HostTook (now (list .entry)) (now (rows .entry)) (now (records .entry)) (now (batch .entry)) r (now (rows .exit)) (now (records .exit)) (now (answer .exit)) ⌝ }
+    ensures { λ r. ⌜ HostTook (lends (now (list .entry)) (now (rows .entry)) (now (records .entry))) (now (batch .entry)) r (lends (now (list .entry)) (now (rows .exit)) (now (records .exit))) (now (answer .exit)) ⌝ }
 {
     let judged = quotebox::take(list, rows, records, batch);
     told::tell(told::of_judged(judged), answer)
@@ -57,7 +59,7 @@ pub extern "C" fn quotebox_list_gaps(
     cells: &mut [u32],
     answer: &mut [u64; 4],
 ) -> u32
-    ensures { λ r. ⌜ HostListed (now (list .entry)) (now (rows .entry)) (now (records .entry)) letter (now (cells .entry)) r (now (cells .exit)) (now (answer .exit)) ⌝ }
+    ensures { λ r. ⌜ HostListed (lends (now (list .entry)) (now (rows .entry)) (now (records .entry))) letter (now (cells .entry)) r (now (cells .exit)) (now (answer .exit)) ⌝ }
 {
     let listed = quotebox::list_gaps(list, rows, records, letter, cells);
     told::tell(told::of_listed(listed), answer)
@@ -71,7 +73,7 @@ pub extern "C" fn quotebox_write_off(
     letter: u8,
     answer: &mut [u64; 4],
 ) -> u32
-    ensures { λ r. ⌜ HostWroteOff (now (list .entry)) (now (rows .entry)) (now (records .entry)) letter r (now (rows .exit)) (now (answer .exit)) ⌝ }
+    ensures { λ r. ⌜ HostWroteOff (lends (now (list .entry)) (now (rows .entry)) (now (records .entry))) letter r (lends (now (list .entry)) (now (rows .exit)) (now (records .entry))) (now (answer .exit)) ⌝ }
 {
     let written_off = quotebox::write_off(list, rows, records, letter);
     told::tell(told::of_written_off(written_off), answer)
@@ -82,17 +84,17 @@ fn read(
     rows: &[u32],
     records: &[u64],
     letter: u8,
-    key: &[u8; 39],
+    key: &[u8; KEY_BYTES],
     level: Level,
-    values: &mut [u64; 33],
+    values: &mut [u64; values::MOST],
     answer: &mut [u64; 4],
 ) -> u32
-    ensures { λ r. ⌜ HostRead (now (list .entry)) (now (rows .entry)) (now (records .entry)) letter (now (key .entry)) level (now (values .entry)) r (now (values .exit)) (now (answer .exit)) ⌝ }
+    ensures { λ r. ⌜ HostRead (lends (now (list .entry)) (now (rows .entry)) (now (records .entry))) letter (now (key .entry)) level (now (values .entry)) r (now (values .exit)) (now (answer .exit)) ⌝ }
 {
     let reading = quotebox::read_record(list, rows, records, letter, key, level);
     let recorded = reading.answer;
     let quote = reading.quote;
-    values::show(recorded, level, quote, values);
+    shown::show(recorded, level, quote, values);
     told::tell(told::of_recorded(recorded), answer)
 }
 
@@ -102,11 +104,11 @@ pub extern "C" fn quotebox_read_level1(
     rows: &[u32],
     records: &[u64],
     letter: u8,
-    key: &[u8; 39],
-    values: &mut [u64; 33],
+    key: &[u8; KEY_BYTES],
+    values: &mut [u64; values::MOST],
     answer: &mut [u64; 4],
 ) -> u32
-    ensures { λ r. ⌜ HostRead (now (list .entry)) (now (rows .entry)) (now (records .entry)) letter (now (key .entry)) One (now (values .entry)) r (now (values .exit)) (now (answer .exit)) ⌝ }
+    ensures { λ r. ⌜ HostRead (lends (now (list .entry)) (now (rows .entry)) (now (records .entry))) letter (now (key .entry)) One (now (values .entry)) r (now (values .exit)) (now (answer .exit)) ⌝ }
 {
     read(list, rows, records, letter, key, Level::One, values, answer)
 }
@@ -117,11 +119,11 @@ pub extern "C" fn quotebox_read_level2(
     rows: &[u32],
     records: &[u64],
     letter: u8,
-    key: &[u8; 39],
-    values: &mut [u64; 33],
+    key: &[u8; KEY_BYTES],
+    values: &mut [u64; values::MOST],
     answer: &mut [u64; 4],
 ) -> u32
-    ensures { λ r. ⌜ HostRead (now (list .entry)) (now (rows .entry)) (now (records .entry)) letter (now (key .entry)) Two (now (values .entry)) r (now (values .exit)) (now (answer .exit)) ⌝ }
+    ensures { λ r. ⌜ HostRead (lends (now (list .entry)) (now (rows .entry)) (now (records .entry))) letter (now (key .entry)) Two (now (values .entry)) r (now (values .exit)) (now (answer .exit)) ⌝ }
 {
     read(list, rows, records, letter, key, Level::Two, values, answer)
 }
@@ -130,8 +132,8 @@ fn write(
     code: &[u8; 2],
     level: Level,
     number: u32,
-    key: &[u8; 39],
-    values: &[u64; 33],
+    key: &[u8; KEY_BYTES],
+    values: &[u64; values::MOST],
     out: &mut [u8],
     answer: &mut [u64; 4],
 ) -> u32
@@ -146,8 +148,8 @@ fn write(
 pub extern "C" fn quotebox_write_level1(
     code: &[u8; 2],
     number: u32,
-    key: &[u8; 39],
-    values: &[u64; 33],
+    key: &[u8; KEY_BYTES],
+    values: &[u64; values::MOST],
     out: &mut [u8],
     answer: &mut [u64; 4],
 ) -> u32
@@ -160,8 +162,8 @@ pub extern "C" fn quotebox_write_level1(
 pub extern "C" fn quotebox_write_level2(
     code: &[u8; 2],
     number: u32,
-    key: &[u8; 39],
-    values: &[u64; 33],
+    key: &[u8; KEY_BYTES],
+    values: &[u64; values::MOST],
     out: &mut [u8],
     answer: &mut [u64; 4],
 ) -> u32

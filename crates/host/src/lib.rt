@@ -1,7 +1,7 @@
 // The public calls for hosts in C, C++ and Rust: `include/quotebox.h`.
 mod calls;
+mod shown;
 mod told;
-mod values;
 
 pub use calls::quotebox_judge;
 pub use calls::quotebox_list_gaps;

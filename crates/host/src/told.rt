@@ -2,8 +2,8 @@
 ghost use mathlib.Core.Path.{_≡_};
 ghost use mathlib.Core.List.{_∷_, []};
 ghost use Rattle.host.specs.Told.{toldOf, recordNumbers};
-ghost use Rattle.quotebox.specs.Refusals.{refusalNumbers};
-ghost use Rattle.quotebox.specs.Answers.{startedNumbers, judgedNumbers, listedNumbers, writtenOffNumbers, writtenNumbers};
+ghost use Rattle.state.specs.Refusals.{refusalNumbers};
+ghost use Rattle.state.specs.Answers.{startedNumbers, judgedNumbers, listedNumbers, writtenOffNumbers, writtenNumbers};
 use quotebox::Judged;
 use quotebox::Listed;
 use quotebox::Recorded;

@@ -4,10 +4,11 @@ use mathlib.Core.Bool.{cond}
 use mathlib.Core.List.{List, [], _∷_, _++_}
 use lib.Dec.{eqb, leb}
 use lib.ListN.{length, getD, drop, replicate}
+use Rattle.forms.specs.Sizes.{mostRows}
 use Rattle.layout.specs.declared.cells.Held.{Held}
 use Rattle.layout.specs.declared.cells.Held.the-variants.{Nothing, Units}
-use Rattle.layout.specs.declared.rows.Row.{Row}
-use Rattle.layout.specs.declared.rows.Row.the-variants.{Text, MarketType, Status, Price, Quantity, Turnover}
+use Rattle.forms.specs.declared.rows.Row.{Row}
+use Rattle.forms.specs.declared.rows.Row.the-variants.{Key, MarketType, Status, Price, Quantity, Turnover}
 
 -- lent memory: what a cell holds for "none" is all ones
 abbrev pub none : ℕ
@@ -30,7 +31,7 @@ byteIn cell = cond (leb cell 255) cell 0
 
 -- lent memory: a cell as its row sees it: a key's text has none
 abbrev pub seenCell : Row → ℕ → ℕ
-seenCell (Text width) cell = 0
+seenCell (Key width) cell = 0
 seenCell MarketType cell = byteIn cell
 seenCell Status cell = byteIn cell
 seenCell (Price width) cell = cell
@@ -42,6 +43,6 @@ abbrev pub seenCells : List Row → List ℕ → List ℕ
 seenCells [] cells = []
 seenCells (row ∷ rows) cells = seenCell row (getD cells 0 0) ∷ seenCells rows (drop 1 cells)
 
--- lent memory: cells with zeros behind them, as many as the longest layout has rows
-abbrev pub filled : List ℕ → List ℕ
-filled cells = cells ++ replicate (37 - length cells) 0
+-- lent memory: cells with zeros behind them, as many as the most rows of a form
+abbrev pub zerosBehind : List ℕ → List ℕ
+zerosBehind cells = cells ++ replicate (mostRows - length cells) 0

@@ -3,23 +3,24 @@ use Prim.Native.Nat.{ℕ, _<_}
 use mathlib.Core.Path.{_≡_}
 use mathlib.Core.List.{List, [], _∷_}
 use lib.ListN.{getD, take, drop}
-use Rattle.layout.specs.declared.rows.Row.{Row}
-use Rattle.layout.specs.declared.rows.Row.the-variants.{Text}
+use Rattle.laws.specs.Refused.{fieldNo, rangeNo}
+use Rattle.forms.specs.declared.rows.Row.{Row}
+use Rattle.forms.specs.declared.rows.Row.the-variants.{Key}
 use Rattle.layout.specs.declared.read.RowRead.{RowRead}
 use Rattle.layout.specs.declared.read.RowRead.the-variants.{Cell, Field, Range}
 use Rattle.layout.specs.declared.read.Verdict.{Verdict}
 use Rattle.layout.specs.declared.read.Verdict.the-variants.{Good, Field as FieldAt, Range as RangeAt}
-use Rattle.layout.specs.Rows.{widthOf, total, offsetOf}
+use Rattle.forms.specs.Rows.{widthOf, total, offsetOf}
 use Rattle.layout.specs.Read.{readRow}
 use Rattle.layout.specs.Write.{RowText, text, malformed, out-of-range, rowText, keyUsed}
 
 -- 01, the table's row 11: FIELD
 abbrev pub field : ℕ
-field = 11
+field = fieldNo
 
 -- 01, the table's row 12: RANGE
 abbrev pub range : ℕ
-range = 12
+range = rangeNo
 
 -- 01, the table of refusals: the paper's number and row of a verdict; none where all rows are good
 abbrev pub verdictNumbers : Verdict → List ℕ
@@ -29,7 +30,7 @@ verdictNumbers (RangeAt row) = range ∷ row ∷ []
 
 -- 01 "What may be asked": rows count from 0 as laid out
 abbrev pub rowAt : List Row → ℕ → Row
-rowAt rows k = getD rows k (Text 0)
+rowAt rows k = getD rows k (Key 0)
 
 -- 01 "What may be asked": every field of the data is one row: the bytes of row k
 abbrev pub fieldAt : List Row → List ℕ → ℕ → List ℕ

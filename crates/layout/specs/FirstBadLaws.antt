@@ -10,14 +10,14 @@ use borrow.Author.Count.{below-more}
 use lib.ListN.{length, take, drop}
 use lib.Seq.{drop-length, drop-cons, drop-drop, getD-drop}
 use Rattle.laws.specs.Order.{order}
-use Rattle.layout.specs.declared.rows.Row.{Row}
-use Rattle.layout.specs.declared.rows.Row.the-variants.{Text}
+use Rattle.forms.specs.declared.rows.Row.{Row}
+use Rattle.forms.specs.declared.rows.Row.the-variants.{Key}
 use Rattle.layout.specs.declared.read.RowRead.{RowRead}
 use Rattle.layout.specs.declared.read.RowRead.the-variants.{Cell, Field, Range}
 use Rattle.layout.specs.declared.read.Verdict.{Verdict}
 use Rattle.layout.specs.declared.read.Verdict.the-variants.{Good, Field as FieldAt, Range as RangeAt}
-use Rattle.layout.specs.Rows.{widthOf, total, offsetOf}
-use Rattle.layout.specs.RowsLaws.{total-suc}
+use Rattle.forms.specs.Rows.{widthOf, total, offsetOf}
+use Rattle.forms.specs.RowsLaws.{total-suc}
 use Rattle.layout.specs.Read.{rowThen, readRows}
 use Rattle.layout.specs.Write.{RowText, text, malformed, out-of-range, keyUsed, textThen, writeRows}
 use Rattle.layout.specs.FirstBad.{field, range, rowAt, rowRead, rowWritten, readRefusal, writeRefusal, refusalRead, refusalWritten, FirstAt, FirstBad}
@@ -86,7 +86,7 @@ module _ (rows : List Row) (bytes : List ℕ) where
     where
       begins : {answer : RowRead} → rowRead rows bytes i ≡ answer
           → from-read i ≡ rowThen answer i (readRows (suc i) (drop (suc i) rows) (drop (offsetOf rows (suc i)) bytes)) .verdict
-      begins e = rw (from-read, drop-cons rows i (Text 0) h, e, drop-drop (widthOf (rowAt rows i)) (offsetOf rows i) bytes, total-suc widthOf rows i h)
+      begins e = rw (from-read, drop-cons rows i (Key 0) h, e, drop-drop (widthOf (rowAt rows i)) (offsetOf rows i) bytes, total-suc widthOf rows i h)
 
       go : (answer : RowRead) → rowRead rows bytes i ≡ answer → Turn (refusalRead rows bytes) from-read i
       go (Cell cell) e = passes (ap readRefusal e) (begins e)
@@ -113,7 +113,7 @@ module _ (rows : List Row) (key cells : List ℕ) where
       begins : {t : RowText} → rowWritten rows key cells i ≡ t
           → from-written i ≡ textThen t i (writeRows (suc i) (drop (suc i) rows) (drop (total keyUsed (take (suc i) rows)) key) (drop (suc i) cells)) .verdict
       begins e =
-          rw (from-written, drop-cons rows i (Text 0) h, getD-drop i cells 0 0, add-zero i, e, drop-drop 1 i cells, add-one i, drop-drop (keyUsed (rowAt rows i)) (total keyUsed (take i rows)) key, total-suc keyUsed rows i h)
+          rw (from-written, drop-cons rows i (Key 0) h, getD-drop i cells 0 0, add-zero i, e, drop-drop 1 i cells, add-one i, drop-drop (keyUsed (rowAt rows i)) (total keyUsed (take i rows)) key, total-suc keyUsed rows i h)
 
       go : (t : RowText) → rowWritten rows key cells i ≡ t → Turn (refusalWritten rows key cells) from-written i
       go (text characters) e = passes (ap writeRefusal e) (begins e)

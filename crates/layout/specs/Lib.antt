@@ -1,12 +1,7 @@
-pub mod Rows
-pub mod RowsLaws
 pub mod Cells
 pub mod CellsLaws
 pub mod Read
 pub mod ReadLaws
-pub mod Quote
-pub mod SideLaws
-pub mod QuoteLaws
 pub mod Write
 pub mod PutLaws
 pub mod RowTextLaws
@@ -14,4 +9,3 @@ pub mod WriteLaws
 pub mod RoundTrip
 pub mod FirstBad
 pub mod FirstBadLaws
-pub mod QuoteTrip

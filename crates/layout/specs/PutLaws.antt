@@ -9,18 +9,20 @@ use lib.ListN.{length, take, set, drop-of-length-le}
 use lib.Seq.{take-all}
 use Rattle.amount.specs.declared.write.Put.{Put}
 use Rattle.amount.specs.declared.write.Put.the-variants as amount
-use Rattle.amount.specs.Write.{Written, filled, refused, Wrote, written, blankText}
+use Rattle.amount.specs.Write.{Written, filled, refused, Wrote, blankText}
 use Rattle.layout.specs.declared.cells.Held.the-variants.{Nothing, Units}
-use Rattle.layout.specs.declared.rows.Row.{Row}
+use Rattle.forms.specs.declared.rows.Row.{Row}
 use Rattle.layout.specs.declared.write.RowPut.{RowPut}
 use Rattle.layout.specs.declared.write.RowPut.the-variants.{Fits, Field, Range}
-use Rattle.amount.specs.Kinds.{Kind}
-use Rattle.layout.specs.Rows.{widthOf}
+use Rattle.amount.specs.declared.Kind.{Kind}
+use Rattle.amount.specs.Kinds.{writtenAs}
+use Rattle.forms.specs.Rows.{widthOf}
 use Rattle.layout.specs.Cells.{heldIn}
-use Rattle.layout.specs.Write.{PutsRow, putOf, rowText, heldText, ofWritten, ofPut, RowText, text, malformed, out-of-range, keyText, letterText, allPrintable, laid}
+use Rattle.layout.specs.Write.{PutsRow, putOf, rowText, heldText, ofWritten, ofPut, RowText, text, malformed, out-of-range, keyText, letterText, overFront}
+use Rattle.wire.specs.Bytes.{allPrintable}
 
 -- bytes that fill a field are all that it holds
-pub laid-whole : (bytes field : List ℕ) → length bytes ≡ length field → laid bytes field ≡ bytes
+pub laid-whole : (bytes field : List ℕ) → length bytes ≡ length field → overFront bytes field ≡ bytes
 laid-whole bytes field e =
     rw (take-all (length field) bytes (omega arith), drop-of-length-le field {i = length bytes} (omega arith)) (append-nil bytes)
 
@@ -73,8 +75,8 @@ module _ (row : Row) (key : List ℕ) (cell : ℕ) (kind : Kind) (before : List 
     puts-none e p = rw (is-number, e, ← fits) p
 
     pub puts-amount : {answer : Put} {after : List ℕ} (n : ℕ) → heldIn cell ≡ Units n
-        → Wrote (written (kind .places) (kind .most) (length before) n) before answer after → PutsRow (rowText row key cell) before (ofPut answer) after
-    puts-amount n e p = rw (is-number, e, ← fits) (put-number (written (kind .places) (kind .most) (length before) n) _ p)
+        → Wrote (writtenAs kind (length before) n) before answer after → PutsRow (rowText row key cell) before (ofPut answer) after
+    puts-amount n e p = rw (is-number, e, ← fits) (put-number (writtenAs kind (length before) n) _ p)
 
 -- ---- what one row's answer tells of its text
 

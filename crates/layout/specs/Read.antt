@@ -10,14 +10,15 @@ use Rattle.wire.specs.Number.{numberAt}
 use Rattle.amount.specs.declared.Number.{Number}
 use Rattle.amount.specs.declared.Number.the-variants.{None, Amount, Malformed, OutOfRange}
 use Rattle.layout.specs.declared.cells.Held.the-variants.{Nothing, Units}
-use Rattle.layout.specs.declared.rows.Row.{Row}
-use Rattle.layout.specs.declared.rows.Row.the-variants.{Text, MarketType, Status, Price, Quantity, Turnover}
+use Rattle.forms.specs.declared.rows.Row.{Row}
+use Rattle.forms.specs.declared.rows.Row.the-variants.{Key, MarketType, Status, Price, Quantity, Turnover}
 use Rattle.layout.specs.declared.read.RowRead.{RowRead}
 use Rattle.layout.specs.declared.read.RowRead.the-variants.{Cell, Field, Range}
 use Rattle.layout.specs.declared.read.Verdict.{Verdict}
 use Rattle.layout.specs.declared.read.Verdict.the-variants.{Good, Field as FieldAt, Range as RangeAt}
-use Rattle.amount.specs.Kinds.{Kind, price, quantity, turnover, readAs}
-use Rattle.layout.specs.Rows.{widthOf}
+use Rattle.amount.specs.declared.Kind.{Kind}
+use Rattle.amount.specs.Kinds.{price, quantity, turnover, readAs}
+use Rattle.forms.specs.Rows.{widthOf}
 use Rattle.layout.specs.Cells.{cellOf}
 
 -- 01, the table's rows 11 and 12: a number's cell, where the text is one
@@ -45,7 +46,7 @@ numberCell kind field = ofNumber (readAs kind field)
 
 -- 01 "The message": one row's field; a key's text is only looked up, and its cell is 0
 unfoldable pub readRow : Row → List ℕ → RowRead
-readRow (Text width) field = Cell 0
+readRow (Key width) field = Cell 0
 readRow MarketType field = letterCell isMarketType (numberAt 1 field 0)
 readRow Status field = letterCell isStatus (numberAt 1 field 0)
 readRow (Price width) field = numberCell price field

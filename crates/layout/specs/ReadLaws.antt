@@ -7,14 +7,14 @@ use native.Mathlib.Numerals.{add-one}
 use Rattle.laws.specs.Lists.{take-min, drop-min, sets-append}
 use lib.ListN.{length, getD, take, drop, set, length-append, length-drop, drop-of-length-le}
 use lib.Seq.{sets, sets-eq, drop-cons, drop-drop, take-at}
-use Rattle.layout.specs.declared.rows.Row.{Row}
-use Rattle.layout.specs.declared.rows.Row.the-variants.{Text}
+use Rattle.forms.specs.declared.rows.Row.{Row}
+use Rattle.forms.specs.declared.rows.Row.the-variants.{Key}
 use Rattle.layout.specs.declared.read.RowRead.{RowRead}
 use Rattle.layout.specs.declared.read.RowRead.the-variants.{Cell, Field, Range}
 use Rattle.layout.specs.declared.read.Verdict.{Verdict}
 use Rattle.layout.specs.declared.read.Verdict.the-variants.{Good}
-use Rattle.layout.specs.Rows.{widthOf}
-use Rattle.layout.specs.Cells.{filled}
+use Rattle.forms.specs.Rows.{widthOf}
+use Rattle.layout.specs.Cells.{zerosBehind}
 use Rattle.layout.specs.Read.{Outcome, readRows, rowThen, readRow, ReadsRows}
 
 -- cells read earlier stand in front
@@ -34,26 +34,26 @@ begins rows bytes lent = record { within = omega arith; front = []; many = refl;
 
 -- the next row of the data, as the walk sees it: as many bytes as its width, or as are left
 module _ (rows : List Row) (bytes lent cells : List ℕ) (at i width : ℕ) (more : i < length rows)
-    (is-width : width ≡ min (widthOf (getD rows i (Text 0))) (length bytes - at)) (going : Going rows bytes lent cells at i)
+    (is-width : width ≡ min (widthOf (getD rows i (Key 0))) (length bytes - at)) (going : Going rows bytes lent cells at i)
   where
     left : length (drop at bytes) ≡ length bytes - at
     left = length-drop at bytes
 
     -- the field that the walk hands on is the row's
-    pub field-is : take width (drop at bytes) ≡ take (widthOf (getD rows i (Text 0))) (drop at bytes)
-    field-is = rw (is-width, ← left) (take-min (widthOf (getD rows i (Text 0))) (drop at bytes))
+    pub field-is : take width (drop at bytes) ≡ take (widthOf (getD rows i (Key 0))) (drop at bytes)
+    field-is = rw (is-width, ← left) (take-min (widthOf (getD rows i (Key 0))) (drop at bytes))
 
-    next-is : drop (at + width) bytes ≡ drop (widthOf (getD rows i (Text 0))) (drop at bytes)
-    next-is = sym (drop-drop width at bytes) ∙ rw (is-width, ← left) (drop-min (widthOf (getD rows i (Text 0))) (drop at bytes))
+    next-is : drop (at + width) bytes ≡ drop (widthOf (getD rows i (Key 0))) (drop at bytes)
+    next-is = sym (drop-drop width at bytes) ∙ rw (is-width, ← left) (drop-min (widthOf (getD rows i (Key 0))) (drop at bytes))
 
     -- what is left to be read begins with this row
-    pub this-row : {answer : RowRead} → readRow (getD rows i (Text 0)) (take width (drop at bytes)) ≡ answer
+    pub this-row : {answer : RowRead} → readRow (getD rows i (Key 0)) (take width (drop at bytes)) ≡ answer
         → readRows 0 rows bytes ≡ behind (going .front) (rowThen answer i (readRows (suc i) (drop (suc i) rows) (drop (at + width) bytes)))
     this-row {answer} e =
-        going .rest ∙ rw (drop-cons rows i (Text 0) more, ← field-is, e, next-is)
+        going .rest ∙ rw (drop-cons rows i (Key 0) more, ← field-is, e, next-is)
 
     -- a good row: its cell is stored, and the reading goes on
-    pub goes-on : {cell : ℕ} → readRow (getD rows i (Text 0)) (take width (drop at bytes)) ≡ Cell cell
+    pub goes-on : {cell : ℕ} → readRow (getD rows i (Key 0)) (take width (drop at bytes)) ≡ Cell cell
         → Going rows bytes lent (set cells i cell) (at + width) (i + 1)
     goes-on {cell} e =
         let place : 0 + length (going .front) ≡ i = omega (arith, going .many) in
@@ -97,7 +97,7 @@ cell-each i (row ∷ rows) bytes good = go (readRow row (take (widthOf row) byte
 
 -- the lent cells of the rows are those read, whatever stood there
 pub front-stored : (rows : List Row) (bytes lent : List ℕ) → length rows ≤ length lent → readRows 0 rows bytes .verdict ≡ Good
-    → take (length rows) (sets lent 0 (readRows 0 rows bytes .cells)) ≡ take (length rows) (filled (readRows 0 rows bytes .cells))
+    → take (length rows) (sets lent 0 (readRows 0 rows bytes .cells)) ≡ take (length rows) (zerosBehind (readRows 0 rows bytes .cells))
 front-stored rows bytes lent room good =
     let read : List ℕ = readRows 0 rows bytes .cells in
     let long : length read ≡ length rows = cell-each 0 rows bytes good in

@@ -2,7 +2,7 @@
 use Prim.Native.Nat.{ℕ, suc, _+_, _≤_, _<_}
 use mathlib.Core.Path.{_≡_, refl, ap, sym, _∙_}
 use mathlib.Core.Bool.{Bool, true, and-eq-true-iff}
-use mathlib.Core.List.{List, [], _∷_, _++_, map}
+use mathlib.Core.List.{List, [], _∷_, _++_}
 use native.Mathlib.Omega.{arith}
 use lib.ListN.{length, getD, take, drop, length-drop}
 use lib.Seq.{take-at, drop-at, take-add, take-append-add, length-take-le}
@@ -11,17 +11,24 @@ use Rattle.amount.specs.ReadBack.{reads-back, none-reads-back}
 use Rattle.amount.specs.Write.{blankText}
 use Rattle.layout.specs.declared.cells.Held.{Held}
 use Rattle.layout.specs.declared.cells.Held.the-variants.{Nothing, Units}
-use Rattle.layout.specs.declared.rows.Row.{Row}
-use Rattle.layout.specs.declared.rows.Row.the-variants.{Text, MarketType, Status, Price, Quantity, Turnover}
-use Rattle.layout.specs.declared.rows.Level.{Level}
+use Rattle.forms.specs.declared.rows.Row.{Row}
+use Rattle.forms.specs.declared.rows.Row.the-variants.{Key, MarketType, Status, Price, Quantity, Turnover}
 use Rattle.layout.specs.declared.read.RowRead.the-variants.{Cell}
 use Rattle.layout.specs.declared.read.Verdict.the-variants.{Good}
-use Rattle.amount.specs.Kinds.{Kind, price, quantity, turnover}
-use Rattle.layout.specs.Rows.{widthOf, dataLength, rowsOf, recordRows}
+use Rattle.amount.specs.declared.Kind.{Kind}
+use Rattle.amount.specs.Kinds.{price, quantity, turnover}
+use Rattle.forms.specs.declared.rows.Level.{Level}
+use Rattle.forms.specs.declared.forms.Form.{Form}
+use Rattle.forms.specs.declared.forms.Subject.the-variants.{Contract}
+use Rattle.forms.specs.Sizes.{keyBytes}
+use Rattle.forms.specs.Rows.{widthOf, keyInFront}
+use Rattle.forms.specs.Forms.{rowsOf, subjectOf}
+use Rattle.forms.specs.FormsLaws.{contract-key}
 use Rattle.layout.specs.CellsLaws.{byte-back, cell-back}
 use Rattle.layout.specs.Cells.{byteIn, heldIn, cellOf, seenCell, seenCells}
 use Rattle.layout.specs.Read.{isMarketType, isStatus, letterCell, readRow, numberCell, readRows}
-use Rattle.layout.specs.Write.{text, rowText, heldText, letterText, Laid, writeRows, keyUsed, printable, allPrintable}
+use Rattle.layout.specs.Write.{text, rowText, heldText, letterText, Laid, writeRows, keyUsed}
+use Rattle.wire.specs.Bytes.{printable, allPrintable}
 use Rattle.layout.specs.RowTextLaws.{market-small, status-small, key-is, letter-is, filled-is, text-width}
 use Rattle.layout.specs.WriteLaws.{GoodRow, good-row}
 
@@ -39,12 +46,12 @@ letter-back taken small cell {t} e =
 number-back : (kind : Kind) (width : ℕ) (held : Held) {t : List ℕ} → heldText kind width held ≡ text t → numberCell kind t ≡ Cell (cellOf held)
 number-back kind width Nothing {t} e =
     let same : t ≡ blankText width = cc in
-    rw (same, none-reads-back (kind .places) (kind .most) width)
-number-back kind width (Units n) {t} e = rw (reads-back (kind .places) (kind .most) width n t (filled-is _ e))
+    rw (same, none-reads-back kind width)
+number-back kind width (Units n) {t} e = rw (reads-back kind width n t (filled-is _ e))
 
 row-back : (row : Row) (key : List ℕ) (cell : ℕ) {t : List ℕ} → rowText row key cell ≡ text t → readRow row t ≡ Cell (seenCell row cell)
 unfolding rowText readRow
-row-back (Text width) key cell e = refl
+row-back (Key width) key cell e = refl
 row-back MarketType key cell e = letter-back isMarketType market-small cell e
 row-back Status key cell e = letter-back isStatus status-small cell e
 row-back (Price width) key cell e = number-back price width (heldIn cell) e ∙ ap Cell (cell-back cell)
@@ -69,22 +76,26 @@ printable-append (b ∷ s) t p q =
     let both = and-eq-true-iff (printable b) (allPrintable s) .0 p in
     and-eq-true-iff (printable b) (allPrintable (s ++ t)) .1 (both .0, printable-append s t (both .1) q)
 
--- 01 "The message": rows of text in front are those of the key, and its bytes may be written
+-- 01 "The message": the rows of the key stand in front, and its bytes may be written
 pub record KeyInFront (size : ℕ) (key bytes : List ℕ) : Type 0 where
   pub has-it : size ≤ length key
   pub may-be-written : allPrintable (take size key) ≡ true
   pub stands : take size bytes ≡ take size key
 
-pub key-in-front : (i : ℕ) (widths : List ℕ) (rows : List Row) (key cells : List ℕ) → writeRows i (map Text widths ++ rows) key cells .verdict ≡ Good
-    → KeyInFront (dataLength (map Text widths)) key (writeRows i (map Text widths ++ rows) key cells .bytes)
+no-key : (key bytes : List ℕ) → KeyInFront 0 key bytes
+no-key key bytes = record { has-it = omega arith; may-be-written = refl; stands = refl }
+
+-- whatever the form
+pub key-in-front : (i : ℕ) (rows : List Row) (key cells : List ℕ) → writeRows i rows key cells .verdict ≡ Good
+    → KeyInFront (keyInFront rows) key (writeRows i rows key cells .bytes)
 unfolding rowText
-key-in-front i [] rows key cells good = record { has-it = omega arith; may-be-written = refl; stands = refl }
-key-in-front i (width ∷ widths) rows key cells good =
-    let rest : Laid = writeRows (suc i) (map Text widths ++ rows) (drop width key) (drop 1 cells) in
-    let g : GoodRow (rowText (Text width) key (getD cells 0 0)) i rest = good-row (rowText (Text width) key (getD cells 0 0)) i rest good in
+key-in-front i [] key cells good = no-key key []
+key-in-front i (Key width ∷ rows) key cells good =
+    let rest : Laid = writeRows (suc i) rows (drop width key) (drop 1 cells) in
+    let g : GoodRow (rowText (Key width) key (getD cells 0 0)) i rest = good-row (rowText (Key width) key (getD cells 0 0)) i rest good in
     let k = key-is width key (g .is-text) in
-    let n : ℕ = dataLength (map Text widths) in
-    let later : KeyInFront n (drop width key) (rest .bytes) = key-in-front (suc i) widths rows (drop width key) (drop 1 cells) (g .rest-good) in
+    let n : ℕ = keyInFront rows in
+    let later : KeyInFront n (drop width key) (rest .bytes) = key-in-front (suc i) rows (drop width key) (drop 1 cells) (g .rest-good) in
     let wide : length (take width key) ≡ width = length-take-le width key (k .0) in
     let front : take (width + n) (take width key ++ rest .bytes) ≡ take width key ++ take n (rest .bytes) =
     rw wide at (take-append-add (take width key) (rest .bytes) n) in
@@ -93,9 +104,13 @@ key-in-front i (width ∷ widths) rows key cells good =
       may-be-written = rw (take-add width n key) (printable-append (take width key) (take n (drop width key)) (k .1) (later .may-be-written));
       stands = rw (g .bytes-are, k .2, front, later .stands) (sym (take-add width n key));
     }
+key-in-front i (MarketType ∷ rows) key cells good = no-key key _
+key-in-front i (Status ∷ rows) key cells good = no-key key _
+key-in-front i (Price width ∷ rows) key cells good = no-key key _
+key-in-front i (Quantity width ∷ rows) key cells good = no-key key _
+key-in-front i (Turnover width ∷ rows) key cells good = no-key key _
 
--- 01 "The message": the first 39 bytes of an update's data are the contract key
-pub key-of-update : (level : Level) (key cells : List ℕ) → writeRows 0 (rowsOf level) key cells .verdict ≡ Good
-    → KeyInFront 39 key (writeRows 0 (rowsOf level) key cells .bytes)
-unfolding rowsOf
-key-of-update level key cells good = key-in-front 0 (6 ∷ 10 ∷ 11 ∷ 10 ∷ 2 ∷ []) (recordRows level) key cells good
+-- 01 "The message": the data of an update begins with the contract's key
+pub key-of-update : (form : Form) (level : Level) → subjectOf form ≡ Contract level → (key cells : List ℕ) → writeRows 0 (rowsOf form) key cells .verdict ≡ Good
+    → KeyInFront keyBytes key (writeRows 0 (rowsOf form) key cells .bytes)
+key-of-update form level e key cells good = rw (contract-key form level e) at (key-in-front 0 (rowsOf form) key cells good)

@@ -14,14 +14,16 @@ use Rattle.amount.specs.Write.{Written, filled, refused, blankText}
 use Rattle.amount.specs.WriteLaws.{fills-right}
 use Rattle.layout.specs.declared.cells.Held.{Held}
 use Rattle.layout.specs.declared.cells.Held.the-variants.{Nothing, Units}
-use Rattle.layout.specs.declared.rows.Row.{Row}
-use Rattle.layout.specs.declared.rows.Row.the-variants.{Text, MarketType, Status, Price, Quantity, Turnover}
-use Rattle.amount.specs.Kinds.{Kind, price, quantity, turnover}
-use Rattle.layout.specs.Rows.{widthOf}
+use Rattle.forms.specs.declared.rows.Row.{Row}
+use Rattle.forms.specs.declared.rows.Row.the-variants.{Key, MarketType, Status, Price, Quantity, Turnover}
+use Rattle.amount.specs.declared.Kind.{Kind}
+use Rattle.amount.specs.Kinds.{price, quantity, turnover}
+use Rattle.forms.specs.Rows.{widthOf}
 use Rattle.layout.specs.Cells.{none, byteIn, heldIn, cellOf, seenCell}
 use Rattle.layout.specs.CellsLaws.{byte-back, cell-back, amount-cell}
 use Rattle.layout.specs.Read.{isMarketType, isStatus}
-use Rattle.layout.specs.Write.{RowText, text, malformed, rowText, keyText, letterText, heldText, ofWritten, allPrintable}
+use Rattle.layout.specs.Write.{RowText, text, malformed, rowText, keyText, letterText, heldText, ofWritten}
+use Rattle.wire.specs.Bytes.{allPrintable}
 
 -- the letters that the rows take are bytes
 pub market-small : (byte : ℕ) → isMarketType byte ≡ true → byte < 256
@@ -63,11 +65,11 @@ number-width : (kind : Kind) (width : ℕ) (held : Held) {t : List ℕ} → held
 number-width kind width Nothing {t} e =
     let same : t ≡ blankText width = cc in
     rw same (length-replicate width space)
-number-width kind width (Units n) {t} e = fills-right (kind .places) (kind .most) width n t (filled-is _ e) .full
+number-width kind width (Units n) {t} e = fills-right kind width n t (filled-is _ e) .full
 
 pub text-width : (row : Row) (key : List ℕ) (cell : ℕ) {t : List ℕ} → rowText row key cell ≡ text t → length t ≡ widthOf row
 unfolding rowText
-text-width (Text width) key cell e =
+text-width (Key width) key cell e =
     let k = key-is width key e in
     rw (k .2) (length-take-le width key (k .0))
 text-width MarketType key cell e = ap length (letter-is isMarketType cell e .1)
@@ -81,7 +83,7 @@ number-held : (kind : Kind) (width : ℕ) (held : Held) {t : List ℕ} → kind 
     → cellOf held ≡ none - 1 → ⊥
 number-held kind width Nothing small e h = omega arith
 number-held kind width (Units n) {t} small e h =
-    let most : n ≤ kind .most = fills-right (kind .places) (kind .most) width n t (filled-is _ e) .small in
+    let most : n ≤ kind .most = fills-right kind width n t (filled-is _ e) .small in
     omega (arith, amount-cell n (omega arith))
 
 letter-held : (taken : ℕ → Bool) → ((byte : ℕ) → taken byte ≡ true → byte < 256) → (cell : ℕ) {t : List ℕ} → letterText taken cell ≡ text t
@@ -92,7 +94,7 @@ letter-held taken small cell e h =
 
 pub text-held : (row : Row) (key : List ℕ) (cell : ℕ) {t : List ℕ} → rowText row key cell ≡ text t → seenCell row cell ≡ none - 1 → ⊥
 unfolding rowText
-text-held (Text width) key cell e h = omega arith
+text-held (Key width) key cell e h = omega arith
 text-held MarketType key cell e h = letter-held isMarketType market-small cell e h
 text-held Status key cell e h = letter-held isStatus status-small cell e h
 text-held (Price width) key cell e h = number-held price width (heldIn cell) (omega arith) e (cell-back cell ∙ h)

@@ -1,34 +1,27 @@
 -- Writing cells into the data of an update: 01 "Numbers in text", and the writer's order of checks: 11 and 12 by row.
 use Prim.Native.Nat.{ℕ, suc}
 use mathlib.Core.Path.{_≡_}
-use mathlib.Core.Bool.{Bool, true, cond, _&&_}
+use mathlib.Core.Bool.{Bool, cond, _&&_}
 use mathlib.Core.List.{List, [], _∷_, _++_}
 use lib.Dec.{leb}
 use lib.ListN.{length, getD, take, drop}
+use Rattle.wire.specs.Bytes.{allPrintable}
 use Rattle.amount.specs.declared.write.Put.{Put}
 use Rattle.amount.specs.declared.write.Put.the-variants as amount
 use Rattle.amount.specs.Write.{blankText, Written, filled, refused}
 use Rattle.layout.specs.declared.cells.Held.{Held}
 use Rattle.layout.specs.declared.cells.Held.the-variants.{Nothing, Units}
-use Rattle.layout.specs.declared.rows.Row.{Row}
-use Rattle.layout.specs.declared.rows.Row.the-variants.{Text, MarketType, Status, Price, Quantity, Turnover}
+use Rattle.forms.specs.declared.rows.Row.{Row}
+use Rattle.forms.specs.declared.rows.Row.the-variants.{Key, MarketType, Status, Price, Quantity, Turnover}
 use Rattle.layout.specs.declared.read.Verdict.{Verdict}
 use Rattle.layout.specs.declared.read.Verdict.the-variants.{Good, Field as FieldAt, Range as RangeAt}
 use Rattle.layout.specs.declared.write.RowsWritten.{RowsWritten}
 use Rattle.layout.specs.declared.write.RowPut.{RowPut}
 use Rattle.layout.specs.declared.write.RowPut.the-variants.{Fits, Field, Range}
-use Rattle.amount.specs.Kinds.{Kind, price, quantity, turnover, writtenAs}
+use Rattle.amount.specs.declared.Kind.{Kind}
+use Rattle.amount.specs.Kinds.{price, quantity, turnover, writtenAs}
 use Rattle.layout.specs.Cells.{heldIn}
 use Rattle.layout.specs.Read.{isMarketType, isStatus}
-
--- 01, the table of refusals: a byte of a written key is 32 to 126
-abbrev pub printable : ℕ → Bool
-printable byte = leb 32 byte && leb byte 126
-
--- 01, the table's row 11: no byte of a written key is outside 32 to 126
-abbrev pub allPrintable : List ℕ → Bool
-allPrintable [] = true
-allPrintable (b ∷ bs) = printable b && allPrintable bs
 
 -- 01, the table's rows 11 and 12: what one row's field is to hold, or what is wrong with what is to be written
 pub data RowText : Type 0 where
@@ -56,7 +49,7 @@ heldText kind width (Units n) = ofWritten (writtenAs kind width n)
 
 -- 01 "The message": the text of one row: from what is left of the key, or from the row's cell
 unfoldable pub rowText : Row → List ℕ → ℕ → RowText
-rowText (Text width) key cell = keyText width key
+rowText (Key width) key cell = keyText width key
 rowText MarketType key cell = letterText isMarketType cell
 rowText Status key cell = letterText isStatus cell
 rowText (Price width) key cell = heldText price width (heldIn cell)
@@ -65,7 +58,7 @@ rowText (Turnover width) key cell = heldText turnover width (heldIn cell)
 
 -- 01 "The message": what a row takes of the key
 abbrev pub keyUsed : Row → ℕ
-keyUsed (Text width) = width
+keyUsed (Key width) = width
 keyUsed MarketType = 0
 keyUsed Status = 0
 keyUsed (Price width) = 0
@@ -114,8 +107,8 @@ pub record PutsRow (t : RowText) (before : List ℕ) (answer : RowPut) (after : 
   pub leaves : after ≡ fieldAfter t before
 
 -- lent memory: bytes laid over the front of a field, as many as it has room for
-abbrev pub laid : List ℕ → List ℕ → List ℕ
-laid bytes field = take (length field) bytes ++ drop (length bytes) field
+abbrev pub overFront : List ℕ → List ℕ → List ℕ
+overFront bytes field = take (length field) bytes ++ drop (length bytes) field
 
 -- a word of our own: the answer of writing rows: the bytes stand in front
 pub record WritesRows (rows : Laid) (answer : RowsWritten) : Type 0 where
@@ -132,4 +125,4 @@ whereGood (RangeAt i) written before = before
 -- changes no byte
 pub record WritesUpdate (rows : Laid) (before : List ℕ) (answer : Verdict) (after : List ℕ) : Type 0 where
   pub answers : answer ≡ rows .verdict
-  pub leaves : after ≡ whereGood (rows .verdict) (laid (rows .bytes) before) before
+  pub leaves : after ≡ whereGood (rows .verdict) (overFront (rows .bytes) before) before

@@ -8,11 +8,12 @@ use native.Mathlib.Numerals.{add-one}
 use lib.ListN.{length, getD, take, drop, length-drop, length-append, drop-of-length-le}
 use lib.Seq.{length-take-le, drop-cons, drop-drop, getD-drop}
 use Rattle.laws.specs.Lists.{drop-min}
-use Rattle.layout.specs.declared.rows.Row.{Row}
-use Rattle.layout.specs.declared.rows.Row.the-variants.{Text}
+use Rattle.forms.specs.declared.rows.Row.{Row}
+use Rattle.forms.specs.declared.rows.Row.the-variants.{Key}
 use Rattle.layout.specs.declared.read.Verdict.{Verdict}
 use Rattle.layout.specs.declared.read.Verdict.the-variants.{Good}
-use Rattle.layout.specs.Rows.{widthOf, dataLength}
+use Rattle.forms.specs.Rows.{widthOf, dataLength}
+use Rattle.forms.specs.Sizes.{mostData}
 use Rattle.layout.specs.RowTextLaws.{text-width}
 use Rattle.layout.specs.Write.{RowText, text, malformed, out-of-range, rowText, Laid, textThen, writeRows, keyUsed, WritesRows}
 
@@ -23,7 +24,7 @@ ahead front rest = record { bytes = front ++ rest .bytes; verdict = rest .verdic
 -- after i rows, `at` bytes and `used` bytes of the key: the bytes of those rows stand in front, and there is room for the rest
 abbrev pub Writing : List Row → List ℕ → List ℕ → List ℕ → ℕ → ℕ → ℕ → Type 0
 Writing rows key cells bytes at used i =
-    (used ≤ length key) × (length bytes ≡ 494) × (at + dataLength (drop i rows) ≤ 494)
+    (used ≤ length key) × (length bytes ≡ mostData) × (at + dataLength (drop i rows) ≤ mostData)
     × (writeRows 0 rows key cells ≡ ahead (take at bytes) (writeRows i (drop i rows) (drop used key) (drop i cells)))
 
 -- the bytes in front are those of a writing that ends here
@@ -38,30 +39,30 @@ module _ (rows : List Row) (key cells bytes : List ℕ) (at used i : ℕ) (more 
     (writing : Writing rows key cells bytes at used i)
   where
     -- its field has room
-    pub room : at + widthOf (getD rows i (Text 0)) + dataLength (drop (suc i) rows) ≤ 494
-    room = omega (arith, rw (drop-cons rows i (Text 0) more) at (writing .2))
+    pub room : at + widthOf (getD rows i (Key 0)) + dataLength (drop (suc i) rows) ≤ mostData
+    room = omega (arith, rw (drop-cons rows i (Key 0) more) at (writing .2))
 
     -- what is left to be written begins with this row
-    pub this-text : {t : RowText} → rowText (getD rows i (Text 0)) (drop used key) (getD cells i 0) ≡ t
+    pub this-text : {t : RowText} → rowText (getD rows i (Key 0)) (drop used key) (getD cells i 0) ≡ t
         → writeRows 0 rows key cells
-        ≡ ahead (take at bytes) (textThen t i (writeRows (suc i) (drop (suc i) rows) (drop (keyUsed (getD rows i (Text 0))) (drop used key)) (drop (suc i) cells)))
+        ≡ ahead (take at bytes) (textThen t i (writeRows (suc i) (drop (suc i) rows) (drop (keyUsed (getD rows i (Key 0))) (drop used key)) (drop (suc i) cells)))
     this-text {t} e =
-        writing .3 ∙ rw (drop-cons rows i (Text 0) more, getD-drop i cells 0 0, drop-drop 1 i cells, add-one i, add-zero i, e)
+        writing .3 ∙ rw (drop-cons rows i (Key 0) more, getD-drop i cells 0 0, drop-drop 1 i cells, add-one i, add-zero i, e)
 
     -- a good row: its text stands behind those before it, and the writing goes on
-    pub goes-on : (bytes′ : List ℕ) (width taken : ℕ) {characters : List ℕ} → width ≡ widthOf (getD rows i (Text 0))
-        → taken ≡ min (keyUsed (getD rows i (Text 0))) (length key - used) → rowText (getD rows i (Text 0)) (drop used key) (getD cells i 0) ≡ text characters
-        → length bytes′ ≡ 494 → take (at + width) bytes′ ≡ take at bytes ++ characters
+    pub goes-on : (bytes′ : List ℕ) (width taken : ℕ) {characters : List ℕ} → width ≡ widthOf (getD rows i (Key 0))
+        → taken ≡ min (keyUsed (getD rows i (Key 0))) (length key - used) → rowText (getD rows i (Key 0)) (drop used key) (getD cells i 0) ≡ text characters
+        → length bytes′ ≡ mostData → take (at + width) bytes′ ≡ take at bytes ++ characters
         → Writing rows key cells bytes′ (at + width) (used + taken) (i + 1)
     goes-on bytes′ width taken is-width is-taken e whole in-front =
         let left : length (drop used key) ≡ length key - used = length-drop used key in
-        let key-left : drop (used + taken) key ≡ drop (keyUsed (getD rows i (Text 0))) (drop used key) =
-        sym (drop-drop taken used key) ∙ rw (is-taken, ← left) (drop-min (keyUsed (getD rows i (Text 0))) (drop used key)) in
+        let key-left : drop (used + taken) key ≡ drop (keyUsed (getD rows i (Key 0))) (drop used key) =
+        sym (drop-drop taken used key) ∙ rw (is-taken, ← left) (drop-min (keyUsed (getD rows i (Key 0))) (drop used key)) in
         rw (add-one i)
         (omega (arith, is-taken), whole, omega (arith, room), this-text e ∙ rw (key-left, in-front, append-assoc (take at bytes)))
 
     -- a bad row ends the writing
-    pub stops : (bytes′ : List ℕ) (verdict : Verdict) {t : RowText} → rowText (getD rows i (Text 0)) (drop used key) (getD cells i 0) ≡ t
+    pub stops : (bytes′ : List ℕ) (verdict : Verdict) {t : RowText} → rowText (getD rows i (Key 0)) (drop used key) (getD cells i 0) ≡ t
         → ((rest : Laid) → textThen t i rest ≡ record { bytes = []; verdict = verdict }) → take at bytes′ ≡ take at bytes
         → WritesRows (writeRows 0 rows key cells) (record { verdict = verdict; bytes = bytes′ })
     stops bytes′ verdict e none same =

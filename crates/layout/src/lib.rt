@@ -1,22 +1,33 @@
-// The rows of each message: reading rows into cells, writing cells into rows, and the quote that cells hold.
+// The rows of each message: reading rows into cells, writing cells into rows.
 mod cells;
-mod quote;
 mod read;
-mod rows;
 mod write;
 
+pub use cells::Held;
 pub use cells::NONE;
-pub use quote::Order;
-pub use quote::PriceCell;
-pub use quote::QuantityCell;
-pub use quote::Quote;
-pub use quote::TurnoverCell;
-pub use quote::cells_of;
-pub use quote::quote_of;
+pub use cells::byte_in;
+pub use cells::cell_of;
+pub use cells::held_in;
+pub use forms::BARE;
+pub use forms::Chosen;
+pub use forms::Form;
+pub use forms::KEY_BYTES;
+pub use forms::KEY_ROWS;
+pub use forms::Level;
+pub use forms::MOST_DATA;
+pub use forms::MOST_ROWS;
+pub use forms::Named;
+pub use forms::Row;
+pub use forms::Subject;
+pub use forms::Sum;
+pub use forms::count_of;
+pub use forms::data_length;
+pub use forms::form_of;
+pub use forms::record_form;
+pub use forms::subject_of;
+pub use forms::sum_rule;
+pub use forms::written_form;
 pub use read::Verdict;
 pub use read::read_update;
-pub use rows::Level;
-pub use rows::Row;
-pub use rows::data_length;
 pub use write::put_front;
 pub use write::write_update;

@@ -1,17 +1,18 @@
 ghost use mathlib.Core.Path.{_≡_};
 ghost use Prim.Native.Nat.{_≤_};
 ghost use lib.ListN.{length, take};
-ghost use Rattle.layout.specs.Rows.{rowsOf};
+ghost use Rattle.forms.specs.Forms.{rowsOf};
+ghost use Rattle.forms.specs.Sizes.{mostRows};
 ghost use Rattle.layout.specs.Read.{readRow, ofNumber, isMarketType, isStatus, letterCell, ReadsRows};
 use crate::cells;
 use crate::cells::Held;
-use crate::rows;
-use crate::rows::Level;
-use crate::rows::Row;
 use amount::Number;
 use amount::Price;
 use amount::Quantity;
 use amount::Turnover;
+use forms::Form;
+use forms::MOST_ROWS;
+use forms::Row;
 
 // A row's field as read: its cell, or what is wrong with it.
 pub enum RowRead {
@@ -64,7 +65,7 @@ fn read_row(row: Row, field: &[u8]) -> RowRead
     ensures { λ r. ⌜ r ≡ readRow row (now (field .entry)) ⌝ }
 {
     match row {
-        Row::Text(_) => RowRead::Cell(0),
+        Row::Key(_) => RowRead::Cell(0),
         Row::MarketType => market_type(wire::u8_at(field, 0)),
         Row::Status => status(wire::u8_at(field, 0)),
         Row::Price(_) => of_number(Price::read(field)),
@@ -74,15 +75,20 @@ fn read_row(row: Row, field: &[u8]) -> RowRead
 }
 
 // The rows in turn, each with the bytes behind those of the row before it. It knows no layout: rows are data.
-fn read_rows(rows: [Row; 37], count: usize, data: &[u8], cells: &mut [u64; 37]) -> Verdict
-    requires { ⌜ (count ≤ 37) × (count ≤ length rows) ⌝ }
+fn read_rows(
+    rows: [Row; MOST_ROWS],
+    count: usize,
+    data: &[u8],
+    cells: &mut [u64; MOST_ROWS],
+) -> Verdict
+    requires { ⌜ (count ≤ mostRows) × (count ≤ length rows) ⌝ }
     ensures { λ r. ⌜ ReadsRows (take count rows) (now («data» .entry)) (now (cells .entry)) r (now (cells .exit)) ⌝ }
 {
     let mut at = 0;
     let mut i = 0;
     while i < count {
         let row = rows[i];
-        let end = at + rows::least(rows::width_of(row), data.len() - at);
+        let end = at + wire::least(forms::width_of(row), data.len() - at);
         match read_row(row, &data[at..end]) {
             RowRead::Cell(cell) => {
                 cells[i] = cell;
@@ -100,9 +106,9 @@ fn read_rows(rows: [Row; 37], count: usize, data: &[u8], cells: &mut [u64; 37]) 
     Verdict::Good
 }
 
-// The rows of an update of that level, a cell each: those of the good rows in front of the first bad one are stored.
-pub fn read_update(level: Level, data: &[u8], cells: &mut [u64; 37]) -> Verdict
-    ensures { λ r. ⌜ ReadsRows (rowsOf level) (now («data» .entry)) (now (cells .entry)) r (now (cells .exit)) ⌝ }
+// The rows of that form, a cell each: those of the good rows in front of the first bad one are stored.
+pub fn read_update(form: Form, data: &[u8], cells: &mut [u64; MOST_ROWS]) -> Verdict
+    ensures { λ r. ⌜ ReadsRows (rowsOf form) (now («data» .entry)) (now (cells .entry)) r (now (cells .exit)) ⌝ }
 {
-    read_rows(rows::rows_of(level), rows::count_of(level), data, cells)
+    read_rows(forms::rows_of(form), forms::count_of(form), data, cells)
 }

@@ -3,19 +3,22 @@ ghost use mathlib.Core.List.{[], _∷_};
 ghost use Prim.Native.Nat.{_≤_};
 ghost use lib.ListN.{length, take};
 ghost use Rattle.amount.specs.Write.{blankText};
-ghost use Rattle.layout.specs.Rows.{rowsOf, widthOf, dataLength};
+ghost use Rattle.forms.specs.Forms.{rowsOf};
+ghost use Rattle.forms.specs.Rows.{widthOf, dataLength};
+ghost use Rattle.forms.specs.Sizes.{mostRows, mostData};
 ghost use Rattle.layout.specs.Read.{isMarketType, isStatus};
-ghost use Rattle.layout.specs.Write.{text, allPrintable, keyText, letterText, rowText, ofPut, PutsRow, laid, keyUsed, writeRows, WritesRows, WritesUpdate};
+ghost use Rattle.layout.specs.Write.{text, keyText, letterText, rowText, ofPut, PutsRow, overFront, keyUsed, writeRows, WritesRows, WritesUpdate};
 use crate::cells;
 use crate::cells::Held;
 use crate::read::Verdict;
-use crate::rows;
-use crate::rows::Level;
-use crate::rows::Row;
 use amount::Price;
 use amount::Put;
 use amount::Quantity;
 use amount::Turnover;
+use forms::Form;
+use forms::MOST_DATA;
+use forms::MOST_ROWS;
+use forms::Row;
 
 // What becomes of one row's field: it is filled, or what is wrong with what is to be written.
 pub enum RowPut {
@@ -27,31 +30,14 @@ pub enum RowPut {
 // What writing rows gives: the verdict, and in front the bytes of the good rows before the first bad one.
 struct RowsWritten {
     verdict: Verdict,
-    bytes: [u8; 494],
-}
-
-fn all_printable(text: &[u8]) -> bool
-    ensures { λ r. ⌜ r ≡ allPrintable (now (text .entry)) ⌝ }
-{
-    let mut i = 0;
-    while i < text.len() {
-        let byte = text[i];
-        if byte < 32 {
-            return false;
-        }
-        if 126 < byte {
-            return false;
-        }
-        i += 1;
-    }
-    true
+    bytes: [u8; MOST_DATA],
 }
 
 // As much of the text as there is room for, from the front.
 pub fn put_front(text: &[u8], field: &mut [u8])
-    ensures { λ _. ⌜ now (field .exit) ≡ laid (now (text .entry)) (now (field .entry)) ⌝ }
+    ensures { λ _. ⌜ now (field .exit) ≡ overFront (now (text .entry)) (now (field .entry)) ⌝ }
 {
-    let n = rows::least(text.len(), field.len());
+    let n = wire::least(text.len(), field.len());
     let mut i = 0;
     while i < n {
         field[i] = text[i];
@@ -67,7 +53,7 @@ fn put_key(key: &[u8], field: &mut [u8]) -> RowPut
     if key.len() < width {
         return RowPut::Field;
     }
-    if !all_printable(&key[..width]) {
+    if !wire::all_printable(&key[..width]) {
         return RowPut::Field;
     }
     put_front(&key[..width], field);
@@ -127,7 +113,7 @@ fn put_row(row: Row, key: &[u8], cell: u64, field: &mut [u8]) -> RowPut
     ensures { λ r. ⌜ PutsRow (rowText row (now (key .entry)) cell) (now (field .entry)) r (now (field .exit)) ⌝ }
 {
     match row {
-        Row::Text(_) => put_key(key, field),
+        Row::Key(_) => put_key(key, field),
         Row::MarketType => put_market_type(cell, field),
         Row::Status => put_status(cell, field),
         Row::Price(_) => match cells::held_in(cell) {
@@ -150,7 +136,7 @@ fn key_used(row: Row) -> usize
     ensures { λ r. ⌜ r ≡ keyUsed row ⌝ }
 {
     match row {
-        Row::Text(width) => width,
+        Row::Key(width) => width,
         Row::MarketType => 0,
         Row::Status => 0,
         Row::Price(_) => 0,
@@ -160,17 +146,22 @@ fn key_used(row: Row) -> usize
 }
 
 // The rows in turn, each behind the bytes of the row before it. It knows no layout: rows are data.
-fn write_rows(rows: [Row; 37], count: usize, key: &[u8], cells: &[u64; 37]) -> RowsWritten
-    requires { ⌜ (count ≤ 37) × (count ≤ length rows) × (dataLength (take count rows) ≤ 494) ⌝ }
+fn write_rows(
+    rows: [Row; MOST_ROWS],
+    count: usize,
+    key: &[u8],
+    cells: &[u64; MOST_ROWS],
+) -> RowsWritten
+    requires { ⌜ (count ≤ mostRows) × (count ≤ length rows) × (dataLength (take count rows) ≤ mostData) ⌝ }
     ensures { λ r. ⌜ WritesRows (writeRows 0 (take count rows) (now (key .entry)) (now (cells .entry))) r ⌝ }
 {
-    let mut bytes = [0u8; 494];
+    let mut bytes = [0u8; MOST_DATA];
     let mut at = 0;
     let mut used = 0;
     let mut i = 0;
     while i < count {
         let row = rows[i];
-        let end = at + rows::width_of(row);
+        let end = at + forms::width_of(row);
         match put_row(row, &key[used..], cells[i], &mut bytes[at..end]) {
             RowPut::Fits => {}
             RowPut::Field => {
@@ -186,7 +177,7 @@ fn write_rows(rows: [Row; 37], count: usize, key: &[u8], cells: &[u64; 37]) -> R
                 };
             }
         }
-        used += rows::least(key_used(row), key.len() - used);
+        used += wire::least(key_used(row), key.len() - used);
         at = end;
         i += 1;
     }
@@ -196,11 +187,11 @@ fn write_rows(rows: [Row; 37], count: usize, key: &[u8], cells: &[u64; 37]) -> R
     }
 }
 
-// An update of that level. The data is written once every row is known to be good.
-pub fn write_update(level: Level, key: &[u8], cells: &[u64; 37], data: &mut [u8]) -> Verdict
-    ensures { λ r. ⌜ WritesUpdate (writeRows 0 (rowsOf level) (now (key .entry)) (now (cells .entry))) (now («data» .entry)) r (now («data» .exit)) ⌝ }
+// The rows of that form. The data is written once every row is known to be good.
+pub fn write_update(form: Form, key: &[u8], cells: &[u64; MOST_ROWS], data: &mut [u8]) -> Verdict
+    ensures { λ r. ⌜ WritesUpdate (writeRows 0 (rowsOf form) (now (key .entry)) (now (cells .entry))) (now («data» .entry)) r (now («data» .exit)) ⌝ }
 {
-    let written = write_rows(rows::rows_of(level), rows::count_of(level), key, cells);
+    let written = write_rows(forms::rows_of(form), forms::count_of(form), key, cells);
     let verdict = written.verdict;
     match verdict {
         Verdict::Good => {}
@@ -212,7 +203,7 @@ pub fn write_update(level: Level, key: &[u8], cells: &[u64; 37], data: &mut [u8]
         }
     }
     let bytes = written.bytes;
-    let length = rows::data_length(level);
+    let length = forms::data_length(form);
     put_front(&bytes[..length], data);
     verdict
 }

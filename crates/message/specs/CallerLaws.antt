@@ -9,37 +9,41 @@ use lib.Seq.{sets, length-sets}
 use Rattle.laws.specs.Choice.{never}
 use Rattle.layout.specs.declared.read.Verdict.{Verdict}
 use Rattle.layout.specs.declared.read.Verdict.the-variants as verdict
-use Rattle.layout.specs.declared.rows.Level.{Level}
-use Rattle.layout.specs.Cells.{filled}
+use Rattle.forms.specs.declared.forms.Form.{Form}
+use Rattle.forms.specs.declared.forms.Named.{Named}
+use Rattle.forms.specs.declared.forms.Named.the-variants as is
+use Rattle.forms.specs.declared.forms.Subject.{Subject}
+use Rattle.forms.specs.declared.forms.Subject.the-variants.{Nothing, Contract}
+use Rattle.contracts.specs.Lookup.{segmentOf}
+use Rattle.layout.specs.Cells.{zerosBehind}
 use Rattle.layout.specs.Read.{readRows}
 use Rattle.layout.specs.ReadLaws.{front-stored}
-use Rattle.layout.specs.Rows.{rowsOf, messageLength}
-use Rattle.layout.specs.RowsLaws.{rows-fit}
+use Rattle.forms.specs.Sizes.{mostRows}
+use Rattle.forms.specs.Rows.{messageLength}
+use Rattle.forms.specs.Forms.{rowsOf, subjectOf, formsOf, formOf}
+use Rattle.forms.specs.FormsLaws.{fits, told-form}
 use Rattle.message.specs.declared.body.What.{What}
 use Rattle.message.specs.declared.body.What.the-variants as what
-use Rattle.message.specs.declared.codes.Kind.{Kind}
-use Rattle.message.specs.declared.codes.Kind.the-variants.{Heartbeat, Update, PassedOver}
 use Rattle.message.specs.declared.head.Head.{Head}
 use Rattle.message.specs.declared.head.Head.the-variants.{Good, Bad}
-use Rattle.message.specs.Codes.{levelOf}
-use Rattle.message.specs.Good.{GoodMessage, HasLength, HasNumber, HasContract}
-use Rattle.message.specs.Fields.{kindIn, lengthOf, numberOf, dataOf}
+use Rattle.message.specs.Good.{GoodMessage, NumberFor, HasNumber, PlaceFor, HasContract}
+use Rattle.message.specs.Fields.{letterOf, secondOf, formIn, lengthOf, numberOf, dataOf}
 use Rattle.message.specs.Head.{headOf}
-use Rattle.message.specs.CodesLaws.{level-back}
-use Rattle.message.specs.Message.{keyOf, keyPlace, rowsRead, ofKind, ofVerdict, contentsOf, messageOf}
+use Rattle.message.specs.Message.{TellsOfContract, messageKey, keyPlace, rowsRead, ofSubject, ofNamed, ofVerdict, contentsBy, contentsOf, messageOf}
 use Rattle.message.specs.MessageLaws.{good-head, bad-head, length-is}
 use Rattle.message.specs.Numbers.{verdictOf, numberIn}
 use Rattle.message.specs.GoodLaws.{good-exact}
 use Rattle.message.specs.RulesLaws.{unlike}
 
 -- what an update with no fault is, in the terms of its bytes
-pub record IsUpdate (list : List ℕ) (letter : ℕ) (bytes : List ℕ) (number : ℕ) (level : Level) (place : ℕ) : Type 0 where
-  pub kind-is : kindIn bytes ≡ Update
+pub record IsUpdate (list : List ℕ) (letter : ℕ) (bytes : List ℕ) (number : ℕ) (form : Form) (place : ℕ) : Type 0 where
+  pub form-is : formIn bytes ≡ is.Form form
+  pub tells : TellsOfContract form
   pub number-is : numberOf bytes ≡ number
-  pub level-is : lengthOf bytes ≡ messageLength (rowsOf level)
-  pub place-is : keyPlace list letter (keyOf bytes) ≡ some place
-  pub rows-good : readRows 0 (rowsOf level) (dataOf bytes) .verdict ≡ verdict.Good
-  pub cells-are : messageOf list letter bytes .cells ≡ filled (readRows 0 (rowsOf level) (dataOf bytes) .cells)
+  pub length-is : lengthOf bytes ≡ messageLength (rowsOf form)
+  pub place-is : keyPlace list letter (messageKey bytes) ≡ some place
+  pub rows-good : readRows 0 (rowsOf form) (dataOf bytes) .verdict ≡ verdict.Good
+  pub cells-are : messageOf list letter bytes .cells ≡ zerosBehind (readRows 0 (rowsOf form) (dataOf bytes) .cells)
 
 -- a verdict that leaves no fault is good
 rows-pass : (v : Verdict) (w : What) → verdictOf (ofVerdict v w) ≡ Good → v ≡ verdict.Good
@@ -48,31 +52,47 @@ rows-pass (verdict.Field row) w e = absurd (unlike e)
 rows-pass (verdict.Range row) w e = absurd (unlike e)
 
 -- a message counts in the sequence by its number field
-module _ (level : Level) where
-  kind-number : (kind : Kind) (number : ℕ) (place : Option ℕ) → HasNumber kind number → HasContract kind place
-      → numberIn (ofKind kind number level place) ≡ number
-  kind-number Heartbeat number place h k = sym h
-  kind-number PassedOver number place h k = refl
-  kind-number Update number none h k = absurd (never (k .1))
-  kind-number Update number (some p) h k = refl
+subject-number : (subject : Subject) (number : ℕ) (form : Form) (place : Option ℕ) → NumberFor subject number → PlaceFor subject place
+    → numberIn (ofSubject subject number form place) ≡ number
+subject-number Nothing number form place h k = sym h
+subject-number (Contract level) number form none h k = absurd (never (k .1))
+subject-number (Contract level) number form (some p) h k = refl
+
+named-number : (named : Named) (number : ℕ) (place : Option ℕ) → HasNumber named number → HasContract named place → numberIn (ofNamed named number place) ≡ number
+named-number (is.Form form) number place h k = subject-number (subjectOf form) number form place h k
+named-number is.NoLength number place h k = refl
+named-number is.PassedOver number place h k = refl
 
 -- only an update with its key listed is answered as one
-kind-update : (kind : Kind) (n : ℕ) (l : Level) (found : Option ℕ) {number : ℕ} {level : Level} {place : ℕ}
-    → ofKind kind n l found ≡ what.Update number level place → (kind ≡ Update) × (n ≡ number) × (l ≡ level) × (found ≡ some place)
-kind-update Heartbeat n l found e = ((cc), (cc), (cc), (cc))
-kind-update PassedOver n l found e = ((cc), (cc), (cc), (cc))
-kind-update Update n l none e = (refl, (cc), (cc), (cc))
-kind-update Update n l (some k) e = (refl, (cc), (cc), (cc))
+pub record ToldUpdate (named : Named) (n : ℕ) (found : Option ℕ) (number : ℕ) (form : Form) (place : ℕ) : Type 0 where
+  pub named-is : named ≡ is.Form form
+  pub tells : TellsOfContract form
+  pub number-is : n ≡ number
+  pub found-is : found ≡ some place
+
+subject-update : (subject : Subject) (own : Form) → subjectOf own ≡ subject → (n : ℕ) (found : Option ℕ) {number : ℕ} {form : Form} {place : ℕ}
+    → ofSubject subject n own found ≡ what.Update number form place → ToldUpdate (is.Form own) n found number form place
+subject-update Nothing own s n found e = absurd (let z : _≡_ {A = ℕ} 0 1 = cc in omega arith)
+subject-update (Contract level) own s n none e = absurd (let z : _≡_ {A = ℕ} 0 1 = cc in omega arith)
+subject-update (Contract level) own s n (some k) {form = form} e =
+    let same : own ≡ form = cc in
+    record { named-is = ap is.Form same; tells = (level, rw (← same) s); number-is = cc; found-is = cc }
+
+named-update : (named : Named) (n : ℕ) (found : Option ℕ) {number : ℕ} {form : Form} {place : ℕ}
+    → ofNamed named n found ≡ what.Update number form place → ToldUpdate named n found number form place
+named-update (is.Form own) n found e = subject-update (subjectOf own) own refl n found e
+named-update is.NoLength n found e = absurd (let z : _≡_ {A = ℕ} 0 1 = cc in omega arith)
+named-update is.PassedOver n found e = absurd (let z : _≡_ {A = ℕ} 0 1 = cc in omega arith)
 
 module _ (list : List ℕ) (letter : ℕ) (bytes : List ℕ) (good : verdictOf (messageOf list letter bytes .what) ≡ Good) where
   rules : GoodMessage list letter bytes
   rules = good-exact list letter bytes .0 good
 
   -- its head is good, so that it is its contents
-  pub head-good : headOf list letter bytes ≡ Good
-  head-good = go (headOf list letter bytes) refl
+  pub head-good : headOf letter (segmentOf list letter) bytes ≡ Good
+  head-good = go (headOf letter (segmentOf list letter) bytes) refl
     where
-      go : (h : Head) → headOf list letter bytes ≡ h → headOf list letter bytes ≡ Good
+      go : (h : Head) → headOf letter (segmentOf list letter) bytes ≡ h → headOf letter (segmentOf list letter) bytes ≡ Good
       go Good e = e
       go (Bad fault) e = absurd (unlike (sym (ap (λ m. verdictOf (m .what)) (bad-head list letter bytes fault e)) ∙ good))
 
@@ -84,40 +104,43 @@ module _ (list : List ℕ) (letter : ℕ) (bytes : List ℕ) (good : verdictOf (
   all-there = rw (length-is list letter bytes) (rules .frame .within)
 
   rows-good : rowsRead bytes .verdict ≡ verdict.Good
-  unfolding contentsOf
+  unfolding contentsBy
   rows-good = rows-pass (rowsRead bytes .verdict) _ (sym (ap (λ m. verdictOf (m .what)) contents-good) ∙ good)
 
-  what-is : messageOf list letter bytes .what ≡ ofKind (kindIn bytes) (numberOf bytes) (levelOf (lengthOf bytes)) (keyPlace list letter (keyOf bytes))
-  unfolding contentsOf
+  what-is : messageOf list letter bytes .what ≡ ofNamed (formIn bytes) (numberOf bytes) (keyPlace list letter (messageKey bytes))
+  unfolding contentsBy
   what-is = ap (λ m. m .what) contents-good ∙ rw rows-good
+
+  -- the form that it has is as long
+  form-length : (form : Form) → formIn bytes ≡ is.Form form → lengthOf bytes ≡ messageLength (rowsOf form)
+  unfolding formIn formOf
+  form-length form e = told-form (formsOf (letterOf bytes) (secondOf bytes)) (lengthOf bytes) form e .1
 
   -- its number is the number field
   pub number-is : numberIn (messageOf list letter bytes .what) ≡ numberOf bytes
   number-is =
-      ap numberIn what-is ∙ kind-number (levelOf (lengthOf bytes)) (kindIn bytes) (numberOf bytes) (keyPlace list letter (keyOf bytes)) (rules .numbering) (rules .contract)
+      ap numberIn what-is ∙ named-number (formIn bytes) (numberOf bytes) (keyPlace list letter (messageKey bytes)) (rules .numbering) (rules .contract)
 
-  pub update-told : (number : ℕ) (level : Level) (place : ℕ) → messageOf list letter bytes .what ≡ what.Update number level place
-      → IsUpdate list letter bytes number level place
-  unfolding contentsOf
-  update-told number level place e =
-      let p = kind-update (kindIn bytes) (numberOf bytes) (levelOf (lengthOf bytes)) (keyPlace list letter (keyOf bytes)) (sym what-is ∙ e) in
-      let long : HasLength Update (lengthOf bytes) = rw (p .0) at (rules .length-of-kind) in
-      let same : long .0 ≡ level = sym (level-back (long .0)) ∙ ap levelOf (sym (long .1)) ∙ p .2 in
+  pub update-told : (number : ℕ) (form : Form) (place : ℕ) → messageOf list letter bytes .what ≡ what.Update number form place
+      → IsUpdate list letter bytes number form place
+  unfolding contentsBy
+  update-told number form place e =
+      let p = named-update (formIn bytes) (numberOf bytes) (keyPlace list letter (messageKey bytes)) (sym what-is ∙ e) in
       record {
-        kind-is = p .0;
-        number-is = p .1;
-        level-is = rw (← same) (long .1);
-        place-is = p .3;
-        rows-good = rw (p .0, p .2) at rows-good;
-        cells-are = rw (p .0, p .2) at (ap (λ m. m .cells) contents-good);
+        form-is = p .named-is;
+        tells = p .tells;
+        number-is = p .number-is;
+        length-is = form-length form (p .named-is);
+        place-is = p .found-is;
+        rows-good = rw (p .named-is) at rows-good;
+        cells-are = rw (p .named-is) at (ap (λ m. m .cells) contents-good);
       }
 
   -- lent cells in which its rows are stored have its cells in front
-  pub cells-stored : (cells cells′ : List ℕ) → cells′ ≡ sets cells 0 (rowsRead bytes .cells) → length cells′ ≡ 37 → (number : ℕ) (level : Level) (place : ℕ)
-      → messageOf list letter bytes .what ≡ what.Update number level place
-      → take (length (rowsOf level)) cells′ ≡ take (length (rowsOf level)) (messageOf list letter bytes .cells)
-  cells-stored cells cells′ stored long number level place e =
-      let u = update-told number level place e in
-      let level-is : levelOf (lengthOf bytes) ≡ level = ap levelOf (u .level-is) ∙ level-back level in
+  pub cells-stored : (cells cells′ : List ℕ) → cells′ ≡ sets cells 0 (rowsRead bytes .cells) → length cells′ ≡ mostRows → (number : ℕ) (form : Form) (place : ℕ)
+      → messageOf list letter bytes .what ≡ what.Update number form place
+      → take (length (rowsOf form)) cells′ ≡ take (length (rowsOf form)) (messageOf list letter bytes .cells)
+  cells-stored cells cells′ stored long number form place e =
+      let u = update-told number form place e in
       let same : length cells′ ≡ length cells = ap length stored ∙ length-sets cells 0 (rowsRead bytes .cells) in
-      rw (stored, u .cells-are, u .kind-is, level-is) (front-stored (rowsOf level) (dataOf bytes) cells (omega (arith, rows-fit level)) (u .rows-good))
+      rw (stored, u .cells-are, u .form-is) (front-stored (rowsOf form) (dataOf bytes) cells (omega (arith, fits form .rows-fit)) (u .rows-good))

@@ -4,21 +4,22 @@ use mathlib.Core.Path.{_≡_, refl}
 use mathlib.Core.List.{List, [], _∷_, _++_, map}
 use lib.ListN.{replicate}
 use Rattle.wire.specs.Checksum.{bitStep, byteStep}
-use Rattle.amount.specs.Read.{step, walk, readText}
-use Rattle.contracts.specs.File.{keySize, segmentsOf, letterAt, countAt, offsetAt, keyFrom}
+use Rattle.amount.specs.Kinds.{readAs}
+use Rattle.amount.specs.Read.{step, walk}
+use Rattle.contracts.specs.File.{segmentsOf, letterAt, countAt, offsetAt, keyFrom}
 use Rattle.contracts.specs.Halving.{halvedIn}
 use Rattle.contracts.specs.Lookup.{segmentOf, lookup}
 use Rattle.layout.specs.Read.{readRow}
-use Rattle.layout.specs.Rows.{rowsOf}
-use Rattle.message.specs.Codes.{takesLength, levelOf}
-use Rattle.message.specs.Fields.{letterOf, secondOf, lengthOf, numberOf, dataOf, sumSent, endByte, kindIn, rightSum}
+use Rattle.forms.specs.Sizes.{keyBytes}
+use Rattle.forms.specs.Forms.{namedRows, rowsOf, formsOf, formOf, sumRule}
+use Rattle.message.specs.Fields.{letterOf, secondOf, lengthOf, numberOf, dataOf, sumSent, endByte, formIn, sumIn, rightSum}
 use Rattle.message.specs.Head.{framed, coded, trailed, summed, headOf}
-use Rattle.message.specs.Message.{keyOf, keyPlace, contentsOf, messageOf}
+use Rattle.message.specs.Message.{messageKey, keyPlace, contentsBy, messageOf}
 use Rattle.message.specs.Numbers.{whatNumbers}
 
 -- 01 "The contract list": one contract, whose key is one byte throughout, makes 49 bytes with offset 10
 abbrev pub listOf : ℕ → List ℕ
-listOf letter = 0 ∷ 1 ∷ letter ∷ 0 ∷ 0 ∷ 1 ∷ 0 ∷ 0 ∷ 0 ∷ 10 ∷ replicate keySize 65
+listOf letter = 0 ∷ 1 ∷ letter ∷ 0 ∷ 0 ∷ 1 ∷ 0 ∷ 0 ∷ 0 ∷ 10 ∷ replicate keyBytes 65
 
 -- 01 "The contract list": the letter D
 abbrev pub D : ℕ
@@ -46,7 +47,7 @@ short second number sum end = D ∷ second ∷ 0 ∷ 11 ∷ 0 ∷ 0 ∷ 0 ∷ nu
 -- and its sum
 abbrev pub update : List ℕ → ℕ → ℕ → ℕ → List ℕ → List ℕ
 update long byte market blank sum =
-    D ∷ 0x4E ∷ long ++ (0 ∷ 0 ∷ 0 ∷ 7 ∷ replicate keySize byte) ++ (market ∷ replicate blank 32) ++ sum ++ (13 ∷ [])
+    D ∷ 0x4E ∷ long ++ (0 ∷ 0 ∷ 0 ∷ 7 ∷ replicate keyBytes byte) ++ (market ∷ replicate blank 32) ++ sum ++ (13 ∷ [])
 
 -- 01, the table of refusals: what is answered in the paper's numbers, and the length
 abbrev pub answered : Given → List ℕ
@@ -88,5 +89,5 @@ answers =
     []
 
 pub messages-answered : map answered messages ≡ answers
-unfolding bitStep byteStep step walk readText segmentsOf letterAt countAt offsetAt keyFrom halvedIn segmentOf lookup readRow rowsOf takesLength levelOf letterOf secondOf lengthOf numberOf dataOf sumSent endByte kindIn rightSum framed coded trailed summed headOf keyOf keyPlace contentsOf messageOf
+unfolding bitStep byteStep step walk readAs segmentsOf letterAt countAt offsetAt keyFrom halvedIn segmentOf lookup readRow namedRows rowsOf formsOf formOf sumRule letterOf secondOf lengthOf numberOf dataOf sumSent endByte formIn sumIn rightSum framed coded trailed summed headOf messageKey keyPlace contentsBy messageOf
 messages-answered = refl

@@ -4,8 +4,10 @@ use mathlib.Core.List.{List, [], _∷_}
 use lib.ListN.{take, drop}
 use Rattle.wire.specs.Number.{numberAt}
 use Rattle.wire.specs.Checksum.{checksumOf}
-use Rattle.message.specs.declared.codes.Kind.{Kind}
-use Rattle.message.specs.Codes.{kindOf, bareLength}
+use Rattle.forms.specs.declared.forms.Named.{Named}
+use Rattle.forms.specs.declared.forms.Sum.{Sum}
+use Rattle.forms.specs.Sizes.{bareLength}
+use Rattle.forms.specs.Forms.{formOf, sumRule}
 
 -- 01 "The message": code (2), length (2) and sequence number (4) stand before the data
 abbrev pub dataAt : ℕ
@@ -39,9 +41,13 @@ sumSent bytes = numberAt 1 bytes (lengthOf bytes - 3) ∷ numberAt 1 bytes (leng
 unfoldable pub endByte : List ℕ → ℕ
 endByte bytes = numberAt 1 bytes (lengthOf bytes - 1)
 
--- 01 "The message": what the table says of the code
-unfoldable pub kindIn : List ℕ → Kind
-kindIn bytes = kindOf (secondOf bytes)
+-- 01 "The message": what the code and the length name in the table
+unfoldable pub formIn : List ℕ → Named
+formIn bytes = formOf (letterOf bytes) (secondOf bytes) (lengthOf bytes)
+
+-- 01 "The checksum": what the table says of the code's sum
+unfoldable pub sumIn : List ℕ → Sum
+sumIn bytes = sumRule (letterOf bytes) (secondOf bytes)
 
 -- 01 "The checksum": by the routine, over all bytes before the trailer
 unfoldable pub rightSum : List ℕ → List ℕ

@@ -8,12 +8,14 @@ use lib.Seq.{length-take-le, take-take}
 use Rattle.laws.specs.Lists.{part-of-front}
 use Rattle.wire.specs.NumberLaws.{number-of-front}
 use Rattle.wire.specs.Number.{numberAt}
-use Rattle.message.specs.Codes.{bareLength, kindOf}
+use mathlib.Core.Option.{Option}
+use Rattle.contracts.specs.Lookup.{segmentOf}
+use Rattle.forms.specs.Sizes.{bareLength}
 use Rattle.message.specs.Good.{Framed}
-use Rattle.message.specs.Fields.{dataAt, letterOf, secondOf, lengthOf, numberOf, dataOf, sumSent, endByte, kindIn, rightSum}
+use Rattle.message.specs.Fields.{dataAt, letterOf, secondOf, lengthOf, numberOf, dataOf, sumSent, endByte, formIn, sumIn, rightSum}
 use Rattle.message.specs.Head.{framed, coded, trailed, summed, headOf}
 use Rattle.message.specs.HeadLaws.{framed-exact}
-use Rattle.message.specs.Message.{keyOf, contentsOf, messageOf}
+use Rattle.message.specs.Message.{messageKey, contentsBy, contentsOf, messageOf}
 
 -- the length stands in the first four bytes
 front-length : (s : List ℕ) (n : ℕ) → 4 ≤ n → lengthOf (take n s) ≡ lengthOf s
@@ -43,9 +45,13 @@ module _ (bytes : List ℕ) (f : Framed bytes) where
   unfolding numberOf
   sequence-same = number-same 4 4 (omega arith)
 
-  kind-same : kindIn (ownBytes bytes) ≡ kindIn bytes
-  unfolding kindIn
-  kind-same = ap kindOf second-same
+  form-same : formIn (ownBytes bytes) ≡ formIn bytes
+  unfolding formIn
+  form-same = rw (letter-same, second-same, length-same)
+
+  sum-same : sumIn (ownBytes bytes) ≡ sumIn bytes
+  unfolding sumIn
+  sum-same = rw (letter-same, second-same)
 
   end-same : endByte (ownBytes bytes) ≡ endByte bytes
   unfolding endByte
@@ -71,22 +77,23 @@ module _ (bytes : List ℕ) (f : Framed bytes) where
   framed-same : framed (ownBytes bytes) ≡ framed bytes
   framed-same = framed-exact (ownBytes bytes) .1 own-framed ∙ sym (framed-exact bytes .1 f)
 
-  module _ (list : List ℕ) (letter : ℕ) where
-    coded-same : coded list letter (ownBytes bytes) ≡ coded list letter bytes
+  module _ (letter : ℕ) (segment : Option ℕ) where
+    coded-same : coded letter segment (ownBytes bytes) ≡ coded letter segment bytes
     unfolding coded
     coded-same = rw (letter-same, second-same)
 
-    head-same : headOf list letter (ownBytes bytes) ≡ headOf list letter bytes
+    head-same : headOf letter segment (ownBytes bytes) ≡ headOf letter segment bytes
     unfolding headOf trailed summed
-    head-same = rw (framed-same, coded-same, end-same, kind-same, length-same, sent-same, right-same, sequence-same)
+    head-same = rw (framed-same, coded-same, end-same, form-same, sum-same, sent-same, right-same, sequence-same)
 
+  module _ (list : List ℕ) (letter : ℕ) where
     pub contents-same : contentsOf list letter (ownBytes bytes) ≡ contentsOf list letter bytes
-    unfolding contentsOf keyOf
-    contents-same = rw (kind-same, length-same, data-same, sequence-same)
+    unfolding contentsBy messageKey
+    contents-same = rw (form-same, length-same, data-same, sequence-same)
 
     pub message-same : messageOf list letter (ownBytes bytes) ≡ messageOf list letter bytes
     unfolding messageOf
-    message-same = rw (head-same, length-same, contents-same)
+    message-same = rw (head-same letter (segmentOf list letter), length-same, contents-same)
 
 -- two strings that begin with the same message
 module _ (a b : List ℕ) (f : Framed a) (there : lengthOf a ≤ length b) (same : take (lengthOf a) a ≡ take (lengthOf a) b) where

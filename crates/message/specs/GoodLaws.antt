@@ -12,20 +12,23 @@ use Rattle.laws.specs.Rules.{Hold}
 use Rattle.laws.specs.RulesLaws.{hold-append}
 use Rattle.layout.specs.declared.read.RowRead.{RowRead}
 use Rattle.layout.specs.declared.read.RowRead.the-variants.{Cell, Field, Range}
-use Rattle.layout.specs.declared.rows.Row.{Row}
+use Rattle.forms.specs.declared.rows.Row.{Row}
 use Rattle.layout.specs.FirstBad.{rowAt, fieldAt}
 use Rattle.layout.specs.Read.{readRow}
-use Rattle.layout.specs.Rows.{widthOf, offsetOf}
-use Rattle.message.specs.declared.codes.Kind.{Kind}
-use Rattle.message.specs.declared.codes.Kind.the-variants.{Heartbeat, Update, PassedOver}
-use Rattle.message.specs.Good.{GoodMessage, GoodRows, HasContract}
-use Rattle.message.specs.Fields.{lengthOf, numberOf, dataOf, kindIn}
+use Rattle.forms.specs.Rows.{widthOf, offsetOf}
+use Rattle.forms.specs.declared.forms.Named.{Named}
+use Rattle.forms.specs.declared.forms.Named.the-variants as is
+use Rattle.forms.specs.declared.forms.Subject.{Subject}
+use Rattle.forms.specs.declared.forms.Subject.the-variants.{Nothing, Contract}
+use Rattle.contracts.specs.Lookup.{segmentOf}
+use Rattle.forms.specs.Forms.{subjectOf}
+use Rattle.message.specs.Good.{GoodMessage, GoodRows, PlaceFor, HasContract}
+use Rattle.message.specs.Fields.{numberOf, dataOf, formIn}
 use Rattle.message.specs.Head.{headRules}
-use Rattle.message.specs.CodesLaws.{length-exact}
-use Rattle.message.specs.HeadLaws.{framed-exact, coded-exact, trailed-exact, summed-exact, number-exact}
+use Rattle.message.specs.HeadLaws.{framed-exact, coded-exact, trailed-exact, length-exact, summed-exact, number-exact}
 use Rattle.message.specs.declared.head.Head.the-variants.{Good}
-use Rattle.message.specs.Message.{keyOf, keyPlace, rowsIn, messageOf}
-use Rattle.message.specs.Order.{isFormed, isInRange, rowRules, keyRules, bodyRules, messageRules}
+use Rattle.message.specs.Message.{messageKey, keyPlace, rowsIn, messageOf}
+use Rattle.message.specs.Order.{isFormed, isInRange, rowRules, subjectRules, keyRules, bodyRules, messageRules}
 use Rattle.message.specs.Numbers.{verdictOf}
 use Rattle.message.specs.OrderLaws.{message-first}
 use Rattle.message.specs.RulesLaws.{good-hold, hold-good}
@@ -69,19 +72,23 @@ rows-exact i (row ∷ rows) bytes =
     )
 
 -- 13
-contract-exact : (kind : Kind) (place : Option ℕ) → Hold (keyRules kind place) ↔ HasContract kind place
-contract-exact Heartbeat place = ((λ h. tt), (λ h. tt))
-contract-exact PassedOver place = ((λ h. tt), (λ h. tt))
-contract-exact Update none = ((λ h. absurd (false≢true (h .0))), (λ h. (cc, tt)))
-contract-exact Update (some k) = ((λ h. (k, refl)), (λ h. (refl, tt)))
+subject-exact : (subject : Subject) (place : Option ℕ) → Hold (subjectRules subject place) ↔ PlaceFor subject place
+subject-exact Nothing place = ((λ h. tt), (λ h. tt))
+subject-exact (Contract level) none = ((λ h. absurd (false≢true (h .0))), (λ h. (cc, tt)))
+subject-exact (Contract level) (some k) = ((λ h. (k, refl)), (λ h. (refl, tt)))
+
+contract-exact : (named : Named) (place : Option ℕ) → Hold (keyRules named place) ↔ HasContract named place
+contract-exact (is.Form form) place = subject-exact (subjectOf form) place
+contract-exact is.NoLength place = ((λ h. tt), (λ h. tt))
+contract-exact is.PassedOver place = ((λ h. tt), (λ h. tt))
 
 module _ (list : List ℕ) (letter : ℕ) (bytes : List ℕ) where
   pub rules-exact : Hold (messageRules list letter bytes) ↔ GoodMessage list letter bytes
   rules-exact =
-      let head = hold-append (headRules list letter bytes) (bodyRules list letter bytes) in
-      let body = hold-append (rowRules 0 (rowsIn (kindIn bytes) (lengthOf bytes)) (dataOf bytes)) (keyRules (kindIn bytes) (keyPlace list letter (keyOf bytes))) in
-      let rows = rows-exact 0 (rowsIn (kindIn bytes) (lengthOf bytes)) (dataOf bytes) in
-      let key = contract-exact (kindIn bytes) (keyPlace list letter (keyOf bytes)) in (
+      let head = hold-append (headRules letter (segmentOf list letter) bytes) (bodyRules list letter bytes) in
+      let body = hold-append (rowRules 0 (rowsIn (formIn bytes)) (dataOf bytes)) (keyRules (formIn bytes) (keyPlace list letter (messageKey bytes))) in
+      let rows = rows-exact 0 (rowsIn (formIn bytes)) (dataOf bytes) in
+      let key = contract-exact (formIn bytes) (keyPlace list letter (messageKey bytes)) in (
         (λ h.
             let p = head .0 h in
             let q = body .0 (p .1) in
@@ -89,9 +96,9 @@ module _ (list : List ℕ) (letter : ℕ) (bytes : List ℕ) where
               frame = framed-exact bytes .0 (p .0 .0);
               code = coded-exact list letter bytes .0 (p .0 .1 .0);
               trailer = trailed-exact bytes .0 (p .0 .1 .1 .0);
-              length-of-kind = length-exact (kindIn bytes) (lengthOf bytes) .0 (p .0 .1 .1 .1 .0);
+              length-of-code = length-exact bytes .0 (p .0 .1 .1 .1 .0);
               checksum = summed-exact bytes .0 (p .0 .1 .1 .1 .1 .0);
-              numbering = number-exact (kindIn bytes) (numberOf bytes) .0 (p .0 .1 .1 .1 .1 .1 .0);
+              numbering = number-exact (formIn bytes) (numberOf bytes) .0 (p .0 .1 .1 .1 .1 .1 .0);
               rows = rows .0 (q .0);
               contract = key .0 (q .1);
             }),
@@ -99,9 +106,9 @@ module _ (list : List ℕ) (letter : ℕ) (bytes : List ℕ) where
             let five = framed-exact bytes .1 (g .frame) in
             let six = coded-exact list letter bytes .1 (g .code) in
             let seven = trailed-exact bytes .1 (g .trailer) in
-            let eight = length-exact (kindIn bytes) (lengthOf bytes) .1 (g .length-of-kind) in
+            let eight = length-exact bytes .1 (g .length-of-code) in
             let nine = summed-exact bytes .1 (g .checksum) in
-            let ten = number-exact (kindIn bytes) (numberOf bytes) .1 (g .numbering) in
+            let ten = number-exact (formIn bytes) (numberOf bytes) .1 (g .numbering) in
             head .1 ((five, (six, (seven, (eight, (nine, (ten, tt)))))), body .1 (rows .1 (g .rows), key .1 (g .contract)))),
       )
 

@@ -1,10 +1,11 @@
 -- Laws of the head: each rule's test in the paper's words.
 use Prim.Native.Nat.{ℕ, _-_}
-use mathlib.Core.Path.{_≡_, refl, ap₂}
-use mathlib.Core.Bool.{Bool, true, _&&_, and-true, false≢true}
-use mathlib.Core.Logic.{_↔_}
-use mathlib.Core.List.{List, [], _∷_}
+use mathlib.Core.Path.{_≡_, refl, ap, ap₂, sym, _∙_}
+use mathlib.Core.Bool.{Bool, true, false, _&&_, and-true, false≢true}
+use mathlib.Core.Logic.{_↔_, ⊎-elim}
+use mathlib.Core.List.{List, [], _∷_, List·Memᴰ, List·Memᴰ·cases-cons, List·Memᴰ·not-nil}
 use mathlib.Core.Option.{Option, none, some}
+use native.Mathlib.Omega.{arith}
 use lib.Dec.{eqb}
 use lib.ListN.{length}
 use borrow.Author.Tests.{eqb-true, eqb-false}
@@ -13,13 +14,21 @@ use Rattle.wire.specs.Number.{numberAt}
 use Rattle.contracts.specs.BelowLaws.{first-passes, none-passes}
 use Rattle.contracts.specs.File.{segmentsOf, letterAt}
 use Rattle.contracts.specs.Lookup.{segmentOf}
-use Rattle.message.specs.declared.codes.Kind.{Kind}
-use Rattle.message.specs.declared.codes.Kind.the-variants.{Heartbeat, Update, PassedOver}
+use Rattle.forms.specs.declared.forms.Form.{Form}
+use Rattle.forms.specs.declared.forms.Named.{Named}
+use Rattle.forms.specs.declared.forms.Named.the-variants as is
+use Rattle.forms.specs.declared.forms.Subject.{Subject}
+use Rattle.forms.specs.declared.forms.Subject.the-variants.{Nothing, Contract}
+use Rattle.forms.specs.declared.forms.Sum.{Sum}
+use Rattle.forms.specs.declared.forms.Sum.the-variants.{Zero, Right, RightOrZero}
+use Rattle.forms.specs.Sizes.{bareLength}
+use Rattle.forms.specs.Rows.{messageLength}
+use Rattle.forms.specs.Forms.{rowsOf, subjectOf, formsOf, ofLength, namedBy, formOf}
+use Rattle.forms.specs.FormsLaws.{told-form}
 use Rattle.message.specs.declared.head.Head.the-variants.{Good}
-use Rattle.message.specs.Codes.{bareLength, isCapital, sumRule}
-use Rattle.message.specs.Good.{Framed, Coded, Listed, HasSum, HasNumber}
-use Rattle.message.specs.Fields.{dataAt, letterOf, secondOf, lengthOf, sumSent, endByte, kindIn, rightSum, zeroSum}
-use Rattle.message.specs.Head.{framed, coded, trailed, summed, takesSum, takesNumber, isSome, sameBytes, headRules, headOf}
+use Rattle.message.specs.Good.{Framed, Coded, LetterListed, HasLength, HasSum, NumberFor, HasNumber}
+use Rattle.message.specs.Fields.{dataAt, letterOf, secondOf, lengthOf, sumSent, endByte, formIn, sumIn, rightSum, zeroSum}
+use Rattle.message.specs.Head.{framed, isCapital, coded, trailed, takesLength, summed, takesSum, numbersSubject, takesNumber, isSome, sameBytes, headRules, headOf}
 use Rattle.message.specs.RulesLaws.{good-hold}
 
 -- 5
@@ -32,26 +41,26 @@ framed-exact bytes =
     )
 
 -- a letter is found exactly when a segment has it
-pub listed-exact : (list : List ℕ) (letter : ℕ) → isSome (segmentOf list letter) ≡ true ↔ Listed list letter
+pub listed-exact : (list : List ℕ) (letter : ℕ) → isSome (segmentOf list letter) ≡ true ↔ LetterListed list letter
 unfolding segmentOf
 listed-exact list letter = (found, (λ h. there h (segmentOf list letter) refl))
   where
     has : ℕ → Bool
     has i = eqb (letterAt list i) letter
 
-    found : isSome (segmentOf list letter) ≡ true → Listed list letter
+    found : isSome (segmentOf list letter) ≡ true → LetterListed list letter
     found e = go (segmentOf list letter) refl e
       where
-        go : (o : Option ℕ) → segmentOf list letter ≡ o → isSome o ≡ true → Listed list letter
+        go : (o : Option ℕ) → segmentOf list letter ≡ o → isSome o ≡ true → LetterListed list letter
         go none e f = absurd (false≢true f)
         go (some i) e f = let h = first-passes has (segmentsOf list) i e in (i, h .0, eqb-true (letterAt list i) letter (h .1))
 
-    there : Listed list letter → (o : Option ℕ) → segmentOf list letter ≡ o → isSome (segmentOf list letter) ≡ true
+    there : LetterListed list letter → (o : Option ℕ) → segmentOf list letter ≡ o → isSome (segmentOf list letter) ≡ true
     there h none e = absurd (eqb-false (letterAt list (h .0)) letter (none-passes has (segmentsOf list) e (h .0) (h .1)) (h .2))
     there h (some i) e = rw e
 
 -- 6
-pub coded-exact : (list : List ℕ) (letter : ℕ) (bytes : List ℕ) → coded list letter bytes ≡ true ↔ Coded list letter bytes
+pub coded-exact : (list : List ℕ) (letter : ℕ) (bytes : List ℕ) → coded letter (segmentOf list letter) bytes ≡ true ↔ Coded list letter bytes
 unfolding coded
 coded-exact list letter bytes =
     let tests =
@@ -79,28 +88,74 @@ bytes-exact (x ∷ a) (y ∷ b) =
       (λ e. let head : x ≡ y = cc in let rest : a ≡ b = cc in parts .1 (head, rest)),
     )
 
--- 9
-sum-exact : (kind : Kind) (sent right : List ℕ) → takesSum (sumRule kind) sent right ≡ true ↔ HasSum kind sent right
-sum-exact Heartbeat sent right = bytes-exact sent zeroSum
-sum-exact Update sent right = bytes-exact sent right
-sum-exact PassedOver sent right = or-is (bytes-exact sent zeroSum) (bytes-exact sent right)
+-- 8: a length that names no form of the code is none of its lengths
+takes-some : (forms : List Form) (n : ℕ) {form : Form} → List·Memᴰ form forms → n ≡ messageLength (rowsOf form) → takesLength (ofLength forms n) ≡ true
+takes-some [] n m e = absurd (List·Memᴰ·not-nil m)
+takes-some (first ∷ rest) n {form} m e = go (eqb n (messageLength (rowsOf first))) refl (λ h. takes-some rest n h e)
+  where
+    go : (same : Bool) → eqb n (messageLength (rowsOf first)) ≡ same → (List·Memᴰ form rest → takesLength (ofLength rest n) ≡ true)
+        → takesLength (ofLength (first ∷ rest) n) ≡ true
+    go true t later = rw t
+    go false t later =
+        rw t
+        (⊎-elim (λ (h : form ≡ first). absurd (eqb-false n (messageLength (rowsOf first)) t (e ∙ ap (λ f. messageLength (rowsOf f)) h)))
+        later
+        (List·Memᴰ·cases-cons m))
 
-pub summed-exact : (bytes : List ℕ) → summed bytes ≡ true ↔ HasSum (kindIn bytes) (sumSent bytes) (rightSum bytes)
+some-taken : (forms : List Form) (n : ℕ) (named : Named) → ofLength forms n ≡ named → takesLength named ≡ true
+    → (form : Form) × (ofLength forms n ≡ is.Form form)
+some-taken forms n (is.Form form) e t = (form, e)
+some-taken forms n is.NoLength e t = absurd (false≢true t)
+some-taken forms n is.PassedOver e t = absurd (never-passed forms e)
+  where
+    never-passed : (forms : List Form) → ofLength forms n ≡ is.PassedOver → ⊥
+    never-passed [] e = let z : _≡_ {A = ℕ} 0 1 = cc in omega arith
+    never-passed (first ∷ rest) e = go (eqb n (messageLength (rowsOf first))) refl (never-passed rest)
+      where
+        go : (same : Bool) → eqb n (messageLength (rowsOf first)) ≡ same → (ofLength rest n ≡ is.PassedOver → ⊥) → ⊥
+        go true t later = let z : is.Form first ≡ is.PassedOver = rw t at e in let y : _≡_ {A = ℕ} 0 1 = cc in omega arith
+        go false t later = later (rw t at e)
+
+lengths-exact : (forms : List Form) (n : ℕ) → takesLength (namedBy forms n) ≡ true ↔ HasLength forms n
+lengths-exact [] n = ((λ e. tt), (λ h. refl))
+lengths-exact (first ∷ rest) n = (
+  (λ e.
+      let some = some-taken (first ∷ rest) n (ofLength (first ∷ rest) n) refl e in
+      let told = told-form (first ∷ rest) n (some .0) (some .1) in
+      (some .0, told .0, told .1)),
+  (λ h. takes-some (first ∷ rest) n (h .1) (h .2)),
+)
+
+pub length-exact : (bytes : List ℕ) → takesLength (formIn bytes) ≡ true ↔ HasLength (formsOf (letterOf bytes) (secondOf bytes)) (lengthOf bytes)
+unfolding formIn formOf
+length-exact bytes = lengths-exact (formsOf (letterOf bytes) (secondOf bytes)) (lengthOf bytes)
+
+-- 9
+sum-exact : (rule : Sum) (sent right : List ℕ) → takesSum rule sent right ≡ true ↔ HasSum rule sent right
+sum-exact Zero sent right = bytes-exact sent zeroSum
+sum-exact Right sent right = bytes-exact sent right
+sum-exact RightOrZero sent right = or-is (bytes-exact sent zeroSum) (bytes-exact sent right)
+
+pub summed-exact : (bytes : List ℕ) → summed bytes ≡ true ↔ HasSum (sumIn bytes) (sumSent bytes) (rightSum bytes)
 unfolding summed
-summed-exact bytes = sum-exact (kindIn bytes) (sumSent bytes) (rightSum bytes)
+summed-exact bytes = sum-exact (sumIn bytes) (sumSent bytes) (rightSum bytes)
 
 -- 10
-pub number-exact : (kind : Kind) (number : ℕ) → takesNumber kind number ≡ true ↔ HasNumber kind number
-number-exact Heartbeat number = eqb-is number 0
-number-exact Update number = leb-is 1 number
-number-exact PassedOver number = leb-is 1 number
+subject-number : (subject : Subject) (number : ℕ) → numbersSubject subject number ≡ true ↔ NumberFor subject number
+subject-number Nothing number = eqb-is number 0
+subject-number (Contract level) number = leb-is 1 number
+
+pub number-exact : (named : Named) (number : ℕ) → takesNumber named number ≡ true ↔ HasNumber named number
+number-exact (is.Form form) number = subject-number (subjectOf form) number
+number-exact is.NoLength number = leb-is 1 number
+number-exact is.PassedOver number = leb-is 1 number
 
 -- the parts of 6, each as the code tests it
-pub coded-parts : (list : List ℕ) (letter : ℕ) (bytes : List ℕ) (first second listed : Bool)
-    → eqb (letterOf bytes) letter ≡ first → isCapital (secondOf bytes) ≡ second → isSome (segmentOf list letter) ≡ listed
-    → coded list letter bytes ≡ first && second && listed
+pub coded-parts : (letter : ℕ) (segment : Option ℕ) (bytes : List ℕ) (first second : Bool)
+    → eqb (letterOf bytes) letter ≡ first → isCapital (secondOf bytes) ≡ second
+    → coded letter segment bytes ≡ first && second && isSome segment
 unfolding coded
-coded-parts list letter bytes first second listed e f g = rw (e, f, g)
+coded-parts letter segment bytes first second e f = rw (e, f)
 
 -- the sum as sent, byte by byte
 pub sum-bytes : (bytes : List ℕ) (whole first second : ℕ) → whole ≡ lengthOf bytes
@@ -109,6 +164,6 @@ unfolding sumSent
 sum-bytes bytes whole first second e = rw (e, and-true)
 
 -- a good head is framed
-pub good-framed : (list : List ℕ) (letter : ℕ) (bytes : List ℕ) → headOf list letter bytes ≡ Good → framed bytes ≡ true
+pub good-framed : (letter : ℕ) (segment : Option ℕ) (bytes : List ℕ) → headOf letter segment bytes ≡ Good → framed bytes ≡ true
 unfolding headOf
-good-framed list letter bytes e = good-hold (headRules list letter bytes) e .0
+good-framed letter segment bytes e = good-hold (headRules letter segment bytes) e .0

@@ -1,7 +1,5 @@
 pub mod CallerLaws
 pub mod Cases
-pub mod Codes
-pub mod CodesLaws
 pub mod Fields
 pub mod FrontLaws
 pub mod Good

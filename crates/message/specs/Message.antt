@@ -5,30 +5,36 @@ use mathlib.Core.List.{List, []}
 use mathlib.Core.Option.{Option, none, some}
 use lib.ListN.{take}
 use lib.Seq.{sets}
-use Rattle.contracts.specs.File.{keySize}
 use Rattle.contracts.specs.Lookup.{segmentOf, placeIn}
-use Rattle.layout.specs.declared.rows.Level.{Level}
-use Rattle.layout.specs.declared.rows.Row.{Row}
+use Rattle.forms.specs.declared.rows.Level.{Level}
+use Rattle.forms.specs.declared.forms.Form.{Form}
+use Rattle.forms.specs.declared.forms.Named.{Named}
+use Rattle.forms.specs.declared.forms.Named.the-variants as is
+use Rattle.forms.specs.declared.forms.Subject.{Subject}
+use Rattle.forms.specs.declared.forms.Subject.the-variants.{Nothing, Contract}
+use Rattle.forms.specs.declared.rows.Row.{Row}
 use Rattle.layout.specs.declared.read.Verdict.{Verdict}
 use Rattle.layout.specs.declared.read.Verdict.the-variants as verdict
-use Rattle.layout.specs.Rows.{rowsOf}
-use Rattle.layout.specs.Cells.{filled}
+use Rattle.forms.specs.Sizes.{keyBytes}
+use Rattle.forms.specs.Forms.{rowsOf, subjectOf}
+use Rattle.layout.specs.Cells.{zerosBehind}
 use Rattle.layout.specs.Read.{Outcome, readRows}
 use Rattle.message.specs.declared.body.What.{What}
 use Rattle.message.specs.declared.body.What.the-variants as what
 use Rattle.message.specs.declared.body.Outline.{Outline}
-use Rattle.message.specs.declared.codes.Kind.{Kind}
-use Rattle.message.specs.declared.codes.Kind.the-variants as kind
 use Rattle.message.specs.declared.head.Fault.the-variants as fault
 use Rattle.message.specs.declared.head.Head.{Head}
 use Rattle.message.specs.declared.head.Head.the-variants as head
-use Rattle.message.specs.Codes.{levelOf}
-use Rattle.message.specs.Fields.{kindIn, lengthOf, numberOf, dataOf}
+use Rattle.message.specs.Fields.{formIn, lengthOf, numberOf, dataOf}
 use Rattle.message.specs.Head.{headOf}
 
+-- 01 "The message": an update tells of a contract, at a level
+abbrev pub TellsOfContract : Form → Type 0
+TellsOfContract form = (level : Level) × (subjectOf form ≡ Contract level)
+
 -- 01 "The message": the first 39 bytes of the data are the contract key
-unfoldable pub keyOf : List ℕ → List ℕ
-keyOf bytes = take keySize (dataOf bytes)
+unfoldable pub messageKey : List ℕ → List ℕ
+messageKey bytes = take keyBytes (dataOf bytes)
 
 -- 01 "The contract list": the place of a key in the segment of a letter, where there is one
 abbrev pub placeThere : List ℕ → List ℕ → Option ℕ → Option ℕ
@@ -39,26 +45,31 @@ placeThere list key (some segment) = placeIn list segment key
 unfoldable pub keyPlace : List ℕ → ℕ → List ℕ → Option ℕ
 keyPlace list letter key = placeThere list key (segmentOf list letter)
 
--- 01 "The message": the rows that are read: an update's, by its length. Of what is passed over no field is looked at
-abbrev pub rowsIn : Kind → ℕ → List Row
-rowsIn kind.Heartbeat length = []
-rowsIn kind.Update length = rowsOf (levelOf length)
-rowsIn kind.PassedOver length = []
+-- 01 "The message": the rows that are read: those of the form. Of what is passed over no field is looked at
+abbrev pub rowsIn : Named → List Row
+rowsIn (is.Form form) = rowsOf form
+rowsIn is.NoLength = []
+rowsIn is.PassedOver = []
 
 -- 01 "The message": the rows of the data, read in turn
 abbrev pub rowsRead : List ℕ → Outcome
-rowsRead bytes = readRows 0 (rowsIn (kindIn bytes) (lengthOf bytes)) (dataOf bytes)
+rowsRead bytes = readRows 0 (rowsIn (formIn bytes)) (dataOf bytes)
 
 -- 01, the table's row 13: the key of an update is listed
-abbrev pub ofPlace : ℕ → Level → Option ℕ → What
-ofPlace number level none = what.Bad fault.Contract
-ofPlace number level (some place) = what.Update number level place
+abbrev pub ofPlace : ℕ → Form → Option ℕ → What
+ofPlace number form none = what.Bad fault.Contract
+ofPlace number form (some place) = what.Update number form place
 
--- 01 "The message": what a message is by its kind
-abbrev pub ofKind : Kind → ℕ → Level → Option ℕ → What
-ofKind kind.Heartbeat number level place = what.Heartbeat
-ofKind kind.Update number level place = ofPlace number level place
-ofKind kind.PassedOver number level place = what.PassedOver number
+-- 01 "The message": what a message of a form is, by what it tells of
+abbrev pub ofSubject : Subject → ℕ → Form → Option ℕ → What
+ofSubject Nothing number form place = what.Heartbeat
+ofSubject (Contract level) number form place = ofPlace number form place
+
+-- 01 "The message": what a message is; one with none of its code's lengths is refused before (8)
+abbrev pub ofNamed : Named → ℕ → Option ℕ → What
+ofNamed (is.Form form) number place = ofSubject (subjectOf form) number form place
+ofNamed is.NoLength number place = what.PassedOver number
+ofNamed is.PassedOver number place = what.PassedOver number
 
 -- 01, the table's rows 11 and 12: the first bad row decides
 abbrev pub ofVerdict : Verdict → What → What
@@ -72,20 +83,22 @@ pub record Message : Type 0 where
   pub length : ℕ
   pub cells : List ℕ
 
--- 01 "The message": what a message with a good head is
-unfoldable pub contentsOf : List ℕ → ℕ → List ℕ → Message
-contentsOf list letter bytes =
+-- 01 "The message": what a message with a good head is, by the place of its key
+unfoldable pub contentsBy : Option ℕ → List ℕ → Message
+contentsBy place bytes =
     record {
-      what =
-          ofVerdict (rowsRead bytes .verdict)
-          (ofKind (kindIn bytes) (numberOf bytes) (levelOf (lengthOf bytes)) (keyPlace list letter (keyOf bytes)));
+      what = ofVerdict (rowsRead bytes .verdict) (ofNamed (formIn bytes) (numberOf bytes) place);
       length = lengthOf bytes;
-      cells = filled (rowsRead bytes .cells);
+      cells = zerosBehind (rowsRead bytes .cells);
     }
+
+-- 01 "The message": what a message with a good head is, with its key looked up
+abbrev pub contentsOf : List ℕ → ℕ → List ℕ → Message
+contentsOf list letter bytes = contentsBy (keyPlace list letter (messageKey bytes)) bytes
 
 -- 01, the order of checks: a message of which no row was read
 abbrev pub bare : What → ℕ → Message
-bare what length = record { what = what; length = length; cells = filled [] }
+bare what length = record { what = what; length = length; cells = zerosBehind [] }
 
 -- 01, the order of checks: 5 to 10, and then 11 to 13
 abbrev pub ofHead : Head → ℕ → Message → Message
@@ -94,12 +107,17 @@ ofHead (head.Bad fault) length contents = bare (what.Bad fault) length
 
 -- 01, the table's rows 5 to 13 in their order: what the bytes begin with
 unfoldable pub messageOf : List ℕ → ℕ → List ℕ → Message
-messageOf list letter bytes = ofHead (headOf list letter bytes) (lengthOf bytes) (contentsOf list letter bytes)
+messageOf list letter bytes =
+    ofHead (headOf letter (segmentOf list letter) bytes) (lengthOf bytes) (contentsOf list letter bytes)
 
 -- 01, the order of checks: the cells of the rows that are read: none where the head is bad
-abbrev pub cellsRead : Head → List ℕ → List ℕ
-cellsRead head.Good bytes = rowsRead bytes .cells
-cellsRead (head.Bad fault) bytes = []
+abbrev pub cellsBy : Head → List ℕ → List ℕ
+cellsBy head.Good bytes = rowsRead bytes .cells
+cellsBy (head.Bad fault) bytes = []
+
+-- 01, the order of checks: the cells of the rows that are read, with the head judged
+unfoldable pub cellsRead : List ℕ → ℕ → List ℕ → List ℕ
+cellsRead list letter bytes = cellsBy (headOf letter (segmentOf list letter) bytes) bytes
 
 -- 01 "The message": what a message is and how long it is
 abbrev pub outlineOf : Message → Outline

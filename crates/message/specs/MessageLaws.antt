@@ -1,24 +1,26 @@
 -- Laws of what a message is.
 use Prim.Native.Nat.{ℕ}
 use mathlib.Core.Path.{_≡_, refl, sym, _∙_}
-use mathlib.Core.List.{List}
+use mathlib.Core.List.{List, []}
 use mathlib.Core.Option.{Option, none, some}
 use Rattle.laws.specs.Choice.{never}
 use Rattle.contracts.specs.Lookup.{segmentOf, placeIn}
 use Rattle.layout.specs.declared.read.Verdict.{Verdict}
-use Rattle.layout.specs.Cells.{filled}
-use Rattle.layout.specs.Rows.{rowsOf}
+use Rattle.layout.specs.Cells.{zerosBehind}
+use Rattle.forms.specs.declared.forms.Form.{Form}
+use Rattle.forms.specs.declared.forms.Named.the-variants as is
+use Rattle.forms.specs.declared.forms.Subject.the-variants.{Nothing}
+use Rattle.forms.specs.Forms.{rowsOf, subjectOf}
+use Rattle.forms.specs.FormsLaws.{nothing-rows}
 use Rattle.layout.specs.Read.{Outcome, readRows, ReadsRows}
 use Rattle.message.specs.declared.body.What.{What}
 use Rattle.message.specs.declared.body.What.the-variants as what
-use Rattle.message.specs.declared.codes.Kind.the-variants as kind
 use Rattle.message.specs.declared.head.Fault.{Fault}
 use Rattle.message.specs.declared.head.Head.{Head}
 use Rattle.message.specs.declared.head.Head.the-variants as head
-use Rattle.message.specs.Codes.{levelOf}
-use Rattle.message.specs.Fields.{kindIn, lengthOf, numberOf, dataOf}
+use Rattle.message.specs.Fields.{formIn, lengthOf, numberOf, dataOf}
 use Rattle.message.specs.Head.{headOf}
-use Rattle.message.specs.Message.{keyOf, keyPlace, rowsRead, ofPlace, ofVerdict, bare, contentsOf, messageOf, ReadsMessage}
+use Rattle.message.specs.Message.{TellsOfContract, messageKey, placeThere, keyPlace, rowsRead, ofPlace, ofVerdict, bare, contentsBy, contentsOf, messageOf, ReadsMessage}
 
 module _ (list : List ℕ) (letter : ℕ) where
   -- a key is looked up in the segment of its letter, where there is one
@@ -38,48 +40,62 @@ module _ (list : List ℕ) (letter : ℕ) where
       go none f = absurd (never (sym (key-nowhere key f) ∙ e))
       go (some segment) f = (segment, f, sym (key-in key f) ∙ e)
 
-  module _ (bytes : List ℕ) where
-    -- a message with no rows leaves the lent cells as they are
-    module _ (whole : ℕ) (long : whole ≡ lengthOf bytes) (cells : List ℕ) where
-      pub heartbeat-reads : kindIn bytes ≡ kind.Heartbeat
-          → ReadsMessage (contentsOf list letter bytes) (rowsRead bytes .cells) cells (record { what = what.Heartbeat; length = whole }) cells
-      unfolding contentsOf
-      heartbeat-reads e = rw (long, e) (record { told = refl; stored = refl })
+  -- the segment of the letter, found before
+  pub key-by-segment : (key : List ℕ) {segment : Option ℕ} → segment ≡ segmentOf list letter → placeThere list key segment ≡ keyPlace list letter key
+  unfolding keyPlace
+  key-by-segment key e = rw e
 
-      pub passed-over-reads : kindIn bytes ≡ kind.PassedOver
-          → ReadsMessage (contentsOf list letter bytes) (rowsRead bytes .cells) cells (record { what = what.PassedOver (numberOf bytes); length = whole }) cells
-      unfolding contentsOf
-      passed-over-reads e = rw (long, e) (record { told = refl; stored = refl })
+-- a message with a good head, by the place of its key
+module _ (place : Option ℕ) (bytes : List ℕ) (whole : ℕ) (long : whole ≡ lengthOf bytes) where
+  -- one with no rows leaves the lent cells as they are
+  module _ (cells : List ℕ) where
+    pub heartbeat-reads : (form : Form) → formIn bytes ≡ is.Form form → subjectOf form ≡ Nothing
+        → ReadsMessage (contentsBy place bytes) (rowsRead bytes .cells) cells (record { what = what.Heartbeat; length = whole }) cells
+    unfolding contentsBy
+    heartbeat-reads form e s = rw (long, e, s, nothing-rows form s) (record { told = refl; stored = refl })
 
-    module _ (whole : ℕ) (w : What) (long : whole ≡ lengthOf bytes) (e : kindIn bytes ≡ kind.Update) where
-      -- an update's rows are read, and then its key is looked up
-      pub update-reads : (verdict : Verdict) (cells cells′ : List ℕ) → ReadsRows (rowsOf (levelOf (lengthOf bytes))) (dataOf bytes) cells verdict cells′
-          → w ≡ ofVerdict verdict (ofPlace (numberOf bytes) (levelOf (lengthOf bytes)) (keyPlace list letter (keyOf bytes)))
-          → ReadsMessage (contentsOf list letter bytes) (rowsRead bytes .cells) cells (record { what = w; length = whole }) cells′
-      unfolding contentsOf
-      update-reads verdict cells cells′ read same =
-          record { told = rw (long, e, ← read .answers, same); stored = rw e (read .cells-stored) }
+    pub passed-over-reads : formIn bytes ≡ is.PassedOver
+        → ReadsMessage (contentsBy place bytes) (rowsRead bytes .cells) cells (record { what = what.PassedOver (numberOf bytes); length = whole }) cells
+    unfolding contentsBy
+    passed-over-reads e = rw (long, e) (record { told = refl; stored = refl })
 
-      pub update-is : (read : Outcome) → readRows 0 (rowsOf (levelOf (lengthOf bytes))) (dataOf bytes) ≡ read
-          → w ≡ ofVerdict (read .verdict) (ofPlace (numberOf bytes) (levelOf (lengthOf bytes)) (keyPlace list letter (keyOf bytes)))
-          → contentsOf list letter bytes ≡ record { what = w; length = whole; cells = filled (read .cells) }
-      unfolding contentsOf
-      update-is read same what-is = rw (long, e, same, what-is)
+    pub no-length-reads : formIn bytes ≡ is.NoLength
+        → ReadsMessage (contentsBy place bytes) (rowsRead bytes .cells) cells (record { what = what.PassedOver (numberOf bytes); length = whole }) cells
+    unfolding contentsBy
+    no-length-reads e = rw (long, e) (record { told = refl; stored = refl })
 
-    -- a good head leaves the message to its contents
-    pub good-head : headOf list letter bytes ≡ head.Good → messageOf list letter bytes ≡ contentsOf list letter bytes
-    unfolding messageOf
-    good-head e = rw e
+  module _ (w : What) (form : Form) (e : formIn bytes ≡ is.Form form) (s : TellsOfContract form) where
+    -- an update's rows are read, and then its key is looked up
+    pub update-reads : (verdict : Verdict) (cells cells′ : List ℕ) → ReadsRows (rowsOf form) (dataOf bytes) cells verdict cells′
+        → w ≡ ofVerdict verdict (ofPlace (numberOf bytes) form place)
+        → ReadsMessage (contentsBy place bytes) (rowsRead bytes .cells) cells (record { what = w; length = whole }) cells′
+    unfolding contentsBy
+    update-reads verdict cells cells′ read same =
+        record { told = rw (long, e, s .1, ← read .answers, same); stored = rw e (read .cells-stored) }
 
-    pub bad-head : (fault : Fault) → headOf list letter bytes ≡ head.Bad fault → messageOf list letter bytes ≡ bare (what.Bad fault) (lengthOf bytes)
-    unfolding messageOf
-    bad-head fault e = rw e
+    pub update-is : (read : Outcome) → readRows 0 (rowsOf form) (dataOf bytes) ≡ read → w ≡ ofVerdict (read .verdict) (ofPlace (numberOf bytes) form place)
+        → contentsBy place bytes ≡ record { what = w; length = whole; cells = zerosBehind (read .cells) }
+    unfolding contentsBy
+    update-is read same what-is = rw (long, e, s .1, same, what-is)
 
-    -- whatever it is, its length is its length field
-    pub length-is : messageOf list letter bytes .length ≡ lengthOf bytes
-    unfolding messageOf contentsOf
-    length-is = go (headOf list letter bytes) refl
-      where
-        go : (h : Head) → headOf list letter bytes ≡ h → messageOf list letter bytes .length ≡ lengthOf bytes
-        go head.Good e = rw e
-        go (head.Bad fault) e = rw e
+module _ (list : List ℕ) (letter : ℕ) (bytes : List ℕ) where
+  abbrev headHere : Head
+  headHere = headOf letter (segmentOf list letter) bytes
+
+  -- a good head leaves the message to its contents
+  pub good-head : headHere ≡ head.Good → messageOf list letter bytes ≡ contentsOf list letter bytes
+  unfolding messageOf
+  good-head e = rw e
+
+  pub bad-head : (fault : Fault) → headHere ≡ head.Bad fault → messageOf list letter bytes ≡ bare (what.Bad fault) (lengthOf bytes)
+  unfolding messageOf
+  bad-head fault e = rw e
+
+  -- whatever it is, its length is its length field
+  pub length-is : messageOf list letter bytes .length ≡ lengthOf bytes
+  unfolding messageOf contentsBy
+  length-is = go (headHere) refl
+    where
+      go : (h : Head) → headHere ≡ h → messageOf list letter bytes .length ≡ lengthOf bytes
+      go head.Good e = rw e
+      go (head.Bad fault) e = rw e

@@ -1,8 +1,12 @@
 -- The answers of this crate in the paper's numbers.
 use Prim.Native.Nat.{ℕ}
 use mathlib.Core.List.{List, [], _∷_}
-use Rattle.layout.specs.declared.rows.Level.{Level}
-use Rattle.layout.specs.declared.rows.Level.the-variants.{One, Two}
+use Rattle.laws.specs.Refused.{frameNo, codeNo, trailerNo, lengthNo, checksumNo, numberingNo, fieldNo, rangeNo, contractNo}
+use Rattle.forms.specs.declared.rows.Level.{Level}
+use Rattle.forms.specs.declared.rows.Level.the-variants.{One, Two}
+use Rattle.forms.specs.declared.forms.Subject.{Subject}
+use Rattle.forms.specs.declared.forms.Subject.the-variants as subject
+use Rattle.forms.specs.Forms.{subjectOf}
 use Rattle.message.specs.declared.body.What.{What}
 use Rattle.message.specs.declared.body.What.the-variants.{Heartbeat, PassedOver, Update, Bad}
 use Rattle.message.specs.declared.head.Fault.{Fault}
@@ -12,39 +16,44 @@ use Rattle.message.specs.declared.head.Head.the-variants as head
 
 -- 01, the table: the row's number, and the row of the data where it returns one
 abbrev pub faultNumbers : Fault → List ℕ
-faultNumbers Frame = 5 ∷ []
-faultNumbers Code = 6 ∷ []
-faultNumbers Trailer = 7 ∷ []
-faultNumbers Length = 8 ∷ []
-faultNumbers Checksum = 9 ∷ []
-faultNumbers Numbering = 10 ∷ []
-faultNumbers (Field row) = 11 ∷ row ∷ []
-faultNumbers (Range row) = 12 ∷ row ∷ []
-faultNumbers Contract = 13 ∷ []
+faultNumbers Frame = frameNo ∷ []
+faultNumbers Code = codeNo ∷ []
+faultNumbers Trailer = trailerNo ∷ []
+faultNumbers Length = lengthNo ∷ []
+faultNumbers Checksum = checksumNo ∷ []
+faultNumbers Numbering = numberingNo ∷ []
+faultNumbers (Field row) = fieldNo ∷ row ∷ []
+faultNumbers (Range row) = rangeNo ∷ row ∷ []
+faultNumbers Contract = contractNo ∷ []
 
 -- 01 "What may be asked": the level asked for is 1 or 2
 abbrev pub levelNumber : Level → ℕ
 levelNumber One = 1
 levelNumber Two = 2
 
+-- 01 "What may be asked": the level of what a message tells of, 0 where there is none
+abbrev pub subjectLevel : Subject → ℕ
+subjectLevel subject.Nothing = 0
+subjectLevel (subject.Contract level) = levelNumber level
+
 -- 01 "The message": 0 for a message with no fault; then the number by which it counts in the sequence, an update's level and
 -- its place
 abbrev pub whatNumbers : What → List ℕ
 whatNumbers Heartbeat = 0 ∷ []
 whatNumbers (PassedOver number) = 0 ∷ number ∷ []
-whatNumbers (Update number level place) = 0 ∷ number ∷ levelNumber level ∷ place ∷ []
+whatNumbers (Update number form place) = 0 ∷ number ∷ subjectLevel (subjectOf form) ∷ place ∷ []
 whatNumbers (Bad fault) = faultNumbers fault
 
 -- 01, the table of refusals: the fault of a message, if it has one
 abbrev pub verdictOf : What → Head
 verdictOf Heartbeat = head.Good
 verdictOf (PassedOver number) = head.Good
-verdictOf (Update number level place) = head.Good
+verdictOf (Update number form place) = head.Good
 verdictOf (Bad fault) = head.Bad fault
 
 -- 01 "Sequence and gaps": a heartbeat has number 0
 abbrev pub numberIn : What → ℕ
 numberIn Heartbeat = 0
 numberIn (PassedOver number) = number
-numberIn (Update number level place) = number
+numberIn (Update number form place) = number
 numberIn (Bad fault) = 0

@@ -7,16 +7,20 @@ use lib.ListN.{take, drop}
 use Rattle.laws.specs.Rules.{Rule}
 use Rattle.layout.specs.declared.read.RowRead.{RowRead}
 use Rattle.layout.specs.declared.read.RowRead.the-variants as read
-use Rattle.layout.specs.declared.rows.Row.{Row}
+use Rattle.forms.specs.declared.forms.Named.{Named}
+use Rattle.forms.specs.declared.forms.Named.the-variants as is
+use Rattle.forms.specs.declared.forms.Subject.{Subject}
+use Rattle.forms.specs.declared.forms.Subject.the-variants as subject
+use Rattle.forms.specs.declared.rows.Row.{Row}
+use Rattle.forms.specs.Forms.{subjectOf}
+use Rattle.contracts.specs.Lookup.{segmentOf}
 use Rattle.layout.specs.Read.{readRow}
-use Rattle.layout.specs.Rows.{widthOf}
-use Rattle.message.specs.declared.codes.Kind.{Kind}
-use Rattle.message.specs.declared.codes.Kind.the-variants.{Heartbeat, Update, PassedOver}
+use Rattle.forms.specs.Rows.{widthOf}
 use Rattle.message.specs.declared.head.Fault.{Fault}
 use Rattle.message.specs.declared.head.Fault.the-variants.{Field, Range, Contract}
-use Rattle.message.specs.Fields.{lengthOf, dataOf, kindIn}
+use Rattle.message.specs.Fields.{dataOf, formIn}
 use Rattle.message.specs.Head.{isSome, headRules}
-use Rattle.message.specs.Message.{keyOf, keyPlace, rowsIn}
+use Rattle.message.specs.Message.{messageKey, keyPlace, rowsIn}
 
 -- 01, the table's row 11: well formed
 abbrev pub isFormed : RowRead → Bool
@@ -39,16 +43,21 @@ rowRules i (row ∷ rows) bytes =
     ∷ rowRules (suc i) rows (drop (widthOf row) bytes)
 
 -- 01, the table's row 13: an update's key
-abbrev pub keyRules : Kind → Option ℕ → List (Rule Fault)
-keyRules Heartbeat place = []
-keyRules Update place = record { holds = isSome place; refusal = Contract } ∷ []
-keyRules PassedOver place = []
+abbrev pub subjectRules : Subject → Option ℕ → List (Rule Fault)
+subjectRules subject.Nothing place = []
+subjectRules (subject.Contract level) place = record { holds = isSome place; refusal = Contract } ∷ []
+
+-- 01, the table's row 13: by what the message tells of
+abbrev pub keyRules : Named → Option ℕ → List (Rule Fault)
+keyRules (is.Form form) place = subjectRules (subjectOf form) place
+keyRules is.NoLength place = []
+keyRules is.PassedOver place = []
 
 -- 01, the order of checks: 11 to 13
 abbrev pub bodyRules : List ℕ → ℕ → List ℕ → List (Rule Fault)
 bodyRules list letter bytes =
-    rowRules 0 (rowsIn (kindIn bytes) (lengthOf bytes)) (dataOf bytes) ++ keyRules (kindIn bytes) (keyPlace list letter (keyOf bytes))
+    rowRules 0 (rowsIn (formIn bytes)) (dataOf bytes) ++ keyRules (formIn bytes) (keyPlace list letter (messageKey bytes))
 
 -- 01, the order of checks: 5 to 13
 abbrev pub messageRules : List ℕ → ℕ → List ℕ → List (Rule Fault)
-messageRules list letter bytes = headRules list letter bytes ++ bodyRules list letter bytes
+messageRules list letter bytes = headRules letter (segmentOf list letter) bytes ++ bodyRules list letter bytes

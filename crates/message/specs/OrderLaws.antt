@@ -10,24 +10,27 @@ use Rattle.layout.specs.declared.read.RowRead.{RowRead}
 use Rattle.layout.specs.declared.read.RowRead.the-variants as read
 use Rattle.layout.specs.declared.read.Verdict.{Verdict}
 use Rattle.layout.specs.declared.read.Verdict.the-variants as verdict
-use Rattle.layout.specs.declared.rows.Level.{Level}
-use Rattle.layout.specs.declared.rows.Row.{Row}
+use Rattle.forms.specs.declared.forms.Form.{Form}
+use Rattle.forms.specs.declared.forms.Named.{Named}
+use Rattle.forms.specs.declared.forms.Named.the-variants as is
+use Rattle.forms.specs.declared.forms.Subject.{Subject}
+use Rattle.forms.specs.declared.forms.Subject.the-variants.{Nothing, Contract}
+use Rattle.forms.specs.declared.rows.Row.{Row}
 use Rattle.layout.specs.Read.{readRow, readRows}
-use Rattle.layout.specs.Rows.{widthOf}
+use Rattle.forms.specs.Rows.{widthOf}
 use Rattle.message.specs.declared.body.What.{What}
 use Rattle.message.specs.declared.body.What.the-variants as what
-use Rattle.message.specs.declared.codes.Kind.{Kind}
-use Rattle.message.specs.declared.codes.Kind.the-variants.{Heartbeat, Update, PassedOver}
 use Rattle.message.specs.declared.head.Fault.{Fault}
 use Rattle.message.specs.declared.head.Fault.the-variants.{Field, Range}
 use Rattle.message.specs.declared.head.Head.{Head}
 use Rattle.message.specs.declared.head.Head.the-variants.{Good, Bad}
-use Rattle.message.specs.Codes.{levelOf}
-use Rattle.message.specs.Fields.{lengthOf, numberOf, dataOf, kindIn}
+use Rattle.contracts.specs.Lookup.{segmentOf}
+use Rattle.forms.specs.Forms.{subjectOf}
+use Rattle.message.specs.Fields.{lengthOf, numberOf, dataOf, formIn}
 use Rattle.message.specs.Head.{headRules, headOf}
-use Rattle.message.specs.Message.{keyOf, keyPlace, rowsIn, rowsRead, ofKind, ofVerdict, ofHead, contentsOf, messageOf}
+use Rattle.message.specs.Message.{messageKey, keyPlace, rowsIn, rowsRead, ofSubject, ofNamed, ofVerdict, ofHead, contentsBy, contentsOf, messageOf}
 use Rattle.message.specs.Numbers.{verdictOf}
-use Rattle.message.specs.Order.{rowRules, keyRules, bodyRules, messageRules}
+use Rattle.message.specs.Order.{rowRules, subjectRules, keyRules, bodyRules, messageRules}
 use Rattle.message.specs.Rules.{firstFault}
 use Rattle.message.specs.RulesLaws.{andThen, first-append, bad-broken, broken-bad}
 
@@ -56,20 +59,27 @@ verdict-then (verdict.Field row) good = refl
 verdict-then (verdict.Range row) good = refl
 
 -- 13
-key-first : (kind : Kind) (number : ℕ) (level : Level) (place : Option ℕ) → verdictOf (ofKind kind number level place) ≡ firstFault (keyRules kind place)
-key-first Heartbeat number level place = refl
-key-first PassedOver number level place = refl
-key-first Update number level none = refl
-key-first Update number level (some k) = refl
+subject-first : (subject : Subject) (number : ℕ) (form : Form) (place : Option ℕ) → verdictOf (ofSubject subject number form place) ≡ firstFault (subjectRules subject place)
+subject-first Nothing number form place = refl
+subject-first (Contract level) number form none = refl
+subject-first (Contract level) number form (some k) = refl
+
+key-first : (named : Named) (number : ℕ) (place : Option ℕ) → verdictOf (ofNamed named number place) ≡ firstFault (keyRules named place)
+key-first (is.Form form) number place = subject-first (subjectOf form) number form place
+key-first is.NoLength number place = refl
+key-first is.PassedOver number place = refl
 
 module _ (list : List ℕ) (letter : ℕ) (bytes : List ℕ) where
   body-first : verdictOf (contentsOf list letter bytes .what) ≡ firstFault (bodyRules list letter bytes)
-  unfolding contentsOf
+  unfolding contentsBy
   body-first =
-      let good : What = ofKind (kindIn bytes) (numberOf bytes) (levelOf (lengthOf bytes)) (keyPlace list letter (keyOf bytes)) in
-      verdict-then (rowsRead bytes .verdict) good
-      ∙ ap₂ andThen (rows-first 0 (rowsIn (kindIn bytes) (lengthOf bytes)) (dataOf bytes)) (key-first (kindIn bytes) (numberOf bytes) (levelOf (lengthOf bytes)) (keyPlace list letter (keyOf bytes)))
-      ∙ sym (first-append (rowRules 0 (rowsIn (kindIn bytes) (lengthOf bytes)) (dataOf bytes)) (keyRules (kindIn bytes) (keyPlace list letter (keyOf bytes))))
+      let place : Option ℕ = keyPlace list letter (messageKey bytes) in
+      verdict-then (rowsRead bytes .verdict) (ofNamed (formIn bytes) (numberOf bytes) place)
+      ∙ ap₂ andThen (rows-first 0 (rowsIn (formIn bytes)) (dataOf bytes)) (key-first (formIn bytes) (numberOf bytes) place)
+      ∙ sym (first-append (rowRules 0 (rowsIn (formIn bytes)) (dataOf bytes)) (keyRules (formIn bytes) place))
+
+  abbrev headHere : Head
+  headHere = headOf letter (segmentOf list letter) bytes
 
   head-then : (h : Head) → verdictOf (ofHead h (lengthOf bytes) (contentsOf list letter bytes) .what) ≡ andThen h (verdictOf (contentsOf list letter bytes .what))
   head-then Good = refl
@@ -79,7 +89,7 @@ module _ (list : List ℕ) (letter : ℕ) (bytes : List ℕ) where
   pub message-first : verdictOf (messageOf list letter bytes .what) ≡ firstFault (messageRules list letter bytes)
   unfolding messageOf headOf
   message-first =
-      head-then (headOf list letter bytes) ∙ ap (andThen (headOf list letter bytes)) body-first ∙ sym (first-append (headRules list letter bytes) (bodyRules list letter bytes))
+      head-then headHere ∙ ap (andThen headHere) body-first ∙ sym (first-append (headRules letter (segmentOf list letter) bytes) (bodyRules list letter bytes))
 
   -- a fault is answered exactly when its rule is broken and all rules before it hold
   pub fault-exact : (fault : Fault) → messageOf list letter bytes .what ≡ what.Bad fault ↔ Broken (messageRules list letter bytes) fault
@@ -91,9 +101,9 @@ module _ (list : List ℕ) (letter : ℕ) (bytes : List ℕ) where
       bad-is : (w : What) → verdictOf w ≡ Bad fault → w ≡ what.Bad fault
       bad-is what.Heartbeat e = cc
       bad-is (what.PassedOver number) e = cc
-      bad-is (what.Update number level place) e = cc
+      bad-is (what.Update number form place) e = cc
       bad-is (what.Bad other) e = cc
 
-  pub head-exact : (fault : Fault) → headOf list letter bytes ≡ Bad fault ↔ Broken (headRules list letter bytes) fault
+  pub head-exact : (fault : Fault) → headHere ≡ Bad fault ↔ Broken (headRules letter (segmentOf list letter) bytes) fault
   unfolding headOf
-  head-exact fault = (bad-broken (headRules list letter bytes) fault, broken-bad (headRules list letter bytes) fault)
+  head-exact fault = (bad-broken (headRules letter (segmentOf list letter) bytes) fault, broken-bad (headRules letter (segmentOf list letter) bytes) fault)

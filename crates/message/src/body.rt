@@ -3,30 +3,30 @@ ghost use mathlib.Core.Path.{_≡_};
 ghost use mathlib.Core.Bool.{true};
 ghost use lib.ListN.{take};
 ghost use Rattle.contracts.specs.Answers.{placeOf};
-ghost use Rattle.contracts.specs.File.{keySize};
+ghost use Rattle.contracts.specs.Lookup.{segmentOf};
+ghost use Rattle.forms.specs.Sizes.{keyBytes};
 ghost use Rattle.message.specs.Good.{Framed};
-ghost use Rattle.message.specs.Fields.{lengthOf, kindIn};
-ghost use Rattle.message.specs.Head.{framed, headOf};
-ghost use Rattle.message.specs.Message.{keyPlace, ofPlace, rowsRead, cellsRead, contentsOf, messageOf, ReadsMessage};
-use crate::codes;
-use crate::codes::Kind;
+ghost use Rattle.message.specs.Fields.{lengthOf, formIn};
+ghost use Rattle.message.specs.Head.{framed};
+ghost use Rattle.message.specs.Message.{TellsOfContract, messageKey, placeThere, ofPlace, rowsRead, cellsRead, contentsBy, messageOf, ReadsMessage};
 use crate::fields;
 use crate::head;
 use crate::head::Fault;
 use crate::head::Head;
 use contracts::Found;
-use layout::Level;
+use layout::Form;
+use layout::KEY_BYTES;
+use layout::MOST_ROWS;
+use layout::Named;
+use layout::Subject;
 use layout::Verdict;
-
-// The bytes of a contract key, the first of an update's data.
-const KEY: usize = 39;
 
 pub enum What {
     Heartbeat,
     // With its number.
     PassedOver(u32),
-    // With its number, its level and its contract's place in the segment.
-    Update(u32, Level, usize),
+    // With its number, its form and its contract's place in the segment.
+    Update(u32, Form, usize),
     Bad(Fault),
 }
 
@@ -37,47 +37,53 @@ pub struct Outline {
     pub length: usize,
 }
 
-// The place of a key in the segment of a letter.
-pub fn find(list: &[u8], letter: u8, key: &[u8]) -> Found
-    ensures { λ r. ⌜ placeOf r ≡ keyPlace (now (list .entry)) letter (now (key .entry)) ⌝ }
+// The place of a key in a segment, where there is one.
+pub fn find(list: &[u8], segment: Found, key: &[u8]) -> Found
+    ensures { λ r. ⌜ placeOf r ≡ placeThere (now (list .entry)) (now (key .entry)) (placeOf segment) ⌝ }
 {
-    match contracts::segment_of(list, letter) {
-        Found::At(segment) => contracts::place_of(list, segment, key),
+    match segment {
+        Found::At(place) => contracts::place_of(list, place, key),
         Found::Nowhere => Found::Nowhere,
     }
 }
 
 fn key_of(data: &[u8]) -> &[u8]
-    ensures { λ r. ⌜ now r ≡ take keySize (now («data» .entry)) ⌝ }
+    ensures { λ r. ⌜ now r ≡ take keyBytes (now («data» .entry)) ⌝ }
 {
-    if KEY <= data.len() {
-        &data[..KEY]
+    if KEY_BYTES <= data.len() {
+        &data[..KEY_BYTES]
     } else {
         data
     }
 }
 
 // 13, once the rows are good.
-fn placed(list: &[u8], letter: u8, data: &[u8], number: u32, level: Level) -> What
-    ensures { λ r. ⌜ r ≡ ofPlace number level (keyPlace (now (list .entry)) letter (take keySize (now («data» .entry)))) ⌝ }
+fn placed(list: &[u8], segment: Found, data: &[u8], number: u32, form: Form) -> What
+    ensures { λ r. ⌜ r ≡ ofPlace number form (placeThere (now (list .entry)) (take keyBytes (now («data» .entry))) (placeOf segment)) ⌝ }
 {
-    match find(list, letter, key_of(data)) {
-        Found::At(place) => What::Update(number, level, place),
+    match find(list, segment, key_of(data)) {
+        Found::At(place) => What::Update(number, form, place),
         Found::Nowhere => What::Bad(Fault::Contract),
     }
 }
 
 // An update: its first bad row, and then its key.
-fn update(list: &[u8], letter: u8, bytes: &[u8], whole: usize, cells: &mut [u64; 37]) -> Outline
-    requires { ⌜ Framed (now bytes) × (whole ≡ lengthOf (now bytes)) × (kindIn (now bytes) ≡ Kind.Update) ⌝ }
-    ensures { λ r. ⌜ ReadsMessage (contentsOf (now (list .entry)) letter (now (bytes .entry))) (rowsRead (now (bytes .entry)) .cells) (now (cells .entry)) r (now (cells .exit)) ⌝ }
+fn update(
+    list: &[u8],
+    segment: Found,
+    bytes: &[u8],
+    whole: usize,
+    form: Form,
+    cells: &mut [u64; MOST_ROWS],
+) -> Outline
+    requires { ⌜ Framed (now bytes) × (whole ≡ lengthOf (now bytes)) × (formIn (now bytes) ≡ Named.Form form) × TellsOfContract form ⌝ }
+    ensures { λ r. ⌜ ReadsMessage (contentsBy (placeThere (now (list .entry)) (messageKey (now (bytes .entry))) (placeOf segment)) (now (bytes .entry))) (rowsRead (now (bytes .entry)) .cells) (now (cells .entry)) r (now (cells .exit)) ⌝ }
 {
-    let level = codes::level_of(whole);
     let number = fields::number_of(bytes);
     let end = whole - fields::TRAILER;
     let data = &bytes[fields::DATA..end];
-    let what = match layout::read_update(level, data, cells) {
-        Verdict::Good => placed(list, letter, data, number, level),
+    let what = match layout::read_update(form, data, cells) {
+        Verdict::Good => placed(list, segment, data, number, form),
         Verdict::Field(row) => What::Bad(Fault::Field(row)),
         Verdict::Range(row) => What::Bad(Fault::Range(row)),
     };
@@ -88,30 +94,50 @@ fn update(list: &[u8], letter: u8, bytes: &[u8], whole: usize, cells: &mut [u64;
 }
 
 // What a message with a good head is.
-fn contents(list: &[u8], letter: u8, bytes: &[u8], cells: &mut [u64; 37]) -> Outline
-    requires { ⌜ framed (now bytes) ≡ true ⌝ }
-    ensures { λ r. ⌜ ReadsMessage (contentsOf (now (list .entry)) letter (now (bytes .entry))) (rowsRead (now (bytes .entry)) .cells) (now (cells .entry)) r (now (cells .exit)) ⌝ }
+fn contents(
+    list: &[u8],
+    segment: Found,
+    bytes: &[u8],
+    named: Named,
+    cells: &mut [u64; MOST_ROWS],
+) -> Outline
+    requires { ⌜ (framed (now bytes) ≡ true) × (named ≡ formIn (now bytes)) ⌝ }
+    ensures { λ r. ⌜ ReadsMessage (contentsBy (placeThere (now (list .entry)) (messageKey (now (bytes .entry))) (placeOf segment)) (now (bytes .entry))) (rowsRead (now (bytes .entry)) .cells) (now (cells .entry)) r (now (cells .exit)) ⌝ }
 {
     let whole = fields::length_of(bytes);
-    match codes::kind_of(fields::second_of(bytes)) {
-        Kind::Heartbeat => Outline {
-            what: What::Heartbeat,
+    match named {
+        Named::Form(form) => match layout::subject_of(form) {
+            Subject::Nothing => Outline {
+                what: What::Heartbeat,
+                length: whole,
+            },
+            Subject::Contract(_) => update(list, segment, bytes, whole, form, cells),
+        },
+        Named::NoLength => Outline {
+            what: What::PassedOver(fields::number_of(bytes)),
             length: whole,
         },
-        Kind::Update => update(list, letter, bytes, whole, cells),
-        Kind::PassedOver => Outline {
+        Named::PassedOver => Outline {
             what: What::PassedOver(fields::number_of(bytes)),
             length: whole,
         },
     }
 }
 
-// The message that begins here; `letter` is the letter of its batch's first message.
-pub fn read(list: &[u8], letter: u8, bytes: &[u8], cells: &mut [u64; 37]) -> Outline
-    ensures { λ r. ⌜ ReadsMessage (messageOf (now (list .entry)) letter (now (bytes .entry))) (cellsRead (headOf (now (list .entry)) letter (now (bytes .entry))) (now (bytes .entry))) (now (cells .entry)) r (now (cells .exit)) ⌝ }
+// The message that begins here; `letter` is the letter of its batch's first message, and `segment` where that is listed.
+pub fn read(
+    list: &[u8],
+    letter: u8,
+    segment: Found,
+    bytes: &[u8],
+    cells: &mut [u64; MOST_ROWS],
+) -> Outline
+    requires { ⌜ placeOf segment ≡ segmentOf (now list) letter ⌝ }
+    ensures { λ r. ⌜ ReadsMessage (messageOf (now (list .entry)) letter (now (bytes .entry))) (cellsRead (now (list .entry)) letter (now (bytes .entry))) (now (cells .entry)) r (now (cells .exit)) ⌝ }
 {
-    match head::judge_head(list, letter, bytes) {
-        Head::Good => contents(list, letter, bytes, cells),
+    let named = fields::form_in(bytes);
+    match head::judge_head(letter, segment, bytes, named) {
+        Head::Good => contents(list, segment, bytes, named, cells),
         Head::Bad(fault) => Outline {
             what: What::Bad(fault),
             length: fields::length_of(bytes),

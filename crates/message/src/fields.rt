@@ -1,6 +1,8 @@
 // The fields of a message, each at its place. What stands past the end reads as zero, so that no caller checks first.
 ghost use mathlib.Core.Path.{_≡_};
-ghost use Rattle.message.specs.Fields.{letterOf, secondOf, lengthOf, numberOf};
+ghost use Rattle.message.specs.Fields.{letterOf, secondOf, lengthOf, numberOf, formIn, sumIn};
+use layout::Named;
+use layout::Sum;
 
 // Code (2), length (2), number (4), data, sum (2), end byte.
 const SECOND: usize = 1;
@@ -35,4 +37,16 @@ pub(crate) fn number_of(bytes: &[u8]) -> u32
     ensures { λ r. ⌜ r ≡ numberOf (now (bytes .entry)) ⌝ }
 {
     wire::u32_at(bytes, NUMBER)
+}
+
+pub(crate) fn form_in(bytes: &[u8]) -> Named
+    ensures { λ r. ⌜ r ≡ formIn (now (bytes .entry)) ⌝ }
+{
+    layout::form_of(letter_of(bytes), second_of(bytes), length_of(bytes))
+}
+
+pub(crate) fn sum_in(bytes: &[u8]) -> Sum
+    ensures { λ r. ⌜ r ≡ sumIn (now (bytes .entry)) ⌝ }
+{
+    layout::sum_rule(letter_of(bytes), second_of(bytes))
 }

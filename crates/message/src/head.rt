@@ -1,14 +1,15 @@
 // The checks 5 to 10: all of a message but its data.
 ghost use mathlib.Core.Path.{_≡_};
 ghost use mathlib.Core.List.{[], _∷_};
+ghost use Rattle.contracts.specs.Answers.{placeOf};
 ghost use Rattle.message.specs.Good.{Framed};
-ghost use Rattle.message.specs.Fields.{lengthOf, kindIn, sumSent, rightSum};
-ghost use Rattle.message.specs.Head.{framed, coded, trailed, summed, takesNumber, headOf, sameBytes};
-use crate::codes;
-use crate::codes::Kind;
-use crate::codes::Sum;
+ghost use Rattle.message.specs.Fields.{lengthOf, formIn, sumSent, rightSum};
+ghost use Rattle.message.specs.Head.{framed, isCapital, coded, trailed, takesLength, summed, numbersSubject, takesNumber, headOf, sameBytes};
 use crate::fields;
 use contracts::Found;
+use layout::Named;
+use layout::Subject;
+use layout::Sum;
 
 const END: u8 = 13;
 
@@ -38,22 +39,29 @@ fn framed(bytes: &[u8]) -> bool
         return false;
     }
     let whole = fields::length_of(bytes);
-    if whole < codes::BARE {
+    if whole < layout::BARE {
         return false;
     }
     whole <= bytes.len()
 }
 
-fn coded(list: &[u8], letter: u8, bytes: &[u8]) -> bool
-    ensures { λ r. ⌜ r ≡ coded (now (list .entry)) letter (now (bytes .entry)) ⌝ }
+fn is_capital(second: u8) -> bool
+    ensures { λ r. ⌜ r ≡ isCapital second ⌝ }
+{
+    b'A' <= second && second <= b'Z'
+}
+
+// The letter's segment was looked up once for the batch.
+fn coded(letter: u8, segment: Found, bytes: &[u8]) -> bool
+    ensures { λ r. ⌜ r ≡ coded letter (placeOf segment) (now (bytes .entry)) ⌝ }
 {
     if fields::letter_of(bytes) != letter {
         return false;
     }
-    if !codes::is_capital(fields::second_of(bytes)) {
+    if !is_capital(fields::second_of(bytes)) {
         return false;
     }
-    match contracts::segment_of(list, letter) {
+    match segment {
         Found::At(_) => true,
         Found::Nowhere => false,
     }
@@ -86,12 +94,22 @@ fn carries_right(bytes: &[u8], whole: usize) -> bool
     carries(bytes, whole, sent[0], sent[1])
 }
 
+fn takes_length(named: Named) -> bool
+    ensures { λ r. ⌜ r ≡ takesLength named ⌝ }
+{
+    match named {
+        Named::Form(_) => true,
+        Named::NoLength => false,
+        Named::PassedOver => true,
+    }
+}
+
 // The sum is worked out only where zero doesn't settle it.
-fn summed(kind: Kind, bytes: &[u8], whole: usize) -> bool
-    requires { ⌜ Framed (now bytes) × (whole ≡ lengthOf (now bytes)) × (kind ≡ kindIn (now bytes)) ⌝ }
+fn summed(bytes: &[u8], whole: usize) -> bool
+    requires { ⌜ Framed (now bytes) × (whole ≡ lengthOf (now bytes)) ⌝ }
     ensures { λ r. ⌜ r ≡ summed (now (bytes .entry)) ⌝ }
 {
-    match codes::sum_rule(kind) {
+    match fields::sum_in(bytes) {
         Sum::Zero => carries(bytes, whole, 0, 0),
         Sum::Right => carries_right(bytes, whole),
         Sum::RightOrZero => {
@@ -103,38 +121,48 @@ fn summed(kind: Kind, bytes: &[u8], whole: usize) -> bool
     }
 }
 
-pub fn takes_number(kind: Kind, number: u32) -> bool
-    ensures { λ r. ⌜ r ≡ takesNumber kind number ⌝ }
+// A message that tells of nothing is a heartbeat.
+fn numbers_subject(subject: Subject, number: u32) -> bool
+    ensures { λ r. ⌜ r ≡ numbersSubject subject number ⌝ }
 {
-    match kind {
-        Kind::Heartbeat => number == 0,
-        Kind::Update => 1 <= number,
-        Kind::PassedOver => 1 <= number,
+    match subject {
+        Subject::Nothing => number == 0,
+        Subject::Contract(_) => 1 <= number,
+    }
+}
+
+pub fn takes_number(named: Named, number: u32) -> bool
+    ensures { λ r. ⌜ r ≡ takesNumber named number ⌝ }
+{
+    match named {
+        Named::Form(form) => numbers_subject(layout::subject_of(form), number),
+        Named::NoLength => 1 <= number,
+        Named::PassedOver => 1 <= number,
     }
 }
 
 // The rules 5 to 10 in turn: the first broken one decides.
-pub fn judge_head(list: &[u8], letter: u8, bytes: &[u8]) -> Head
-    ensures { λ r. ⌜ r ≡ headOf (now (list .entry)) letter (now (bytes .entry)) ⌝ }
+pub(crate) fn judge_head(letter: u8, segment: Found, bytes: &[u8], named: Named) -> Head
+    requires { ⌜ named ≡ formIn (now bytes) ⌝ }
+    ensures { λ r. ⌜ r ≡ headOf letter (placeOf segment) (now (bytes .entry)) ⌝ }
 {
     if !framed(bytes) {
         return Head::Bad(Fault::Frame);
     }
     let whole = fields::length_of(bytes);
-    if !coded(list, letter, bytes) {
+    if !coded(letter, segment, bytes) {
         return Head::Bad(Fault::Code);
     }
     if !trailed(bytes, whole) {
         return Head::Bad(Fault::Trailer);
     }
-    let kind = codes::kind_of(fields::second_of(bytes));
-    if !codes::takes_length(kind, whole) {
+    if !takes_length(named) {
         return Head::Bad(Fault::Length);
     }
-    if !summed(kind, bytes, whole) {
+    if !summed(bytes, whole) {
         return Head::Bad(Fault::Checksum);
     }
-    if !takes_number(kind, fields::number_of(bytes)) {
+    if !takes_number(named, fields::number_of(bytes)) {
         return Head::Bad(Fault::Numbering);
     }
     Head::Good

@@ -1,6 +1,5 @@
 // One message: the checks 5 to 13 in document 01's order, and what the message is.
 mod body;
-mod codes;
 mod fields;
 mod head;
 
@@ -8,8 +7,6 @@ pub use body::Outline;
 pub use body::What;
 pub use body::find;
 pub use body::read;
-pub use codes::Kind;
-pub use codes::kind_of;
 pub use fields::letter_of;
 pub use head::Fault;
 pub use head::Head;

@@ -1,28 +1,33 @@
 // A gap row that numbers come to.
 use crate::say::say;
 use crate::say::say_bool;
+use crate::say::say_runs;
 use crate::say::say_with;
-use sequence::Listed;
+use sequence::CELLS;
+use sequence::GapsListed;
 use sequence::Taken;
 use sequence::WriteOff;
 
-pub fn say_start(row: &mut [u32; 132], number: u32) {
+pub fn say_start(row: &mut [u32; CELLS], number: u32) {
     sequence::start(row, number);
     say(b"started");
 }
 
-pub fn say_taken(row: &mut [u32; 132], number: u32) {
-    if !sequence::sound(row) {
-        return;
-    }
-    match sequence::take(row, number) {
+fn say_answer(answer: Taken) {
+    match answer {
         Taken::Taken => say(b"taken"),
         Taken::Old => say(b"old"),
         Taken::Full => say(b"full"),
     }
 }
 
-pub fn say_off(row: &mut [u32; 132]) {
+pub fn say_taken(row: &mut [u32; CELLS], number: u32) {
+    if sequence::sound(row) {
+        say_answer(sequence::take(row, number));
+    }
+}
+
+pub fn say_off(row: &mut [u32; CELLS]) {
     match sequence::write_off(row) {
         WriteOff::Removed(first, last) => {
             say_with(b"off ", first as u64);
@@ -32,46 +37,28 @@ pub fn say_off(row: &mut [u32; 132]) {
     }
 }
 
-fn say_run(first: u32, last: u32) {
-    say_with(b" ", first as u64);
-    say_with(b"-", last as u64);
+fn say_found(highest: u32, runs: usize, cells: &[u32]) {
+    say_with(b" highest ", highest as u64);
+    say_with(b" runs ", runs as u64);
+    say_runs(console::runs_in(cells, runs));
 }
 
-fn say_runs(cells: &[u32]) {
-    let runs = cells.len() / 2;
-    let mut i = 0;
-    while i < runs {
-        say_run(cells[2 * i], cells[2 * i + 1]);
-        i += 1;
-    }
-}
-
-fn say_listed(row: &[u32; 132], cells: &mut [u32]) {
+fn say_listed(row: &[u32; CELLS], cells: &mut [u32]) {
     match sequence::list(row, cells) {
-        Listed::Runs(highest, runs) => {
-            say_with(b" highest ", highest as u64);
-            say_with(b" runs ", runs as u64);
-            if runs <= cells.len() / 2 {
-                say_runs(&cells[..2 * runs]);
-            }
-        }
-        Listed::Short(_) => say(b" short"),
+        GapsListed::Runs(highest, runs) => say_found(highest, runs, cells),
+        GapsListed::Short(_) => say(b" short"),
     }
 }
 
-pub fn say_gaps(row: &[u32; 132]) {
-    let mut cells = [0u32; 128];
+pub fn say_gaps(row: &[u32; CELLS]) {
+    let mut cells = [0u32; console::RUN_CELLS];
     say_bool(b"sound ", sequence::sound(row));
     say_listed(row, &mut cells);
 }
 
-fn row_back(asked: &[u8]) -> [u32; 132] {
-    let mut row = [0u32; 132];
-    let mut i = 0;
-    while i < 132 {
-        row[i] = wire::u32_at(asked, 4 * i);
-        i += 1;
-    }
+fn row_back(asked: &[u8]) -> [u32; CELLS] {
+    let mut row = [0u32; CELLS];
+    console::u32s_at(asked, 0, &mut row);
     row
 }
 

@@ -1,26 +1,23 @@
 // Checksums, numbers read and numbers written.
 use crate::say::say;
+use crate::say::say_bytes;
+use crate::say::say_with;
 use amount::Number;
 use amount::Price;
 use amount::Put;
 use amount::Quantity;
 use amount::Turnover;
-use libc::STDOUT_FILENO;
 
 pub fn say_sum(text: &[u8]) {
     let sent = wire::sent(wire::sum(text));
-    io::print_decimal(STDOUT_FILENO, sent[0] as u64);
-    say(b" ");
-    io::print_decimal(STDOUT_FILENO, sent[1] as u64);
+    say_with(b"", sent[0] as u64);
+    say_with(b" ", sent[1] as u64);
 }
 
 pub fn say_number(number: Number) {
     match number {
         Number::None => say(b"none"),
-        Number::Amount(units) => {
-            say(b"amount ");
-            io::print_decimal(STDOUT_FILENO, units);
-        }
+        Number::Amount(units) => say_with(b"amount ", units),
         Number::Malformed => say(b"malformed"),
         Number::OutOfRange => say(b"out of range"),
     }
@@ -36,11 +33,7 @@ fn put(kind: u8, units: u64, field: &mut [u8]) -> Put {
 
 fn say_field(kind: u8, units: u64, field: &mut [u8]) {
     match put(kind, units, field) {
-        Put::Fits => {
-            say(b"[");
-            say(field);
-            say(b"]");
-        }
+        Put::Fits => say_bytes(field),
         Put::OutOfRange => say(b"refused"),
     }
 }
@@ -50,6 +43,6 @@ pub fn say_text(kind: u8, asked: &[u8], room: &mut [u8]) {
     let units = wire::u64_at(asked, 0);
     let width = wire::u8_at(asked, 8) as usize;
     if width <= room.len() {
-        say_field(kind, units, &mut room[..width]);
+        say_field(kind, units, &mut room[0..width]);
     }
 }

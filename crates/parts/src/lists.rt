@@ -9,6 +9,14 @@ pub fn say_list(list: &[u8]) {
     say_bool(b" header ", contracts::header_sound(list));
 }
 
+fn say_place(list: &[u8], segment: usize, key: &[u8]) {
+    say_with(b"segment ", segment as u64);
+    match contracts::place_of(list, segment, key) {
+        Found::Nowhere => say(b" nowhere"),
+        Found::At(place) => say_with(b" place ", place as u64),
+    }
+}
+
 // What is asked has a letter, a key of 39 bytes and the list.
 pub fn say_key(asked: &[u8]) {
     if asked.len() < 40 {
@@ -17,12 +25,6 @@ pub fn say_key(asked: &[u8]) {
     let list = &asked[40..];
     match contracts::segment_of(list, asked[0]) {
         Found::Nowhere => say(b"nowhere"),
-        Found::At(segment) => {
-            say_with(b"segment ", segment as u64);
-            match contracts::place_of(list, segment, &asked[1..40]) {
-                Found::Nowhere => say(b" nowhere"),
-                Found::At(place) => say_with(b" place ", place as u64),
-            }
-        }
+        Found::At(segment) => say_place(list, segment, &asked[1..40]),
     }
 }

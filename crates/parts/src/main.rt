@@ -11,8 +11,9 @@ use amount::Quantity;
 use amount::Turnover;
 use libc::STDIN_FILENO;
 use say::say;
+use sequence::CELLS;
 
-fn answer(kind: u8, asked: &[u8], row: &mut [u32; 132]) {
+fn answer(kind: u8, asked: &[u8], row: &mut [u32; CELLS]) {
     match kind {
         b'C' => leaves::say_sum(asked),
         b'P' => leaves::say_number(Price::read(asked)),
@@ -32,7 +33,7 @@ fn answer(kind: u8, asked: &[u8], row: &mut [u32; 132]) {
     say(b"\n");
 }
 
-fn ask(kind: u8, asked: &mut [u8], row: &mut [u32; 132]) -> bool {
+fn ask(kind: u8, asked: &mut [u8], row: &mut [u32; CELLS]) -> bool {
     if io::read_full(STDIN_FILENO, asked) < asked.len() {
         return false;
     }
@@ -41,7 +42,7 @@ fn ask(kind: u8, asked: &mut [u8], row: &mut [u32; 132]) -> bool {
 }
 
 // One question; false where the input ends.
-fn one_more(room: &mut [u8], row: &mut [u32; 132]) -> bool {
+fn one_more(room: &mut [u8], row: &mut [u32; CELLS]) -> bool {
     let mut head = [0u8; 3];
     if io::read_full(STDIN_FILENO, &mut head) < 3 {
         return false;
@@ -51,19 +52,18 @@ fn one_more(room: &mut [u8], row: &mut [u32; 132]) -> bool {
     if room.len() < size {
         return false;
     }
-    ask(kind, &mut room[..size], row)
+    ask(kind, &mut room[0..size], row)
 }
 
-// A proved loop has to end, so it counts down from a number that no run uses up.
-fn all(room: &mut [u8], row: &mut [u32; 132]) {
-    let mut turns = u64::MAX;
-    while turns > 0 && one_more(room, row) {
-        turns -= 1;
+fn all(room: &mut [u8], row: &mut [u32; CELLS]) {
+    let mut turns: u64 = 0;
+    while turns < console::LAST_TURN {
+        turns = console::turn_after(turns, one_more(room, row));
     }
 }
 
 fn main() {
-    let mut row = [0u32; 132];
+    let mut row = [0u32; CELLS];
     all(&mut io::large_buffer(), &mut row);
     say(b"end\n");
 }

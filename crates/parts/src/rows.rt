@@ -1,32 +1,26 @@
 // The rows of an update, read and written.
-ghost use Prim.Native.Nat.{_≤_};
 use crate::say::say;
+use crate::say::say_bytes;
+use crate::say::say_numbers;
 use crate::say::say_with;
-use layout::Level;
+use layout::Form;
+use layout::MOST_ROWS;
 use layout::Verdict;
 
-fn level_of(byte: u8) -> Level {
-    if byte == 1 { Level::One } else { Level::Two }
+fn form_of(byte: u8) -> Form {
+    if byte == 1 {
+        Form::LevelOne
+    } else {
+        Form::LevelTwo
+    }
 }
 
-fn rows_of(byte: u8) -> usize
-    ensures { λ r. ⌜ r ≤ 37 ⌝ }
-{
+fn rows_of(byte: u8) -> usize {
     if byte == 1 { 19 } else { 37 }
 }
 
-fn say_cell(cell: u64) {
-    say_with(b" ", cell);
-}
-
-fn say_cells(cells: &[u64; 37], count: usize)
-    requires { ⌜ count ≤ 37 ⌝ }
-{
-    let mut i = 0;
-    while i < count {
-        say_cell(cells[i]);
-        i += 1;
-    }
+fn say_cells(cells: &[u64; MOST_ROWS], count: usize) {
+    say_numbers(cells, count);
 }
 
 // A level's byte, and the data.
@@ -35,8 +29,8 @@ pub fn say_read(asked: &[u8]) {
     if asked.len() == 0 {
         return;
     }
-    let mut cells = [0u64; 37];
-    match layout::read_update(level_of(level), &asked[1..], &mut cells) {
+    let mut cells = [0u64; MOST_ROWS];
+    match layout::read_update(form_of(level), &asked[1..], &mut cells) {
         Verdict::Good => {
             say(b"good");
             say_cells(&cells, rows_of(level));
@@ -46,23 +40,15 @@ pub fn say_read(asked: &[u8]) {
     }
 }
 
-fn cells_in(asked: &[u8]) -> [u64; 37] {
-    let mut cells = [0u64; 37];
-    let mut i = 0;
-    while i < 37 {
-        cells[i] = wire::u64_at(asked, 40 + 8 * i);
-        i += 1;
-    }
+fn cells_in(asked: &[u8]) -> [u64; MOST_ROWS] {
+    let mut cells = [0u64; MOST_ROWS];
+    console::u64s_at(asked, 40, &mut cells);
     cells
 }
 
-fn say_data(level: Level, key: &[u8], cells: &[u64; 37], data: &mut [u8]) {
-    match layout::write_update(level, key, cells, data) {
-        Verdict::Good => {
-            say(b"[");
-            say(data);
-            say(b"]");
-        }
+fn say_data(form: Form, key: &[u8], cells: &[u64; MOST_ROWS], data: &mut [u8]) {
+    match layout::write_update(form, key, cells, data) {
+        Verdict::Good => say_bytes(data),
         Verdict::Field(row) => say_with(b"field ", row as u64),
         Verdict::Range(row) => say_with(b"range ", row as u64),
     }
@@ -74,9 +60,9 @@ pub fn say_written(asked: &[u8], data: &mut [u8]) {
         return;
     }
     let level = asked[0];
-    let size = layout::data_length(level_of(level));
+    let size = layout::data_length(form_of(level));
     let cells = cells_in(asked);
     if size <= data.len() {
-        say_data(level_of(level), &asked[1..40], &cells, &mut data[..size]);
+        say_data(form_of(level), &asked[1..40], &cells, &mut data[0..size]);
     }
 }

@@ -12,47 +12,46 @@ use Rattle.laws.specs.RulesLaws.{last-held}
 use Rattle.contracts.specs.File.{segmentsOf, contractsOf}
 use Rattle.contracts.specs.Lookup.{segmentOf}
 use Rattle.contracts.specs.LookupLaws.{segment-has}
-use Rattle.layout.specs.declared.rows.Level.{Level}
-use Rattle.layout.specs.declared.rows.Level.the-variants.{One, Two}
+use Rattle.forms.specs.declared.rows.Level.{Level}
+use Rattle.forms.specs.declared.rows.Level.the-variants.{One, Two}
 use Rattle.sequence.specs.Gaps.{Gaps, wanted, begun, wroteOff}
 use Rattle.sequence.specs.GapsLaws.{begun-sound, wroteOff-sound}
-use Rattle.sequence.specs.Row.{gapsOf, flat, laid, soundRow}
+use Rattle.sequence.specs.Row.{gapsOf, flat, laid, soundGapRow}
 use Rattle.sequence.specs.RowLaws.{laid-gaps, laid-sound, length-flat, sound-row-exactly}
-use Rattle.quotebox.specs.declared.refusal.Refusal.{Refusal}
-use Rattle.quotebox.specs.declared.answers.Started.{Started}
-use Rattle.quotebox.specs.declared.answers.Listed.{Listed}
-use Rattle.quotebox.specs.declared.answers.WrittenOff.{WrittenOff}
-use Rattle.quotebox.specs.declared.answers.Reading.{Reading}
-use Rattle.quotebox.specs.Memory.{rowCells, rowsWanted, recordsWanted, rowOf, withRow, recordAt}
-use Rattle.quotebox.specs.RowsLaws.{length-with, row-put, behind-kept, row-kept, sound-with}
-use Rattle.quotebox.specs.State.{segmentRules}
-use Rattle.quotebox.specs.GoodState.{GoodState}
-use Rattle.quotebox.specs.StateLaws.{is-some, state-held, letter-listed, row-there, row-sound}
-use Rattle.quotebox.specs.Start.{startOf, startRules, GoodStart, startedRow, startedRows, rowsStarted, recordsCleared}
+use Rattle.state.specs.declared.refusal.Refusal.{Refusal}
+use Rattle.state.specs.declared.answers.Started.{Started}
+use Rattle.state.specs.declared.answers.Listed.{Listed}
+use Rattle.state.specs.declared.answers.WrittenOff.{WrittenOff}
+use Rattle.quotebox.specs.declared.record.Reading.{Reading}
+use Rattle.state.specs.Memory.{Lent, lends, gapRowCells, gapRowsWanted, gapRowOf, withGapRow}
+use Rattle.state.specs.Slots.{Slot, SlotListed, slotAt, recordsWanted, SameBehind}
+use Rattle.state.specs.SlotsLaws.{slot-inside, slot-some}
+use Rattle.state.specs.RowsLaws.{length-with, row-put, behind-kept, row-kept, sound-with}
+use Rattle.state.specs.State.{segmentRules}
+use Rattle.state.specs.GoodState.{GoodState}
+use Rattle.state.specs.StateLaws.{is-some, state-held, letter-listed, row-there, row-sound}
+use Rattle.quotebox.specs.Start.{startBroken, lentStarted, startOf, startRules, GoodStart, startedRow, startedRows, rowsStarted, recordsCleared}
 use Rattle.quotebox.specs.StartLaws.{start-exact, started-lengths, started-row}
-use Rattle.quotebox.specs.Calls.{leftBy, gapsOfLetter, listRules, listValues, runsPut, writeOffRules, runValues, lowestRun, rowsWrittenOff}
+use Rattle.quotebox.specs.Calls.{gapsOfLetter, listRules, listValues, runsPut, writeOffRules, runValues, lowestRun, lentWrittenOff}
+use Rattle.state.specs.Answers.{leftBy}
 use Rattle.quotebox.specs.CallsLaws.{off-left}
 use Rattle.quotebox.specs.CallPromises.{StartedBox, ListedRuns, WroteOffRun, ReadRecord}
-use Rattle.quotebox.specs.AnswersLaws.{started-told, listed-told, written-off-told, recorded-told, refused-by, accepted-by}
+use Rattle.state.specs.AnswersLaws.{started-told, listed-told, written-off-told, recorded-told, refused-by, accepted-by}
 
 -- ---- one outcome
 
-pub one-started : {list starts rows records rows′ rows″ records′ records″ : List ℕ} (a b : Started)
-    → StartedBox list starts rows records a rows′ records′ → StartedBox list starts rows records b rows″ records″
-    → (a ≡ b) × (rows′ ≡ rows″) × (records′ ≡ records″)
-one-started a b p q =
-    (started-told a b (p .answers ∙ sym (q .answers)), p .rows-left ∙ sym (q .rows-left), p .records-left ∙ sym (q .records-left))
+pub one-started : {lent lent′ lent″ : Lent} {starts : List ℕ} (a b : Started) → StartedBox lent starts a lent′ → StartedBox lent starts b lent″ → (a ≡ b) × (lent′ ≡ lent″)
+one-started a b p q = (started-told a b (p .answers ∙ sym (q .answers)), p .left ∙ sym (q .left))
 
-pub one-listed : {list rows records cells cells′ cells″ : List ℕ} {letter : ℕ} (a b : Listed)
-    → ListedRuns list rows records letter cells a cells′ → ListedRuns list rows records letter cells b cells″ → (a ≡ b) × (cells′ ≡ cells″)
+pub one-listed : {lent : Lent} {cells cells′ cells″ : List ℕ} {letter : ℕ} (a b : Listed)
+    → ListedRuns lent letter cells a cells′ → ListedRuns lent letter cells b cells″ → (a ≡ b) × (cells′ ≡ cells″)
 one-listed a b p q = (listed-told a b (p .answers ∙ sym (q .answers)), p .cells-left ∙ sym (q .cells-left))
 
-pub one-written-off : {list rows records rows′ rows″ : List ℕ} {letter : ℕ} (a b : WrittenOff)
-    → WroteOffRun list rows records letter a rows′ → WroteOffRun list rows records letter b rows″ → (a ≡ b) × (rows′ ≡ rows″)
-one-written-off a b p q = (written-off-told a b (p .answers ∙ sym (q .answers)), p .rows-left ∙ sym (q .rows-left))
+pub one-written-off : {lent lent′ lent″ : Lent} {letter : ℕ} (a b : WrittenOff) → WroteOffRun lent letter a lent′ → WroteOffRun lent letter b lent″ → (a ≡ b) × (lent′ ≡ lent″)
+one-written-off a b p q = (written-off-told a b (p .answers ∙ sym (q .answers)), p .left ∙ sym (q .left))
 
-pub one-reading : {list rows records key : List ℕ} {letter : ℕ} {level : Level} (a b : Reading)
-    → ReadRecord list rows records letter key level a → ReadRecord list rows records letter key level b → a ≡ b
+pub one-reading : {lent : Lent} {key : List ℕ} {letter : ℕ} {level : Level} (a b : Reading)
+    → ReadRecord lent letter key level a → ReadRecord lent letter key level b → a ≡ b
 one-reading a b p q =
     let answer = recorded-told (a .answer) (b .answer) (p .answers ∙ sym (q .answers)) in
     let quote = p .quotes ∙ sym (q .quotes) in
@@ -60,94 +59,97 @@ one-reading a b p q =
 
 -- ---- a refused call: the first broken rule's refusal, and nothing changes
 
-left-as : (o : Option Refusal) (r : Refusal) (before after : List ℕ) → o ≡ some r → leftBy o before after ≡ before
+left-as : {A : Type 0} (o : Option Refusal) (r : Refusal) (before after : A) → o ≡ some r → leftBy o before after ≡ before
 left-as o r before after e = rw e
 
-left-new : (o : Option Refusal) (before after : List ℕ) → o ≡ none → leftBy o before after ≡ after
+left-new : {A : Type 0} (o : Option Refusal) (before after : A) → o ≡ none → leftBy o before after ≡ after
 left-new o before after e = rw e
 
-pub start-refusal : {list starts rows records rows′ records′ : List ℕ} (r : Refusal) → StartedBox list starts rows records (Started.Refused r) rows′ records′
-    → (firstBroken (startRules list starts (length rows) (length records)) ≡ some r) × (rows′ ≡ rows) × (records′ ≡ records)
-start-refusal {list} {starts} {rows} {records} r p =
-    let broken = refused-by (firstBroken (startRules list starts (length rows) (length records))) [] r (p .answers) in (
-      broken,
-      p .rows-left ∙ left-as _ r rows (rowsStarted list starts rows) broken,
-      p .records-left ∙ left-as _ r records (recordsCleared list records) broken,
-    )
+pub start-refusal : {lent lent′ : Lent} {starts : List ℕ} (r : Refusal) → StartedBox lent starts (Started.Refused r) lent′
+    → (startBroken lent starts ≡ some r) × (lent′ ≡ lent)
+start-refusal {lent} {starts = starts} r p =
+    let broken = refused-by (startBroken lent starts) [] r (p .answers) in
+    (broken, p .left ∙ left-as _ r lent (lentStarted lent starts) broken)
 
-pub list-refusal : {list rows records cells cells′ : List ℕ} {letter : ℕ} (r : Refusal) → ListedRuns list rows records letter cells (Listed.Refused r) cells′
-    → (firstBroken (listRules list rows records letter (length cells)) ≡ some r) × (cells′ ≡ cells)
-list-refusal {list} {rows} {records} {cells} {letter = letter} r p =
-    let gaps : Gaps = gapsOfLetter list rows letter in
-    let broken = refused-by (firstBroken (listRules list rows records letter (length cells))) (listValues gaps) r (p .answers) in
+pub list-refusal : {lent : Lent} {cells cells′ : List ℕ} {letter : ℕ} (r : Refusal) → ListedRuns lent letter cells (Listed.Refused r) cells′
+    → (firstBroken (listRules lent letter (length cells)) ≡ some r) × (cells′ ≡ cells)
+list-refusal {lent} {cells} {letter = letter} r p =
+    let gaps : Gaps = gapsOfLetter lent letter in
+    let broken = refused-by (firstBroken (listRules lent letter (length cells))) (listValues gaps) r (p .answers) in
     (broken, p .cells-left ∙ left-as _ r cells (runsPut gaps cells) broken)
 
-pub off-refusal : {list rows records rows′ : List ℕ} {letter : ℕ} (r : Refusal) → WroteOffRun list rows records letter (WrittenOff.Refused r) rows′
-    → (firstBroken (writeOffRules list rows records letter) ≡ some r) × (rows′ ≡ rows)
-off-refusal {list} {rows} {records} {letter = letter} r p =
-    let broken = refused-by (firstBroken (writeOffRules list rows records letter)) (runValues (lowestRun (gapsOfLetter list rows letter))) r (p .answers) in
-    (broken, p .rows-left ∙ left-as _ r rows (rowsWrittenOff list rows letter) broken)
+pub off-refusal : {lent lent′ : Lent} {letter : ℕ} (r : Refusal) → WroteOffRun lent letter (WrittenOff.Refused r) lent′
+    → (firstBroken (writeOffRules lent letter) ≡ some r) × (lent′ ≡ lent)
+off-refusal {lent} {letter = letter} r p =
+    let broken = refused-by (firstBroken (writeOffRules lent letter)) (runValues (lowestRun (gapsOfLetter lent letter))) r (p .answers) in
+    (broken, p .left ∙ left-as _ r lent (lentWrittenOff lent letter) broken)
 
 -- ---- an accepted start
 
-module _ {list starts rows records rows′ records′ : List ℕ} (p : StartedBox list starts rows records Started.Started rows′ records′) where
-  held : firstBroken (startRules list starts (length rows) (length records)) ≡ none
-  held = accepted-by (firstBroken (startRules list starts (length rows) (length records))) [] [] (p .answers) .0
+module _ {lent lent′ : Lent} {starts : List ℕ} (p : StartedBox lent starts Started.Started lent′) where
+  abbrev list : List ℕ
+  list = lent .list
 
-  pub start-good : GoodStart list starts (length rows) (length records)
-  start-good = start-exact list starts (length rows) (length records) .0 held
+  held : startBroken lent starts ≡ none
+  held = accepted-by (startBroken lent starts) [] [] (p .answers) .0
 
-  rows-are : rows′ ≡ startedRows (segmentsOf list) starts ++ drop (rowsWanted list) rows
+  pub start-good : GoodStart list starts (length (lent .rows)) (length (lent .records))
+  start-good = start-exact list starts (length (lent .rows)) (length (lent .records)) .0 held
+
+  pub start-left : lent′ ≡ lentStarted lent starts
+  start-left = p .left ∙ left-new _ lent (lentStarted lent starts) held
+
+  rows-are : lent′ .rows ≡ startedRows (segmentsOf list) starts ++ drop (gapRowsWanted list) (lent .rows)
   unfolding rowsStarted
-  rows-are = p .rows-left ∙ left-new _ rows (rowsStarted list starts rows) held
+  rows-are = ap (λ (l : Lent). l .rows) start-left
 
-  records-are : records′ ≡ replicate (recordsWanted list) 0 ++ drop (recordsWanted list) records
+  records-are : lent′ .records ≡ replicate (recordsWanted list) 0 ++ drop (recordsWanted list) (lent .records)
   unfolding recordsCleared
-  records-are = p .records-left ∙ left-new _ records (recordsCleared list records) held
+  records-are = ap (λ (l : Lent). l .records) start-left
 
   -- each listed segment's gaps are those of its start number
-  pub row-started : (i : ℕ) → i < segmentsOf list → rowOf rows′ i ≡ startedRow (startOf starts i)
-  row-started i h = ap (λ (ns : List ℕ). rowOf ns i) rows-are ∙ started-row starts (segmentsOf list) (drop (rowsWanted list) rows) i h
+  pub row-started : (i : ℕ) → i < segmentsOf list → gapRowOf (lent′ .rows) i ≡ startedRow (startOf starts i)
+  row-started i h = ap (λ (ns : List ℕ). gapRowOf ns i) rows-are ∙ started-row starts (segmentsOf list) (drop (gapRowsWanted list) (lent .rows)) i h
 
-  pub gaps-started : (i : ℕ) → i < segmentsOf list → gapsOf (rowOf rows′ i) ≡ begun (startOf starts i)
-  gaps-started i h = ap gapsOf (row-started i h) ∙ laid-gaps (replicate rowCells 0) (begun (startOf starts i))
+  pub gaps-started : (i : ℕ) → i < segmentsOf list → gapsOf (gapRowOf (lent′ .rows) i) ≡ begun (startOf starts i)
+  gaps-started i h = ap gapsOf (row-started i h) ∙ laid-gaps (replicate gapRowCells 0) (begun (startOf starts i))
 
   -- what is left passes the checks of the calls that follow
-  pub start-leaves : GoodState list rows′ records′
+  pub start-leaves : GoodState lent′
   start-leaves =
+      let same : lent′ .list ≡ list = ap (λ (l : Lent). l .list) start-left in
       let good = start-good in
       let rows-lent = good .rows-lent in
       let records-lent = good .records-lent in
-      let rows-long : length rows′ ≡ length rows = ap length rows-are ∙ simp (length-append, started-lengths starts (segmentsOf list), length-drop) (omega arith) in
-      let records-long : length records′ ≡ length records = ap length records-are ∙ simp (length-append, length-replicate, length-drop) (omega arith) in
+      let rows-long : length (lent′ .rows) ≡ length (lent .rows) = ap length rows-are ∙ simp (length-append, started-lengths starts (segmentsOf list), length-drop) (omega arith) in
+      let records-long : length (lent′ .records) ≡ length (lent .records) = ap length records-are ∙ simp (length-append, length-replicate, length-drop) (omega arith) in
       record {
-        header = good .list-sound .header;
-        rows-lent = rw rows-long rows-lent;
-        records-lent = rw records-long records-lent;
-        rows-sound = λ i h. ap soundRow (row-started i h) ∙ laid-sound (replicate rowCells 0) (begun (startOf starts i)) refl (begun-sound (startOf starts i) (good .started i h));
+        header = rw same (good .list-sound .header);
+        rows-lent = rw (same, rows-long) rows-lent;
+        records-lent = rw (same, records-long) records-lent;
+        rows-sound = rw same λ i h. ap soundGapRow (row-started i h) ∙ laid-sound (replicate gapRowCells 0) (begun (startOf starts i)) refl (begun-sound (startOf starts i) (good .started i h));
       }
 
   -- every record is cleared, so that each contract reads "no record"
-  pub records-cleared : (k : ℕ) → k < recordsWanted list → getD records′ k 0 ≡ 0
+  pub records-cleared : (k : ℕ) → k < recordsWanted list → getD (lent′ .records) k 0 ≡ 0
   records-cleared k h =
       let zeros : List ℕ = replicate (recordsWanted list) 0 in
       let l : length zeros ≡ recordsWanted list = length-replicate (recordsWanted list) 0 in
       ap (λ (ns : List ℕ). getD ns k 0) records-are
-      ∙ List·getD-append zeros (drop (recordsWanted list) records) 0 k (omega arith)
+      ∙ List·getD-append zeros (drop (recordsWanted list) (lent .records)) 0 k (omega arith)
       ∙ getD-replicate (recordsWanted list) k 0 0 h
 
-  pub no-records : (contract : ℕ) (level : Level) → contract < contractsOf list → getD records′ (recordAt contract level) 0 ≡ 0
-  no-records contract One h = records-cleared (recordAt contract One) (omega arith)
-  no-records contract Two h = records-cleared (recordAt contract Two) (omega arith)
+  pub no-records : (slot : Slot) → SlotListed list slot → getD (lent′ .records) (slotAt list slot) 0 ≡ 0
+  no-records slot there = records-cleared (slotAt list slot) (omega (arith, slot-inside list slot there, slot-some slot))
 
 -- ---- an accepted listing
 
-module _ {list rows records cells cells′ : List ℕ} {letter : ℕ} (highest runs : ℕ) (p : ListedRuns list rows records letter cells (Listed.Runs highest runs) cells′) where
+module _ {lent : Lent} {cells cells′ : List ℕ} {letter : ℕ} (highest runs : ℕ) (p : ListedRuns lent letter cells (Listed.Runs highest runs) cells′) where
   abbrev gaps : Gaps
-  gaps = gapsOfLetter list rows letter
+  gaps = gapsOfLetter lent letter
 
-  list-held : (firstBroken (listRules list rows records letter (length cells)) ≡ none) × (highest ∷ runs ∷ [] ≡ listValues gaps)
-  list-held = accepted-by (firstBroken (listRules list rows records letter (length cells))) (listValues gaps) (highest ∷ runs ∷ []) (p .answers)
+  list-held : (firstBroken (listRules lent letter (length cells)) ≡ none) × (highest ∷ runs ∷ [] ≡ listValues gaps)
+  list-held = accepted-by (firstBroken (listRules lent letter (length cells))) (listValues gaps) (highest ∷ runs ∷ []) (p .answers)
 
   -- the answer is highest and the number of runs
   pub answers-runs : (highest ≡ gaps .highest) × (runs ≡ length (gaps .runs))
@@ -167,82 +169,86 @@ module _ {list rows records cells cells′ : List ℕ} {letter : ℕ} (highest r
 
 -- ---- an accepted write-off
 
-module _ {list rows records rows′ : List ℕ} {letter : ℕ} (first last : ℕ) (p : WroteOffRun list rows records letter (WrittenOff.Removed first last) rows′) where
-  off-held : (firstBroken (writeOffRules list rows records letter) ≡ none) × (first ∷ last ∷ [] ≡ runValues (lowestRun (gapsOfLetter list rows letter)))
+module _ {lent lent′ : Lent} {letter : ℕ} (first last : ℕ) (p : WroteOffRun lent letter (WrittenOff.Removed first last) lent′) where
+  off-held : (firstBroken (writeOffRules lent letter) ≡ none) × (first ∷ last ∷ [] ≡ runValues (lowestRun (gapsOfLetter lent letter)))
   off-held =
-      accepted-by (firstBroken (writeOffRules list rows records letter)) (runValues (lowestRun (gapsOfLetter list rows letter))) (first ∷ last ∷ []) (p .answers)
+      accepted-by (firstBroken (writeOffRules lent letter)) (runValues (lowestRun (gapsOfLetter lent letter))) (first ∷ last ∷ []) (p .answers)
 
   -- the answer is the lowest run
-  pub answers-lowest : (first ≡ lowestRun (gapsOfLetter list rows letter) .first) × (last ≡ lowestRun (gapsOfLetter list rows letter) .last)
+  pub answers-lowest : (first ≡ lowestRun (gapsOfLetter lent letter) .first) × (last ≡ lowestRun (gapsOfLetter lent letter) .last)
   answers-lowest = let values = off-held .1 in ((cc), (cc))
 
-  segment-held : firstBroken (segmentRules list rows records letter) ≡ none
+  segment-held : firstBroken (segmentRules lent letter) ≡ none
   unfolding writeOffRules
-  segment-held = last-held (segmentRules list rows records letter) _ (off-held .0) .0
+  segment-held = last-held (segmentRules lent letter) _ (off-held .0) .0
 
-  module _ (i : ℕ) (s : segmentOf list letter ≡ some i) where
+  module _ (i : ℕ) (s : segmentOf (lent .list) letter ≡ some i) where
     abbrev row : List ℕ
-    row = rowOf rows i
+    row = gapRowOf (lent .rows) i
 
     abbrev off : List ℕ
     off = laid row (wroteOff (gapsOf row))
 
-    off-rows : rows′ ≡ withRow rows i off
-    off-rows = p .rows-left ∙ left-new _ rows (rowsWrittenOff list rows letter) (off-held .0) ∙ off-left list rows records letter segment-held i s
+    pub off-all : lent′ ≡ lends (lent .list) (withGapRow (lent .rows) i off) (lent .records)
+    off-all = p .left ∙ left-new _ lent (lentWrittenOff lent letter) (off-held .0) ∙ off-left lent letter segment-held i s
 
-    room : rowCells * i + rowCells ≤ length rows
-    room = row-there list rows records letter segment-held i s
+    off-rows : lent′ .rows ≡ withGapRow (lent .rows) i off
+    off-rows = ap (λ (l : Lent). l .rows) off-all
 
-    off-sound : soundRow off ≡ true
+    room : gapRowCells * i + gapRowCells ≤ length (lent .rows)
+    room = row-there lent letter segment-held i s
+
+    off-sound : soundGapRow off ≡ true
     off-sound =
-        let all = sound-row-exactly row .0 (row-sound list rows records letter segment-held i s) in
+        let all = sound-row-exactly row .0 (row-sound lent letter segment-held i s) in
         laid-sound row (wroteOff (gapsOf row)) (all .0) (wroteOff-sound (all .2))
 
-    off-wide : length off ≡ rowCells
+    off-wide : length off ≡ gapRowCells
     off-wide = sound-row-exactly off .0 off-sound .0
 
     -- the segment's gaps are without their lowest run
-    pub gaps-written-off : gapsOf (rowOf rows′ i) ≡ wroteOff (gapsOf row)
+    pub gaps-written-off : gapsOf (gapRowOf (lent′ .rows) i) ≡ wroteOff (gapsOf row)
     gaps-written-off =
-        ap (λ (ns : List ℕ). gapsOf (rowOf ns i)) off-rows ∙ ap gapsOf (row-put rows i off room off-wide) ∙ laid-gaps row (wroteOff (gapsOf row))
+        ap (λ (ns : List ℕ). gapsOf (gapRowOf ns i)) off-rows ∙ ap gapsOf (row-put (lent .rows) i off room off-wide) ∙ laid-gaps row (wroteOff (gapsOf row))
 
     -- every other segment's row is as it was
-    pub others-kept : (j : ℕ) → (j ≡ i → ⊥) → rowOf rows′ j ≡ rowOf rows j
-    others-kept j n = ap (λ (ns : List ℕ). rowOf ns j) off-rows ∙ row-kept rows i off room off-wide j n
+    pub others-kept : (j : ℕ) → (j ≡ i → ⊥) → gapRowOf (lent′ .rows) j ≡ gapRowOf (lent .rows) j
+    others-kept j n = ap (λ (ns : List ℕ). gapRowOf ns j) off-rows ∙ row-kept (lent .rows) i off room off-wide j n
 
     -- and what is left passes the checks of the calls that follow
-    pub off-leaves : GoodState list rows′ records
+    pub off-leaves : GoodState lent′
     off-leaves =
-        let good = state-held list rows records letter segment-held in
-        let lent = good .rows-lent in
-        let long : length rows′ ≡ length rows = ap length off-rows ∙ length-with rows i off room off-wide in
-        record {
+        let good = state-held lent letter segment-held in
+        let rows-lent = good .rows-lent in
+        let long = length-with (lent .rows) i off room off-wide in
+        rw off-all
+        (record {
           header = good .header;
-          rows-lent = rw long lent;
+          rows-lent = rw long rows-lent;
           records-lent = good .records-lent;
-          rows-sound = λ j h.
-              ap (λ (ns : List ℕ). soundRow (rowOf ns j)) off-rows ∙ sound-with rows i off room off-wide (segmentsOf list) (good .rows-sound) off-sound j h;
-        }
+          rows-sound = sound-with (lent .rows) i off room off-wide (segmentsOf (lent .list)) (good .rows-sound) off-sound;
+        })
 
 -- ---- no call writes past the cells wanted for state
 
-pub start-nothing-behind : {list starts rows records rows′ records′ : List ℕ} (answer : Started) → StartedBox list starts rows records answer rows′ records′
-    → (drop (rowsWanted list) rows′ ≡ drop (rowsWanted list) rows) × (drop (recordsWanted list) records′ ≡ drop (recordsWanted list) records)
-start-nothing-behind {list} (Started.Refused r) p =
-    let kept = start-refusal r p in
-    (ap (drop (rowsWanted list)) (kept .1), ap (drop (recordsWanted list)) (kept .2))
-start-nothing-behind {list} {starts} Started.Started p = (
-  ap (drop (rowsWanted list)) (rows-are p) ∙ drop-at (startedRows (segmentsOf list) starts) _ (rowsWanted list) (started-lengths starts (segmentsOf list)),
-  ap (drop (recordsWanted list)) (records-are p) ∙ drop-at (replicate (recordsWanted list) 0) _ (recordsWanted list) (length-replicate (recordsWanted list) 0),
-)
+pub start-nothing-behind : {lent lent′ : Lent} {starts : List ℕ} (answer : Started) → StartedBox lent starts answer lent′ → SameBehind lent lent′
+start-nothing-behind (Started.Refused r) p = rw (start-refusal r p .1) (record { rows-behind = refl; records-behind = refl })
+start-nothing-behind {lent} {starts = starts} Started.Started p =
+    let list : List ℕ = lent .list in
+    record {
+      rows-behind = ap (drop (gapRowsWanted list)) (rows-are p) ∙ drop-at (startedRows (segmentsOf list) starts) _ (gapRowsWanted list) (started-lengths starts (segmentsOf list));
+      records-behind = ap (drop (recordsWanted list)) (records-are p) ∙ drop-at (replicate (recordsWanted list) 0) _ (recordsWanted list) (length-replicate (recordsWanted list) 0);
+    }
 
 -- a write-off, whose records are not lent to be written
-pub off-nothing-behind : {list rows records rows′ : List ℕ} {letter : ℕ} (answer : WrittenOff) → WroteOffRun list rows records letter answer rows′
-    → drop (rowsWanted list) rows′ ≡ drop (rowsWanted list) rows
-off-nothing-behind {list} (WrittenOff.Refused r) p = ap (drop (rowsWanted list)) (off-refusal r p .1)
-off-nothing-behind {list} {rows} {records} {letter = letter} (WrittenOff.Removed first last) p =
-    let segment = is-some (segmentOf list letter) (letter-listed list rows records letter (segment-held first last p)) in
+pub off-nothing-behind : {lent lent′ : Lent} {letter : ℕ} (answer : WrittenOff) → WroteOffRun lent letter answer lent′ → SameBehind lent lent′
+off-nothing-behind (WrittenOff.Refused r) p = rw (off-refusal r p .1) (record { rows-behind = refl; records-behind = refl })
+off-nothing-behind {lent} {letter = letter} (WrittenOff.Removed first last) p =
+    let segment = is-some (segmentOf (lent .list) letter) (letter-listed lent letter (segment-held first last p)) in
     let i : ℕ = segment .0 in
     let s = segment .1 in
-    ap (drop (rowsWanted list)) (off-rows first last p i s)
-    ∙ behind-kept rows i (off first last p i s) (room first last p i s) (off-wide first last p i s) (rowsWanted list) (omega (arith, segment-has list letter i s .0))
+    rw (off-all first last p i s)
+    (record {
+      rows-behind = behind-kept (lent .rows) i (off first last p i s) (room first last p i s) (off-wide first last p i s) (gapRowsWanted (lent .list)) (omega (arith, segment-has (lent .list) letter i s .0));
+      records-behind = refl;
+    })

@@ -19,11 +19,13 @@ use Rattle.contracts.specs.Sound.{sound}
 use Rattle.contracts.specs.SoundLaws.{sound-exact}
 use Rattle.sequence.specs.Gaps.{begun}
 use Rattle.sequence.specs.RowLaws.{laid-length}
-use Rattle.quotebox.specs.declared.refusal.Refusal.the-variants.{Numbering, List as ListOf}
-use Rattle.quotebox.specs.Refusals.{Rule}
-use Rattle.quotebox.specs.Memory.{rowCells, rowsWanted, recordsWanted, rowOf, withRow, memoryRules}
-use Rattle.quotebox.specs.RowsLaws.{row-laid, row-behind}
-use Rattle.quotebox.specs.StateLaws.{memory-lent}
+use Rattle.state.specs.declared.refusal.Refusal.the-variants.{Numbering, List as ListOf}
+use Rattle.state.specs.Refusals.{Rule}
+use Rattle.state.specs.Memory.{gapRowCells, gapRowsWanted, gapRowOf, withGapRow}
+use Rattle.state.specs.State.{memoryRules}
+use Rattle.state.specs.Slots.{recordsWanted}
+use Rattle.state.specs.RowsLaws.{row-laid, row-behind}
+use Rattle.state.specs.StateLaws.{memory-lent}
 use Rattle.quotebox.specs.Start.{startOf, eachStarts, startRules, GoodStart, startedRow, startedRows}
 
 module _ (list starts : List ℕ) (rows records : ℕ) where
@@ -59,7 +61,7 @@ module _ (list starts : List ℕ) (rows records : ℕ) where
   good-holds good =
       memory-decides (sound-exact list .1 (good .list-sound))
       (all-pass (λ j. ltb 0 (startOf starts j)) (segmentsOf list) (λ i h. lt-ltb 0 (startOf starts i) (good .started i h)))
-      ∙ rw (le-leb (rowsWanted list) rows (good .rows-lent), le-leb (recordsWanted list) records (good .records-lent))
+      ∙ rw (le-leb (gapRowsWanted list) rows (good .rows-lent), le-leb (recordsWanted list) records (good .records-lent))
 
   -- a start is accepted exactly when it is good
   pub start-exact : firstBroken (startRules list starts rows records) ≡ none ↔ GoodStart list starts rows records
@@ -67,27 +69,27 @@ module _ (list starts : List ℕ) (rows records : ℕ) where
 
 -- ---- the rows that a start leaves
 
-pub started-length : (number : ℕ) → length (startedRow number) ≡ rowCells
-started-length number = laid-length (replicate rowCells 0) (begun number) refl (omega arith)
+pub started-length : (number : ℕ) → length (startedRow number) ≡ gapRowCells
+started-length number = laid-length (replicate gapRowCells 0) (begun number) refl (omega arith)
 
 module _ (starts : List ℕ) where
-  pub started-lengths : (n : ℕ) → length (startedRows n starts) ≡ rowCells * n
+  pub started-lengths : (n : ℕ) → length (startedRows n starts) ≡ gapRowCells * n
   started-lengths zero = refl
   started-lengths (suc n) =
       simp (length-append, started-lengths n, started-length (startOf starts n)) (omega arith)
 
   -- one segment more
   pub started-more : (n : ℕ) (rows : List ℕ)
-      → withRow (startedRows n starts ++ drop (rowCells * n) rows) n (startedRow (startOf starts n))
-      ≡ startedRows (n + 1) starts ++ drop (rowCells * (n + 1)) rows
+      → withGapRow (startedRows n starts ++ drop (gapRowCells * n) rows) n (startedRow (startOf starts n))
+      ≡ startedRows (n + 1) starts ++ drop (gapRowCells * (n + 1)) rows
   started-more n rows =
-      let end : rowCells * n + rowCells ≡ rowCells * (n + 1) = omega arith in
+      let end : gapRowCells * n + gapRowCells ≡ gapRowCells * (n + 1) = omega arith in
       row-laid (startedRows n starts) rows (startedRow (startOf starts n)) n (started-lengths n)
       ∙ ap (λ (k : ℕ). startedRows (suc n) starts ++ drop k rows) end
-      ∙ ap (λ (k : ℕ). startedRows k starts ++ drop (rowCells * (n + 1)) rows) (sym (add-one n))
+      ∙ ap (λ (k : ℕ). startedRows k starts ++ drop (gapRowCells * (n + 1)) rows) (sym (add-one n))
 
   -- each segment's row
-  pub started-row : (n : ℕ) (rest : List ℕ) (i : ℕ) → i < n → rowOf (startedRows n starts ++ rest) i ≡ startedRow (startOf starts i)
+  pub started-row : (n : ℕ) (rest : List ℕ) (i : ℕ) → i < n → gapRowOf (startedRows n starts ++ rest) i ≡ startedRow (startOf starts i)
   started-row zero rest i h = absurd (omega arith)
   started-row (suc n) rest i h =
       let row : List ℕ = startedRow (startOf starts n) in

@@ -1,32 +1,24 @@
-// The public calls over lent memory.
-mod act;
-mod answers;
-mod batch;
+// The public calls over lent memory: those that are made here, and those of the crates below.
 mod gaps;
 mod record;
-mod refusal;
-mod rows;
 mod starting;
-mod state;
-mod stores;
-mod writing;
 
-pub use answers::Judged;
-pub use answers::Listed;
-pub use answers::Reading;
-pub use answers::Recorded;
-pub use answers::Started;
-pub use answers::Written;
-pub use answers::WrittenOff;
 pub use batch::judge;
 pub use batch::take;
 pub use gaps::list_gaps;
 pub use gaps::write_off;
-pub use record::KEY_ROWS;
+pub use layout::KEY_ROWS;
+pub use record::Reading;
 pub use record::read_record;
-pub use record::record_rows;
-pub use refusal::Refusal;
-pub use refusal::refusal_numbers;
 pub use starting::start;
-pub use writing::Code;
-pub use writing::write_message;
+pub use state::Judged;
+pub use state::Listed;
+pub use state::Recorded;
+pub use state::Refusal;
+pub use state::Started;
+pub use state::Written;
+pub use state::WrittenOff;
+pub use state::record_rows;
+pub use state::refusal_numbers;
+pub use writer::Code;
+pub use writer::write_message;

@@ -2,23 +2,25 @@
 ghost use mathlib.Core.Path.{_≡_};
 ghost use Prim.Native.Nat.{_+_, _<_};
 ghost use lib.ListN.{length};
-ghost use Rattle.quotebox.specs.Memory.{recordAt};
-ghost use Rattle.quotebox.specs.Record.{recordRows, cellsAt, Finds, blank, ReadsAt};
+ghost use Rattle.state.specs.Memory.{lends};
+ghost use Rattle.state.specs.Slots.{recordRows};
+ghost use Rattle.quotebox.specs.Record.{cellsAt, Finds, blank, ReadsAt};
 ghost use Rattle.quotebox.specs.CallPromises.{ReadRecord};
-use crate::answers::Reading;
-use crate::answers::Recorded;
-use crate::refusal::Refusal;
-use crate::state;
-use crate::state::Asked;
 use contracts::Found;
+use layout::Form;
+use layout::KEY_BYTES;
 use layout::Level;
-use layout::Quote;
+use layout::MOST_ROWS;
+use quote::Quote;
+use state::Asked;
+use state::Recorded;
+use state::Refusal;
 
-// The rows of an update's key, which no record holds.
-pub const KEY_ROWS: usize = 5;
-
-// Where the records of level 2 begin among a contract's.
-const LEVEL_TWO: usize = 15;
+// With the quote of a record; beside any other answer every row is none.
+pub struct Reading {
+    pub answer: Recorded,
+    pub quote: Quote,
+}
 
 // Where the record that is asked for stands.
 enum Place {
@@ -26,37 +28,17 @@ enum Place {
     Refused(Refusal),
 }
 
-// The rows that a record of a level holds.
-pub fn record_rows(level: Level) -> usize
-    ensures { λ r. ⌜ r ≡ recordRows level ⌝ }
-{
-    match level {
-        Level::One => 14,
-        Level::Two => 32,
-    }
-}
-
-pub(crate) fn record_at(contract: usize, level: Level) -> usize
-    requires { ⌜ contract < 65536 ⌝ }
-    ensures { λ r. ⌜ r ≡ recordAt contract level ⌝ }
-{
-    match level {
-        Level::One => state::RECORD * contract,
-        Level::Two => state::RECORD * contract + LEVEL_TWO,
-    }
-}
-
 // The cells of a record by row: those of the key, and any behind the last row, are 0.
-fn cells_at(records: &[u64], at: usize, level: Level) -> [u64; 37]
+fn cells_at(records: &[u64], at: usize, level: Level) -> [u64; MOST_ROWS]
     requires { ⌜ at + recordRows level < length (now records) ⌝ }
     ensures { λ r. ⌜ r ≡ cellsAt (now (records .entry)) at level ⌝ }
 {
-    let count = record_rows(level);
+    let count = state::record_rows(level);
     let first = at + 1;
-    let mut cells = [0u64; 37];
+    let mut cells = [0u64; MOST_ROWS];
     let mut i = 0;
     while i < count {
-        cells[KEY_ROWS + i] = records[first + i];
+        cells[layout::KEY_ROWS + i] = records[first + i];
         i += 1;
     }
     cells
@@ -68,15 +50,18 @@ fn find_record(
     rows: &[u32],
     records: &[u64],
     letter: u8,
-    key: &[u8; 39],
+    key: &[u8; KEY_BYTES],
     level: Level,
 ) -> Place
-    ensures { λ r. ⌜ Finds (now (list .entry)) (now (rows .entry)) (now (records .entry)) letter (now (key .entry)) level r ⌝ }
+    ensures { λ r. ⌜ Finds (lends (now (list .entry)) (now (rows .entry)) (now (records .entry))) letter (now (key .entry)) level r ⌝ }
 {
     match state::check_segment(list, rows, records, letter) {
         Asked::Segment(segment) => match contracts::place_of(list, segment, key) {
             Found::At(place) => {
-                Place::At(record_at(contracts::contracts_before(list, segment) + place, level))
+                Place::At(state::record_at(
+                    contracts::contracts_before(list, segment) + place,
+                    level,
+                ))
             }
             Found::Nowhere => Place::Refused(Refusal::Contract(0)),
         },
@@ -87,8 +72,8 @@ fn find_record(
 fn blank() -> Quote
     ensures { λ r. ⌜ r ≡ blank ⌝ }
 {
-    let cells = [layout::NONE; 37];
-    layout::quote_of(Level::Two, &cells)
+    let cells = [layout::NONE; MOST_ROWS];
+    quote::quote_of(Form::LevelTwo, &cells)
 }
 
 fn read_at(records: &[u64], at: usize, level: Level) -> Reading
@@ -105,7 +90,7 @@ fn read_at(records: &[u64], at: usize, level: Level) -> Reading
     let cells = cells_at(records, at, level);
     Reading {
         answer: Recorded::Record(number),
-        quote: layout::quote_of(level, &cells),
+        quote: quote::quote_of(layout::record_form(level), &cells),
     }
 }
 
@@ -114,10 +99,10 @@ pub fn read_record(
     rows: &[u32],
     records: &[u64],
     letter: u8,
-    key: &[u8; 39],
+    key: &[u8; KEY_BYTES],
     level: Level,
 ) -> Reading
-    ensures { λ r. ⌜ ReadRecord (now (list .entry)) (now (rows .entry)) (now (records .entry)) letter (now (key .entry)) level r ⌝ }
+    ensures { λ r. ⌜ ReadRecord (lends (now (list .entry)) (now (rows .entry)) (now (records .entry))) letter (now (key .entry)) level r ⌝ }
 {
     match find_record(list, rows, records, letter, key, level) {
         Place::At(at) => read_at(records, at, level),

@@ -4,15 +4,13 @@ ghost use mathlib.Core.List.{_++_};
 ghost use Prim.Native.Nat.{_*_, _≤_};
 ghost use lib.ListN.{length, drop, replicate};
 ghost use Rattle.laws.specs.Rules.{firstBroken};
-ghost use Rattle.quotebox.specs.Memory.{rowCells};
-ghost use Rattle.quotebox.specs.State.{checkedRefusal};
+ghost use Rattle.state.specs.Memory.{lends, gapRowCells};
+ghost use Rattle.state.specs.State.{checkedRefusal};
 ghost use Rattle.quotebox.specs.Start.{startOf, eachStarts, startRules, startedRows};
 ghost use Rattle.quotebox.specs.CallPromises.{StartedBox};
-use crate::answers::Started;
-use crate::refusal::Refusal;
-use crate::rows;
-use crate::state;
-use crate::state::Checked;
+use state::Checked;
+use state::Refusal;
+use state::Started;
 
 // A segment's start number; one that is missing counts as 0.
 fn start_of(starts: &[u32], segment: usize) -> u32
@@ -50,14 +48,14 @@ fn check_start(list: &[u8], starts: &[u32], rows: usize, records: usize) -> Chec
 }
 
 fn begin_rows(starts: &[u32], rows: &mut [u32], segments: usize)
-    requires { ⌜ rowCells * segments ≤ length (now rows) ⌝ }
-    ensures { λ _. ⌜ now (rows .exit) ≡ startedRows segments (now (starts .entry)) ++ drop (rowCells * segments) (now (rows .entry)) ⌝ }
+    requires { ⌜ gapRowCells * segments ≤ length (now rows) ⌝ }
+    ensures { λ _. ⌜ now (rows .exit) ≡ startedRows segments (now (starts .entry)) ++ drop (gapRowCells * segments) (now (rows .entry)) ⌝ }
 {
     let mut row = [0u32; 132];
     let mut i = 0;
     while i < segments {
         sequence::start(&mut row, start_of(starts, i));
-        rows::put_row(rows, i, &row);
+        state::put_row(rows, i, &row);
         i += 1;
     }
 }
@@ -74,7 +72,7 @@ fn clear(records: &mut [u64], cells: usize)
 }
 
 pub fn start(list: &[u8], starts: &[u32], rows: &mut [u32], records: &mut [u64]) -> Started
-    ensures { λ r. ⌜ StartedBox (now (list .entry)) (now (starts .entry)) (now (rows .entry)) (now (records .entry)) r (now (rows .exit)) (now (records .exit)) ⌝ }
+    ensures { λ r. ⌜ StartedBox (lends (now (list .entry)) (now (rows .entry)) (now (records .entry))) (now (starts .entry)) r (lends (now (list .entry)) (now (rows .exit)) (now (records .exit))) ⌝ }
 {
     match check_start(list, starts, rows.len(), records.len()) {
         Checked::Good => {

@@ -15,53 +15,63 @@ use Rattle.contracts.specs.File.{segmentsOf}
 use Rattle.contracts.specs.Lookup.{segmentOf}
 use Rattle.contracts.specs.LookupLaws.{segment-has}
 use Rattle.contracts.specs.Sound.{Header}
-use Rattle.sequence.specs.Row.{soundRow}
-use Rattle.quotebox.specs.Memory.{rowCells, rowsWanted, rowOf, withRow, rowsSound, stateRules}
-use Rattle.quotebox.specs.Batch.{rowIn, rowOfLetter, withRowIn, withRowOfLetter}
+use Rattle.sequence.specs.Row.{soundGapRow}
+use Rattle.state.specs.Memory.{Lent, lends, gapRowCells, gapRowsWanted, gapRowOf, withGapRow, gapRowsSound, gapRowIn, gapRowOfLetter, withGapRowIn, withGapRowOfLetter}
+use Rattle.state.specs.State.{stateRules}
 use Rattle.runs.specs.Rows.{most}
 
 module _ (a z : List ℕ) (room : most ≤ length a) where
-  row-front : (i : ℕ) → i < 2 → rowOf (a ++ z) i ≡ rowOf a i
+  row-front : (i : ℕ) → i < 2 → gapRowOf (a ++ z) i ≡ gapRowOf a i
   row-front i h =
-      ap (take rowCells) (drop-append-le (rowCells * i) a z (omega arith))
-      ∙ take-append-le rowCells (drop (rowCells * i) a) z (simp length-drop (omega arith))
+      ap (take gapRowCells) (drop-append-le (gapRowCells * i) a z (omega arith))
+      ∙ take-append-le gapRowCells (drop (gapRowCells * i) a) z (simp length-drop (omega arith))
 
-  put-front : (row : List ℕ) (i : ℕ) → i < 2 → withRow (a ++ z) i row ≡ withRow a i row ++ z
+  put-front : (row : List ℕ) (i : ℕ) → i < 2 → withGapRow (a ++ z) i row ≡ withGapRow a i row ++ z
   put-front row i h =
-      ap₂ (λ (front behind : List ℕ). front ++ row ++ behind) (take-append-le (rowCells * i) a z (omega arith)) (drop-append-le (rowCells * i + rowCells) a z (omega arith))
-      ∙ sym (append-assoc (take (rowCells * i) a ++ row) (drop (rowCells * i + rowCells) a) z)
+      ap₂ (λ (front behind : List ℕ). front ++ row ++ behind) (take-append-le (gapRowCells * i) a z (omega arith)) (drop-append-le (gapRowCells * i + gapRowCells) a z (omega arith))
+      ∙ sym (append-assoc (take (gapRowCells * i) a ++ row) (drop (gapRowCells * i + gapRowCells) a) z)
 
-  module _ (list : List ℕ) (header : Header list) where
-    few : segmentsOf list ≤ 2
-    few = header .few-segments
+-- more gap rows behind those that are lent
+abbrev pub longer : List ℕ → Lent → Lent
+longer z lent = lends (lent .list) (lent .rows ++ z) (lent .records)
 
-    pub rows-within : rowsWanted list ≤ length a
-    rows-within = omega (arith, few)
+module _ (lent : Lent) (z : List ℕ) (room : most ≤ length (lent .rows)) (header : Header (lent .list)) where
+  abbrev list : List ℕ
+  list = lent .list
 
-    pub rows-lent : leb (rowsWanted list) (length (a ++ z)) ≡ leb (rowsWanted list) (length a)
-    rows-lent =
-        let longer : length (a ++ z) ≡ length a + length z = length-append a z in
-        le-leb (rowsWanted list) (length (a ++ z)) (omega (arith, few, longer)) ∙ sym (le-leb (rowsWanted list) (length a) rows-within)
+  abbrev rows : List ℕ
+  rows = lent .rows
 
-    pub state-front : (records : List ℕ) → stateRules list (a ++ z) records ≡ stateRules list a records
-    state-front records =
-        let sound : rowsSound (segmentsOf list) (a ++ z) ≡ rowsSound (segmentsOf list) a =
-        all-same (λ i. soundRow (rowOf (a ++ z) i)) (λ i. soundRow (rowOf a i)) (segmentsOf list) (λ i h. ap soundRow (row-front i (omega (arith, few)))) in
-        rw (rows-lent, sound)
+  few : segmentsOf list ≤ 2
+  few = header .few-segments
 
-    pub letter-front : (letter : ℕ) → rowOfLetter list letter (a ++ z) ≡ rowOfLetter list letter a
-    letter-front letter = go (segmentOf list letter) refl
-      where
-        go : (o : Option ℕ) → segmentOf list letter ≡ o → rowIn (a ++ z) o ≡ rowIn a o
-        go none e = refl
-        go (some i) e = row-front i (omega (arith, few, segment-has list letter i e .0))
+  pub rows-within : gapRowsWanted list ≤ length rows
+  rows-within = omega (arith, few)
 
-    pub with-front : (letter : ℕ) (row : List ℕ) → withRowOfLetter list letter (a ++ z) row ≡ withRowOfLetter list letter a row ++ z
-    with-front letter row = go (segmentOf list letter) refl
-      where
-        go : (o : Option ℕ) → segmentOf list letter ≡ o → withRowIn (a ++ z) row o ≡ withRowIn a row o ++ z
-        go none e = refl
-        go (some i) e = put-front row i (omega (arith, few, segment-has list letter i e .0))
+  pub rows-lent : leb (gapRowsWanted list) (length (rows ++ z)) ≡ leb (gapRowsWanted list) (length rows)
+  rows-lent =
+      let longer : length (rows ++ z) ≡ length rows + length z = length-append rows z in
+      le-leb (gapRowsWanted list) (length (rows ++ z)) (omega (arith, few, longer)) ∙ sym (le-leb (gapRowsWanted list) (length rows) rows-within)
+
+  pub state-front : stateRules (longer z lent) ≡ stateRules lent
+  state-front =
+      let sound : gapRowsSound (segmentsOf list) (rows ++ z) ≡ gapRowsSound (segmentsOf list) rows =
+      all-same (λ i. soundGapRow (gapRowOf (rows ++ z) i)) (λ i. soundGapRow (gapRowOf rows i)) (segmentsOf list) (λ i h. ap soundGapRow (row-front rows z room i (omega (arith, few)))) in
+      rw (rows-lent, sound)
+
+  pub letter-front : (letter : ℕ) → gapRowOfLetter list letter (rows ++ z) ≡ gapRowOfLetter list letter rows
+  letter-front letter = go (segmentOf list letter) refl
+    where
+      go : (o : Option ℕ) → segmentOf list letter ≡ o → gapRowIn (rows ++ z) o ≡ gapRowIn rows o
+      go none e = refl
+      go (some i) e = row-front rows z room i (omega (arith, few, segment-has list letter i e .0))
+
+  pub with-front : (letter : ℕ) (row : List ℕ) → withGapRowOfLetter list letter (rows ++ z) row ≡ withGapRowOfLetter list letter rows row ++ z
+  with-front letter row = go (segmentOf list letter) refl
+    where
+      go : (o : Option ℕ) → segmentOf list letter ≡ o → withGapRowIn (rows ++ z) row o ≡ withGapRowIn rows row o ++ z
+      go none e = refl
+      go (some i) e = put-front rows z room row i (omega (arith, few, segment-has list letter i e .0))
 
 -- what holds of the front of the rows, whatever stands behind it, holds of all
 pub whole : (P : List ℕ → List ℕ → Type 0) → ((a z a′ : List ℕ) → most ≤ length a → P a a′ → P (a ++ z) (a′ ++ z))

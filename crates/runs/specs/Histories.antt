@@ -3,19 +3,20 @@
 use Prim.Native.Nat.{ℕ}
 use mathlib.Core.Path.{_≡_}
 use mathlib.Core.List.{List, []}
-use Rattle.layout.specs.declared.quote.Quote.{Quote}
-use Rattle.layout.specs.declared.rows.Level.{Level}
-use Rattle.quotebox.specs.declared.refusal.Refusal.{Refusal}
-use Rattle.quotebox.specs.declared.answers.Started.{Started}
-use Rattle.quotebox.specs.declared.answers.Judged.{Judged}
-use Rattle.quotebox.specs.declared.answers.Listed.{Listed}
-use Rattle.quotebox.specs.declared.answers.WrittenOff.{WrittenOff}
-use Rattle.quotebox.specs.declared.answers.Reading.{Reading}
-use Rattle.quotebox.specs.declared.answers.Written.{Written}
-use Rattle.quotebox.specs.declared.writing.Code.{Code}
-use Rattle.quotebox.specs.Promises.{JudgedBatch, TookBatch}
+use Rattle.quote.specs.declared.quote.Quote.{Quote}
+use Rattle.forms.specs.declared.rows.Level.{Level}
+use Rattle.state.specs.declared.refusal.Refusal.{Refusal}
+use Rattle.state.specs.declared.answers.Started.{Started}
+use Rattle.state.specs.declared.answers.Judged.{Judged}
+use Rattle.state.specs.declared.answers.Listed.{Listed}
+use Rattle.state.specs.declared.answers.WrittenOff.{WrittenOff}
+use Rattle.quotebox.specs.declared.record.Reading.{Reading}
+use Rattle.state.specs.declared.answers.Written.{Written}
+use Rattle.writer.specs.declared.writing.Code.{Code}
+use Rattle.state.specs.Memory.{lends}
+use Rattle.batch.specs.Promises.{JudgedBatch, TookBatch}
 use Rattle.quotebox.specs.CallPromises.{ListedRuns, WroteOffRun, ReadRecord}
-use Rattle.quotebox.specs.WriterPromises.{WroteMessage}
+use Rattle.writer.specs.WriterPromises.{WroteMessage}
 use Rattle.history.specs.Past.{Event, afterTake, afterWriteOff}
 use Rattle.runs.specs.declared.run.Run.{Run}
 use Rattle.runs.specs.Rows.{flat}
@@ -39,7 +40,7 @@ pub data ReachedRuns (list starts : List ℕ) : List Run → List ℕ → List E
       → ReachedRuns list starts rows records past
   writeOff : {rows rows′ : List Run} {records : List ℕ} {past : List Event} → ReachedRuns list starts rows records past
       → (letter : ℕ) (answer : WrittenOff) → WroteOffRuns list rows records letter answer rows′
-      → ReachedRuns list starts rows′ records (afterWriteOff letter answer past)
+      → ReachedRuns list starts rows′ records (afterWriteOff list letter answer past)
   readRecord : {rows : List Run} {records : List ℕ} {past : List Event} → ReachedRuns list starts rows records past
       → (letter : ℕ) (key : List ℕ) (level : Level) (reading : Reading) → ReadRuns list rows records letter key level reading
       → ReachedRuns list starts rows records past
@@ -51,15 +52,15 @@ pub data ReachedRuns (list starts : List ℕ) : List Run → List ℕ → List E
 
 -- 01 "What may be asked": each call answers and leaves what the call over numbers does, with the row seen as numbers
 pub record AsNumbers (list : List ℕ) (rows : List Run) (records : List ℕ) : Type 0 where
-  pub judges : (batch : List ℕ) (answer : Judged) → JudgedRuns list rows records batch answer → JudgedBatch list (flat rows) records batch answer
+  pub judges : (batch : List ℕ) (answer : Judged) → JudgedRuns list rows records batch answer → JudgedBatch (lends list (flat rows) records) batch answer
   pub takes : (batch : List ℕ) (answer : Judged) (rows′ : List Run) (records′ : List ℕ)
-      → TookRuns list rows records batch answer rows′ records′ → TookBatch list (flat rows) records batch answer (flat rows′) records′
+      → TookRuns list rows records batch answer rows′ records′ → TookBatch (lends list (flat rows) records) batch answer (lends list (flat rows′) records′)
   pub lists : (letter : ℕ) (cells : List ℕ) (answer : Listed) (cells′ : List ℕ)
-      → ListedGaps list rows records letter cells answer cells′ → ListedRuns list (flat rows) records letter cells answer cells′
+      → ListedGaps list rows records letter cells answer cells′ → ListedRuns (lends list (flat rows) records) letter cells answer cells′
   pub writes-off : (letter : ℕ) (answer : WrittenOff) (rows′ : List Run)
-      → WroteOffRuns list rows records letter answer rows′ → WroteOffRun list (flat rows) records letter answer (flat rows′)
+      → WroteOffRuns list rows records letter answer rows′ → WroteOffRun (lends list (flat rows) records) letter answer (lends list (flat rows′) records)
   pub reads : (letter : ℕ) (key : List ℕ) (level : Level) (reading : Reading)
-      → ReadRuns list rows records letter key level reading → ReadRecord list (flat rows) records letter key level reading
+      → ReadRuns list rows records letter key level reading → ReadRecord (lends list (flat rows) records) letter key level reading
 
 -- demand 3: "Two boxes that took the same messages agree": in gap lists, and in records
 pub record AgreeRuns (list : List ℕ) (rows : List Run) (records : List ℕ) (rows′ : List Run) (records′ : List ℕ) : Type 0 where

@@ -4,10 +4,11 @@ use mathlib.Core.Path.{sym, subst}
 use mathlib.Core.List.{List}
 use native.Mathlib.Omega.{arith}
 use lib.ListN.{length}
-use Rattle.quotebox.specs.GoodState.{GoodState}
+use Rattle.state.specs.Memory.{lends}
+use Rattle.state.specs.GoodState.{GoodState}
 use Rattle.history.specs.Past.{Event}
-use Rattle.history.specs.Histories as numbers
 use Rattle.history.specs.Histories.{Reached}
+use Rattle.history.specs.HistoriesLaws.{reached-begun, reached-take, reached-off}
 use Rattle.history.specs.Exactly.{SameTaken}
 use Rattle.history.specs.Demands.{AfterCalls}
 use Rattle.history.specs.DemandsLaws.{after-calls, two-agree}
@@ -18,29 +19,29 @@ use Rattle.runs.specs.PromisesLaws.{judged-enough, took-enough, listed-e
 use Rattle.runs.specs.Histories.{ReachedRuns, begun, refusedStart, judge, take, listGaps, writeOff, readRecord, writeMessage, AsNumbers, AgreeRuns}
 
 -- a state that passes has the rows wanted
-enough : (list : List ℕ) (rows : List Run) (records : List ℕ) → GoodState list (flat rows) records → runsWanted list ≤ length rows
+enough : (list : List ℕ) (rows : List Run) (records : List ℕ) → GoodState (lends list (flat rows) records) → runsWanted list ≤ length rows
 enough list rows records good = omega (arith, length-flat rows, good .rows-lent)
 
 module _ {list starts : List ℕ} where
-  pub reached-numbers : {rows : List Run} {records : List ℕ} {past : List Event} → ReachedRuns list starts rows records past → Reached list starts (flat rows) records past
-  reached-numbers (begun p) = numbers.begun (started-core p)
+  pub reached-numbers : {rows : List Run} {records : List ℕ} {past : List Event} → ReachedRuns list starts rows records past → Reached starts (lends list (flat rows) records) past
+  reached-numbers (begun p) = reached-begun (started-core p)
   reached-numbers (refusedStart {rows} {rows′} {records} {records′} {past} r list′ starts′ refusal p) =
       let kept = started-refused refusal p in
-      subst (λ (ns : List ℕ). Reached list starts (flat rows′) ns past) (sym (kept .1)) (subst (λ (l : List Run). Reached list starts (flat l) records past) (sym (kept .0)) (reached-numbers r))
+      subst (λ (ns : List ℕ). Reached starts (lends list (flat rows′) ns) past) (sym (kept .1)) (subst (λ (l : List Run). Reached starts (lends list (flat l) records) past) (sym (kept .0)) (reached-numbers r))
   reached-numbers (judge r batch answer p) = reached-numbers r
   reached-numbers (take {rows} {rows′} {records} r batch answer p) =
       let before = reached-numbers r in
-      numbers.take before batch answer (took-enough list rows (enough list rows records (after-calls before .state-passes)) answer p)
+      reached-take before batch answer (took-enough list rows (enough list rows records (after-calls before .state-passes)) answer p)
   reached-numbers (listGaps r letter cells answer cells′ p) = reached-numbers r
   reached-numbers (writeOff {rows} {rows′} {records} r letter answer p) =
       let before = reached-numbers r in
-      numbers.writeOff before letter answer (wrote-off-enough list rows (enough list rows records (after-calls before .state-passes)) answer p)
+      reached-off before letter answer (wrote-off-enough list rows (enough list rows records (after-calls before .state-passes)) answer p)
   reached-numbers (readRecord r letter key level reading p) = reached-numbers r
   reached-numbers (writeMessage r code level number key quote out answer out′ p) = reached-numbers r
 
   module _ {rows : List Run} {records : List ℕ} {past : List Event} (r : ReachedRuns list starts rows records past) where
     -- demand 3, of the row seen as numbers, after any sequence of calls from a fresh start
-    pub after-run-calls : AfterCalls list starts (flat rows) records past
+    pub after-run-calls : AfterCalls starts (lends list (flat rows) records) past
     after-run-calls = after-calls (reached-numbers r)
 
     -- and what a call over runs then answers is said of the call over numbers
@@ -57,7 +58,7 @@ module _ {list starts : List ℕ} where
 
 -- two boxes that took the same messages agree
 pub two-agree-runs : {list starts starts′ : List ℕ} {rows rows′ : List Run} {records records′ : List ℕ} {past past′ : List Event}
-    → ReachedRuns list starts rows records past → ReachedRuns list starts′ rows′ records′ past′ → SameTaken list starts past starts′ past′
+    → ReachedRuns list starts rows records past → ReachedRuns list starts′ rows′ records′ past′ → SameTaken list starts past list starts′ past′
     → AgreeRuns list rows records rows′ records′
 two-agree-runs r r′ same =
     let agree = two-agree (reached-numbers r) (reached-numbers r′) same in

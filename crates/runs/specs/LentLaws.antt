@@ -13,24 +13,26 @@ use Rattle.laws.specs.Order.{order}
 use Rattle.contracts.specs.File.{segmentsOf}
 use Rattle.contracts.specs.HeaderLaws.{header-exact}
 use Rattle.contracts.specs.Sound.{headerSound}
-use Rattle.layout.specs.declared.rows.Level.{Level}
-use Rattle.quotebox.specs.declared.answers.Started.{Started}
-use Rattle.quotebox.specs.declared.answers.Judged.{Judged}
-use Rattle.quotebox.specs.declared.answers.Listed.{Listed}
-use Rattle.quotebox.specs.declared.answers.WrittenOff.{WrittenOff}
-use Rattle.quotebox.specs.declared.answers.Reading.{Reading}
-use Rattle.quotebox.specs.declared.refusal.Refusal.the-variants.{List as ListOf}
-use Rattle.quotebox.specs.Answers.{startedNumbers, judgedNumbers, listedNumbers, writtenOffNumbers, readingNumbers}
+use Rattle.forms.specs.declared.rows.Level.{Level}
+use Rattle.state.specs.declared.answers.Started.{Started}
+use Rattle.state.specs.declared.answers.Judged.{Judged}
+use Rattle.state.specs.declared.answers.Listed.{Listed}
+use Rattle.state.specs.declared.answers.WrittenOff.{WrittenOff}
+use Rattle.quotebox.specs.declared.record.Reading.{Reading}
+use Rattle.state.specs.declared.refusal.Refusal.the-variants.{List as ListOf}
+use Rattle.state.specs.Answers.{startedNumbers, judgedNumbers, listedNumbers, writtenOffNumbers}
+use Rattle.state.specs.Memory.{lends}
+use Rattle.quotebox.specs.Record.{readingNumbers}
 use Rattle.quotebox.specs.CallPromises.{StartedBox, ListedRuns, WroteOffRun, ReadRecord}
-use Rattle.quotebox.specs.Promises.{JudgedBatch, TookBatch}
-use Rattle.quotebox.specs.Refusals.{refusalNumbers}
+use Rattle.batch.specs.Promises.{JudgedBatch, TookBatch}
+use Rattle.state.specs.Refusals.{refusalNumbers}
 use Rattle.runs.specs.declared.run.Run.{Run}
 use Rattle.runs.specs.Rows.{flat, blanks, over, array, lent, most, inRuns}
 use Rattle.runs.specs.RowsLaws.{over-is, in-runs-enough, in-runs-other}
 use Rattle.runs.specs.FlatLaws.{flat-append, flat-take, flat-drop}
 use Rattle.runs.specs.FrontLaws.{whole}
 use Rattle.runs.specs.WholeLaws.{started-unlisted, started-front, judged-unlisted, judged-front, took-front, listed-unlisted, listed-front, wrote-unlisted, wrote-front, read-unlisted, read-front}
-use Rattle.runs.specs.Promises.{StartedRuns, JudgedRuns, TookRuns, ListedGaps, WroteOffRuns, ReadRuns}
+use Rattle.runs.specs.Promises.{Over, StartedRuns, JudgedRuns, TookRuns, ListedGaps, WroteOffRuns, ReadRuns}
 
 module _ (rows : List Run) where
   lent-rows : lent rows (array rows) ≡ take 132 rows
@@ -96,55 +98,60 @@ module _ (rows : List Run) where
 
 -- ---- each call
 
-module _ (list : List ℕ) (rows : List Run) (records : List ℕ) where
+module _ (list : List ℕ) (rows : List Run) where
   abbrev front : List Run
   front = lent rows (array rows)
 
-  pub started-runs : (starts : List ℕ) (answer : Started) (runs : List Run) (records′ : List ℕ) → length runs ≡ 132
-      → StartedRuns list starts front records answer (lent rows runs) records′ → StartedRuns list starts rows records answer (over runs rows) records′
-  started-runs starts answer runs records′ long p = record {
+  -- a promise that looks at the numbers lent and no further, by an answer that without a list is 16
+  lent-over : {A : Type 0} (numbersOf : A → List ℕ) (promise : List ℕ → List ℕ → A → Type 0) → ((a z a′ : List ℕ) (core : A) → most ≤ length a → promise a a′ core → promise (a ++ z) (a′ ++ z) core)
+      → ((a a′ : List ℕ) (core : A) → headerSound list ≡ false → promise a a′ core → numbersOf core ≡ refusalNumbers ListOf)
+      → (runs : List Run) → length runs ≡ 132 → (answer : A) → Over numbersOf list front (lent rows runs) promise answer → Over numbersOf list rows (over runs rows) promise answer
+  lent-over numbersOf promise more unlisted runs long answer p = record {
     core = p .core;
-    started =
-        lent-whole rows (λ a b. StartedBox list starts a records (p .core) b records′) (λ a z a′ room q. started-front list starts a z room records (p .core) a′ records′ q) runs long
-        (p .started);
-    answers = p .answers ∙ lent-told rows list (startedNumbers (p .core)) (λ h. started-unlisted list h starts (flat front) records (p .core) _ records′ (p .started));
+    promised = lent-whole rows (λ a b. promise a b (p .core)) (λ a z a′ room q. more a z a′ (p .core) room q) runs long (p .promised);
+    answers = p .answers ∙ lent-told rows list (numbersOf (p .core)) (λ h. unlisted (flat front) (flat (lent rows runs)) (p .core) h (p .promised));
   }
 
-  pub judged-runs : (batch : List ℕ) (answer : Judged) → JudgedRuns list front records batch answer → JudgedRuns list rows records batch answer
-  judged-runs batch answer p = record {
+  -- and that says nothing of numbers left
+  seen-over : {A : Type 0} (numbersOf : A → List ℕ) (promise : List ℕ → A → Type 0) → ((a z : List ℕ) (core : A) → most ≤ length a → promise a core → promise (a ++ z) core)
+      → ((a : List ℕ) (core : A) → headerSound list ≡ false → promise a core → numbersOf core ≡ refusalNumbers ListOf)
+      → (answer : A) → Over numbersOf list front front (λ a b core. promise a core) answer → Over numbersOf list rows rows (λ a b core. promise a core) answer
+  seen-over numbersOf promise more unlisted answer p = record {
     core = p .core;
-    judged = lent-seen rows (λ a. JudgedBatch list a records batch (p .core)) (λ a z room q. judged-front list a z room records batch (p .core) q) (p .judged);
-    answers = p .answers ∙ lent-told rows list (judgedNumbers (p .core)) (λ h. judged-unlisted list h (flat front) records batch (p .core) (p .judged));
+    promised = lent-seen rows (λ a. promise a (p .core)) (λ a z room q. more a z (p .core) room q) (p .promised);
+    answers = p .answers ∙ lent-told rows list (numbersOf (p .core)) (λ h. unlisted (flat front) (p .core) h (p .promised));
   }
 
-  pub took-runs : (batch : List ℕ) (answer : Judged) (runs : List Run) (records′ : List ℕ) → length runs ≡ 132
-      → TookRuns list front records batch answer (lent rows runs) records′ → TookRuns list rows records batch answer (over runs rows) records′
-  took-runs batch answer runs records′ long p = record {
-    core = p .core;
-    took = lent-whole rows (λ a b. TookBatch list a records batch (p .core) b records′) (λ a z a′ room q. took-front list a z room records batch (p .core) a′ records′ q) runs long (p .took);
-    answers =
-        p .answers ∙ lent-told rows list (judgedNumbers (p .core)) (λ h. judged-unlisted list h (flat front) records batch (p .core) (record { answers = p .took .answers }));
-  }
+  module _ (records : List ℕ) where
+    pub started-runs : (starts : List ℕ) (answer : Started) (runs : List Run) (records′ : List ℕ) → length runs ≡ 132
+        → StartedRuns list starts front records answer (lent rows runs) records′ → StartedRuns list starts rows records answer (over runs rows) records′
+    started-runs starts answer runs records′ long =
+        lent-over startedNumbers (λ ns ns′ core. StartedBox (lends list ns records) starts core (lends list ns′ records′)) (λ a z a′ core room q. started-front (lends list a records) z room starts core q)
+        (λ a a′ core h q. started-unlisted (lends list a records) h starts core q) runs long answer
 
-  module _ (letter : ℕ) where
-    pub listed-gaps : (cells : List ℕ) (answer : Listed) (cells′ : List ℕ) → ListedGaps list front records letter cells answer cells′ → ListedGaps list rows records letter cells answer cells′
-    listed-gaps cells answer cells′ p = record {
-      core = p .core;
-      listed = lent-seen rows (λ a. ListedRuns list a records letter cells (p .core) cells′) (λ a z room q. listed-front list records letter a z room cells (p .core) cells′ q) (p .listed);
-      answers = p .answers ∙ lent-told rows list (listedNumbers (p .core)) (λ h. listed-unlisted list records letter h (flat front) cells (p .core) cells′ (p .listed));
-    }
+    pub judged-runs : (batch : List ℕ) (answer : Judged) → JudgedRuns list front records batch answer → JudgedRuns list rows records batch answer
+    judged-runs batch answer =
+        seen-over judgedNumbers (λ ns core. JudgedBatch (lends list ns records) batch core) (λ a z core room q. judged-front (lends list a records) z room batch core q)
+        (λ a core h q. judged-unlisted (lends list a records) h batch core q) answer
 
-    pub wrote-off-runs : (answer : WrittenOff) (runs : List Run) → length runs ≡ 132 → WroteOffRuns list front records letter answer (lent rows runs) → WroteOffRuns list rows records letter answer (over runs rows)
-    wrote-off-runs answer runs long p = record {
-      core = p .core;
-      wrote-off = lent-whole rows (λ a b. WroteOffRun list a records letter (p .core) b) (λ a z a′ room q. wrote-front list records letter a z room (p .core) a′ q) runs long (p .wrote-off);
-      answers = p .answers ∙ lent-told rows list (writtenOffNumbers (p .core)) (λ h. wrote-unlisted list records letter h (flat front) (p .core) _ (p .wrote-off));
-    }
+    pub took-runs : (batch : List ℕ) (answer : Judged) (runs : List Run) (records′ : List ℕ) → length runs ≡ 132
+        → TookRuns list front records batch answer (lent rows runs) records′ → TookRuns list rows records batch answer (over runs rows) records′
+    took-runs batch answer runs records′ long =
+        lent-over judgedNumbers (λ ns ns′ core. TookBatch (lends list ns records) batch core (lends list ns′ records′)) (λ a z a′ core room q. took-front (lends list a records) z room batch core q)
+        (λ a a′ core h q. judged-unlisted (lends list a records) h batch core (record { answers = q .answers })) runs long answer
 
-    pub read-runs : (key : List ℕ) (level : Level) (reading : Reading) → ReadRuns list front records letter key level reading → ReadRuns list rows records letter key level reading
-    read-runs key level reading p = record {
-      core = p .core;
-      read = lent-seen rows (λ a. ReadRecord list a records letter key level (p .core)) (λ a z room q. read-front list records letter a z room key level (p .core) q) (p .read);
-      answers = p .answers ∙ lent-told rows list (readingNumbers (p .core)) (λ h. read-unlisted list records letter h (flat front) key level (p .core) (p .read));
-      quotes = p .quotes;
-    }
+    module _ (letter : ℕ) where
+      pub listed-gaps : (cells : List ℕ) (answer : Listed) (cells′ : List ℕ) → ListedGaps list front records letter cells answer cells′ → ListedGaps list rows records letter cells answer cells′
+      listed-gaps cells answer cells′ =
+          seen-over listedNumbers (λ ns core. ListedRuns (lends list ns records) letter cells core cells′) (λ a z core room q. listed-front (lends list a records) z room letter core q)
+          (λ a core h q. listed-unlisted (lends list a records) h letter core q) answer
+
+      pub wrote-off-runs : (answer : WrittenOff) (runs : List Run) → length runs ≡ 132 → WroteOffRuns list front records letter answer (lent rows runs) → WroteOffRuns list rows records letter answer (over runs rows)
+      wrote-off-runs answer runs long =
+          lent-over writtenOffNumbers (λ ns ns′ core. WroteOffRun (lends list ns records) letter core (lends list ns′ records)) (λ a z a′ core room q. wrote-front (lends list a records) z room letter core q)
+          (λ a a′ core h q. wrote-unlisted (lends list a records) h letter core q) runs long answer
+
+      pub read-runs : (key : List ℕ) (level : Level) (reading : Reading) → ReadRuns list front records letter key level reading → ReadRuns list rows records letter key level reading
+      read-runs key level reading =
+          seen-over readingNumbers (λ ns core. ReadRecord (lends list ns records) letter key level core × (reading .quote ≡ core .quote))
+          (λ a z core room q. (read-front (lends list a records) z room letter core (q .0), q .1)) (λ a core h q. read-unlisted (lends list a records) h letter core (q .0)) reading

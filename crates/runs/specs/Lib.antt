@@ -1,3 +1,4 @@
+pub mod ArrayLaws
 pub mod FlatLaws
 pub mod FrontLaws
 pub mod Histories

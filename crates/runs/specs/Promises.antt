@@ -7,55 +7,52 @@ use mathlib.Core.List.{List}
 use lib.ListN.{length}
 use Rattle.contracts.specs.File.{segmentsOf}
 use Rattle.contracts.specs.Sound.{headerSound, sound}
-use Rattle.layout.specs.declared.rows.Level.{Level}
-use Rattle.quotebox.specs.declared.answers.Started.{Started}
-use Rattle.quotebox.specs.declared.answers.Judged.{Judged}
-use Rattle.quotebox.specs.declared.answers.Listed.{Listed}
-use Rattle.quotebox.specs.declared.answers.WrittenOff.{WrittenOff}
-use Rattle.quotebox.specs.declared.answers.Reading.{Reading}
-use Rattle.quotebox.specs.Answers.{startedNumbers, judgedNumbers, listedNumbers, writtenOffNumbers, readingNumbers}
-use Rattle.quotebox.specs.Promises.{JudgedBatch, TookBatch}
+use Rattle.forms.specs.declared.rows.Level.{Level}
+use Rattle.state.specs.declared.answers.Started.{Started}
+use Rattle.state.specs.declared.answers.Judged.{Judged}
+use Rattle.state.specs.declared.answers.Listed.{Listed}
+use Rattle.state.specs.declared.answers.WrittenOff.{WrittenOff}
+use Rattle.quotebox.specs.declared.record.Reading.{Reading}
+use Rattle.state.specs.Answers.{startedNumbers, judgedNumbers, listedNumbers, writtenOffNumbers}
+use Rattle.state.specs.Memory.{lends}
+use Rattle.batch.specs.Promises.{JudgedBatch, TookBatch}
 use Rattle.quotebox.specs.CallPromises.{StartedBox, ListedRuns, WroteOffRun, ReadRecord}
+use Rattle.quotebox.specs.Record.{readingNumbers}
 use Rattle.quotebox.specs.Start.{eachStarts}
 use Rattle.runs.specs.declared.run.Run.{Run}
 use Rattle.runs.specs.Rows.{flat, inRuns}
 
+-- 01 "Which form goes where", the lent row of runs: a call over runs is the call over numbers on the runs seen as numbers; but 15 for
+-- gap rows names runs. What that call promises is said of the numbers lent, of those left, and of its answer.
+pub record Over {A : Type 0} (numbersOf : A → List ℕ) (list : List ℕ) (rows rows′ : List Run) (promise : List ℕ → List ℕ → A → Type 0) (answer : A) : Type 0 where
+  pub core : A
+  pub promised : promise (flat rows) (flat rows′) core
+  pub answers : numbersOf answer ≡ inRuns list (length rows) (numbersOf core)
+
 -- 01 "What may be asked": start
-pub record StartedRuns (list starts : List ℕ) (rows : List Run) (records : List ℕ) (answer : Started) (rows′ : List Run) (records′ : List ℕ) : Type 0 where
-  pub core : Started
-  pub started : StartedBox list starts (flat rows) records core (flat rows′) records′
-  pub answers : startedNumbers answer ≡ inRuns list (length rows) (startedNumbers core)
+abbrev pub StartedRuns : (list starts : List ℕ) (rows : List Run) (records : List ℕ) (answer : Started) (rows′ : List Run) (records′ : List ℕ) → Type 0
+StartedRuns list starts rows records answer rows′ records′ = Over startedNumbers list rows rows′ (λ ns ns′ core. StartedBox (lends list ns records) starts core (lends list ns′ records′)) answer
 
 -- 01 "What may be asked": judge a batch without change
-pub record JudgedRuns (list : List ℕ) (rows : List Run) (records batch : List ℕ) (answer : Judged) : Type 0 where
-  pub core : Judged
-  pub judged : JudgedBatch list (flat rows) records batch core
-  pub answers : judgedNumbers answer ≡ inRuns list (length rows) (judgedNumbers core)
+abbrev pub JudgedRuns : (list : List ℕ) (rows : List Run) (records batch : List ℕ) (answer : Judged) → Type 0
+JudgedRuns list rows records batch answer = Over judgedNumbers list rows rows (λ ns ns′ core. JudgedBatch (lends list ns records) batch core) answer
 
 -- 01 "What may be asked": take a batch
-pub record TookRuns (list : List ℕ) (rows : List Run) (records batch : List ℕ) (answer : Judged) (rows′ : List Run) (records′ : List ℕ) : Type 0 where
-  pub core : Judged
-  pub took : TookBatch list (flat rows) records batch core (flat rows′) records′
-  pub answers : judgedNumbers answer ≡ inRuns list (length rows) (judgedNumbers core)
+abbrev pub TookRuns : (list : List ℕ) (rows : List Run) (records batch : List ℕ) (answer : Judged) (rows′ : List Run) (records′ : List ℕ) → Type 0
+TookRuns list rows records batch answer rows′ records′ = Over judgedNumbers list rows rows′ (λ ns ns′ core. TookBatch (lends list ns records) batch core (lends list ns′ records′)) answer
 
 -- 01 "What may be asked": list gaps; its runs stand in lent cells, two a run
-pub record ListedGaps (list : List ℕ) (rows : List Run) (records : List ℕ) (letter : ℕ) (cells : List ℕ) (answer : Listed) (cells′ : List ℕ) : Type 0 where
-  pub core : Listed
-  pub listed : ListedRuns list (flat rows) records letter cells core cells′
-  pub answers : listedNumbers answer ≡ inRuns list (length rows) (listedNumbers core)
+abbrev pub ListedGaps : (list : List ℕ) (rows : List Run) (records : List ℕ) (letter : ℕ) (cells : List ℕ) (answer : Listed) (cells′ : List ℕ) → Type 0
+ListedGaps list rows records letter cells answer cells′ = Over listedNumbers list rows rows (λ ns ns′ core. ListedRuns (lends list ns records) letter cells core cells′) answer
 
 -- 01 "What may be asked": write off the lowest run
-pub record WroteOffRuns (list : List ℕ) (rows : List Run) (records : List ℕ) (letter : ℕ) (answer : WrittenOff) (rows′ : List Run) : Type 0 where
-  pub core : WrittenOff
-  pub wrote-off : WroteOffRun list (flat rows) records letter core (flat rows′)
-  pub answers : writtenOffNumbers answer ≡ inRuns list (length rows) (writtenOffNumbers core)
+abbrev pub WroteOffRuns : (list : List ℕ) (rows : List Run) (records : List ℕ) (letter : ℕ) (answer : WrittenOff) (rows′ : List Run) → Type 0
+WroteOffRuns list rows records letter answer rows′ = Over writtenOffNumbers list rows rows′ (λ ns ns′ core. WroteOffRun (lends list ns records) letter core (lends list ns′ records)) answer
 
 -- 01 "What may be asked": read a record
-pub record ReadRuns (list : List ℕ) (rows : List Run) (records : List ℕ) (letter : ℕ) (key : List ℕ) (level : Level) (reading : Reading) : Type 0 where
-  pub core : Reading
-  pub read : ReadRecord list (flat rows) records letter key level core
-  pub answers : readingNumbers reading ≡ inRuns list (length rows) (readingNumbers core)
-  pub quotes : reading .quote ≡ core .quote
+abbrev pub ReadRuns : (list : List ℕ) (rows : List Run) (records : List ℕ) (letter : ℕ) (key : List ℕ) (level : Level) (reading : Reading) → Type 0
+ReadRuns list rows records letter key level reading =
+    Over readingNumbers list rows rows (λ ns ns′ core. ReadRecord (lends list ns records) letter key level core × (reading .quote ≡ core .quote)) reading
 
 -- 01, the order of checks: a call on these runs that no rule before 15 refuses, and the numbers of its answer
 pub data UpToMemory (list : List ℕ) (rows : List Run) : List ℕ → Type 0 where

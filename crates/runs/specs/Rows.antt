@@ -5,8 +5,8 @@ use mathlib.Core.List.{List, [], _∷_}
 use lib.Dec.{ltb, eqb}
 use lib.ListN.{length, getD, take, replicate}
 use Rattle.contracts.specs.File.{segmentsOf}
-use Rattle.quotebox.specs.declared.refusal.Refusal.the-variants.{Memory}
-use Rattle.quotebox.specs.Refusals.{refusalNumbers}
+use Rattle.state.specs.declared.refusal.Refusal.the-variants.{Memory}
+use Rattle.state.specs.Refusals.{refusalNumbers}
 use Rattle.runs.specs.declared.run.Run.{Run}
 
 -- 01 "Sequence and gaps", "each a first and a last number": the row seen as numbers, those of each run in turn

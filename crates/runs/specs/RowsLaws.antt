@@ -8,8 +8,8 @@ use borrow.Author.Tests.{lt-ltb, le-ltb}
 use lib.Dec.{eqb}
 use lib.ListN.{length, getD, take, drop}
 use Rattle.laws.specs.Tests.{and-false}
-use Rattle.quotebox.specs.declared.refusal.Refusal.the-variants.{Memory}
-use Rattle.quotebox.specs.Refusals.{refusalNumbers}
+use Rattle.state.specs.declared.refusal.Refusal.the-variants.{Memory}
+use Rattle.state.specs.Refusals.{refusalNumbers}
 use Rattle.runs.specs.declared.run.Run.{Run}
 use Rattle.runs.specs.Rows.{over, runsWanted, inRuns}
 

@@ -16,219 +16,216 @@ use Rattle.contracts.specs.HeaderLaws.{header-exact}
 use Rattle.contracts.specs.File.{segmentsOf}
 use Rattle.contracts.specs.Sound.{Header, headerSound, sound}
 use Rattle.contracts.specs.SoundLaws.{sound-header}
-use Rattle.layout.specs.declared.rows.Level.{Level}
+use Rattle.forms.specs.declared.rows.Level.{Level}
 use Rattle.sequence.specs.Gaps.{Gaps, wanted, wroteOff}
 use Rattle.sequence.specs.Row.{laid}
 use Rattle.message.specs.Head.{isSome}
 use Rattle.message.specs.Message.{keyPlace}
-use Rattle.quotebox.specs.declared.answers.Started.{Started}
-use Rattle.quotebox.specs.declared.answers.Judged.{Judged}
-use Rattle.quotebox.specs.declared.answers.Listed.{Listed}
-use Rattle.quotebox.specs.declared.answers.WrittenOff.{WrittenOff}
-use Rattle.quotebox.specs.declared.answers.Reading.{Reading}
-use Rattle.quotebox.specs.declared.refusal.Refusal.{Refusal}
-use Rattle.quotebox.specs.declared.refusal.Refusal.the-variants.{Code, Contract, Memory, NoGap, List as ListOf}
-use Rattle.quotebox.specs.Answers.{startedNumbers, judgedNumbers, listedNumbers, writtenOffNumbers, readingNumbers}
-use Rattle.quotebox.specs.Batch.{Acted, acted, refused, unlessBroken, batchRules, batchActs, batchLetter, countOf, dataOf, messagesAct, rowsAfter, recordsAfter, rowOfLetter, withRowOfLetter, actedNumbers}
-use Rattle.quotebox.specs.Calls.{answered, leftBy, gapsOfLetter, listRules, listValues, runsPut, writeOffRules, runValues, lowestRun, rowsWrittenOff}
+use Rattle.state.specs.declared.answers.Started.{Started}
+use Rattle.state.specs.declared.answers.Judged.{Judged}
+use Rattle.state.specs.declared.answers.Listed.{Listed}
+use Rattle.state.specs.declared.answers.WrittenOff.{WrittenOff}
+use Rattle.quotebox.specs.declared.record.Reading.{Reading}
+use Rattle.state.specs.declared.refusal.Refusal.{Refusal}
+use Rattle.state.specs.declared.refusal.Refusal.the-variants.{Code, Contract, Memory, NoGap, List as ListOf}
+use Rattle.state.specs.Answers.{startedNumbers, judgedNumbers, listedNumbers, writtenOffNumbers, answered, leftBy}
+use Rattle.batch.specs.Batch.{Acted, acted, refused, unlessBroken, batchRules, batchActs, batchLetter, countOf, batchData, messagesAct, lentAfter, actedNumbers}
+use Rattle.state.specs.Memory.{Lent, lends, withGapRowOfLetter, gapRowOfLetter, gapRowsWanted}
+use Rattle.quotebox.specs.Calls.{gapsOfLetter, listRules, listValues, runsPut, writeOffRules, runValues, lowestRun, lentWrittenOff}
 use Rattle.quotebox.specs.CallPromises.{StartedBox, ListedRuns, WroteOffRun, ReadRecord}
-use Rattle.quotebox.specs.Record.{recordRules, recordOfKey, recordNumber, recordValues, quoteAt, quoteBeside}
-use Rattle.quotebox.specs.Memory.{rowsWanted}
-use Rattle.quotebox.specs.Promises.{JudgedBatch, TookBatch}
-use Rattle.quotebox.specs.Start.{startRules, startedRows, rowsStarted, recordsCleared}
-use Rattle.quotebox.specs.State.{segmentRules}
-use Rattle.quotebox.specs.Refusals.{Rule, refusalNumbers}
+use Rattle.quotebox.specs.Record.{readingNumbers, recordRules, recordOfKey, recordNumber, recordValues, quoteAt, quoteBeside}
+use Rattle.batch.specs.Promises.{JudgedBatch, TookBatch}
+use Rattle.quotebox.specs.Start.{startRules, startBroken, startedRows, rowsStarted, recordsCleared, lentStarted}
+use Rattle.state.specs.State.{segmentRules}
+use Rattle.state.specs.Refusals.{Rule, refusalNumbers}
 use Rattle.runs.specs.Rows.{most}
-use Rattle.runs.specs.FrontLaws.{rows-within, rows-lent, state-front, letter-front, with-front}
+use Rattle.runs.specs.FrontLaws.{longer, rows-within, rows-lent, state-front, letter-front, with-front}
 
 told-as : (o : Option Refusal) (values : List ℕ) → o ≡ some ListOf → answered o values ≡ refusalNumbers ListOf
 told-as o values e = rw e
 
-left-as : (o : Option Refusal) (before after : List ℕ) → o ≡ some ListOf → leftBy o before after ≡ before
+left-as : {A : Type 0} (o : Option Refusal) (before after : A) → o ≡ some ListOf → leftBy o before after ≡ before
 left-as o before after e = rw e
 
-module _ (list : List ℕ) where
-  -- by whether the list's header is sound
-  heads : {A : Type 0} → (headerSound list ≡ false → A) → (Header list → A) → A
-  heads {A} bad good =
-      ⊎-elim (λ (h : headerSound list ≡ true). good (header-exact list .0 h)) (λ (h : headerSound list ≡ false). bad h) (either (headerSound list))
+left-longer : (z : List ℕ) (o : Option Refusal) (before after more : Lent) → more ≡ longer z after → leftBy o (longer z before) more ≡ longer z (leftBy o before after)
+left-longer z (some refusal) before after more e = refl
+left-longer z none before after more e = e
 
-  -- ---- a batch
+-- by whether a list's header is sound
+heads : {A : Type 0} (list : List ℕ) → (headerSound list ≡ false → A) → (Header list → A) → A
+heads {A} list bad good =
+    ⊎-elim (λ (h : headerSound list ≡ true). good (header-exact list .0 h)) (λ (h : headerSound list ≡ false). bad h) (either (headerSound list))
 
-  acts-unlisted : headerSound list ≡ false → (rows records batch : List ℕ) → batchActs list rows records batch ≡ refused ListOf
+-- ---- where it isn't, every call answers 16, whatever rule stands behind
+
+module _ (lent : Lent) (h : headerSound (lent .list) ≡ false) where
+  acts-unlisted : (batch : List ℕ) → batchActs lent batch ≡ refused ListOf
   unfolding batchActs
-  acts-unlisted h rows records batch = rw h
+  acts-unlisted batch = rw h
 
-  pub judged-unlisted : headerSound list ≡ false → (rows records batch : List ℕ) (answer : Judged) → JudgedBatch list rows records batch answer → judgedNumbers answer ≡ refusalNumbers ListOf
-  judged-unlisted h rows records batch answer p = p .answers ∙ ap actedNumbers (acts-unlisted h rows records batch)
+  pub judged-unlisted : (batch : List ℕ) (answer : Judged) → JudgedBatch lent batch answer → judgedNumbers answer ≡ refusalNumbers ListOf
+  judged-unlisted batch answer p = p .answers ∙ ap actedNumbers (acts-unlisted batch)
 
-  module _ (a z : List ℕ) (room : most ≤ length a) (records batch : List ℕ) where
-    acts-front : batchActs list (a ++ z) records batch ≡ batchActs list a records batch
+  start-unlisted : (starts : List ℕ) → startBroken lent starts ≡ some ListOf
+  unfolding startRules
+  start-unlisted starts =
+      ⊎-elim (λ (s : sound (lent .list) ≡ true). absurd (true≢false (sym (sound-header (lent .list) s) ∙ h))) (λ (s : sound (lent .list) ≡ false). rw s) (either (sound (lent .list)))
+
+  pub started-unlisted : (starts : List ℕ) {lent′ : Lent} (answer : Started) → StartedBox lent starts answer lent′ → startedNumbers answer ≡ refusalNumbers ListOf
+  started-unlisted starts answer p = p .answers ∙ told-as _ [] (start-unlisted starts)
+
+  module _ (letter : ℕ) where
+    rules-unlisted : (more : List Rule) → firstBroken (segmentRules lent letter ++ more) ≡ some ListOf
+    unfolding segmentRules
+    rules-unlisted more = rw h
+
+    list-unlisted : (cells : ℕ) → firstBroken (listRules lent letter cells) ≡ some ListOf
+    unfolding listRules
+    list-unlisted cells = rules-unlisted (record { holds = leb (wanted (gapsOfLetter lent letter .runs)) cells; refusal = Memory (wanted (gapsOfLetter lent letter .runs)) } ∷ [])
+
+    off-unlisted : firstBroken (writeOffRules lent letter) ≡ some ListOf
+    unfolding writeOffRules
+    off-unlisted = rules-unlisted (record { holds = ltb 0 (length (gapsOfLetter lent letter .runs)); refusal = NoGap } ∷ [])
+
+    record-unlisted : (key : List ℕ) → firstBroken (recordRules lent letter key) ≡ some ListOf
+    unfolding recordRules
+    record-unlisted key = rules-unlisted (record { holds = isSome (keyPlace (lent .list) letter key); refusal = Contract 0 } ∷ [])
+
+    pub listed-unlisted : {cells cells′ : List ℕ} (answer : Listed) → ListedRuns lent letter cells answer cells′ → listedNumbers answer ≡ refusalNumbers ListOf
+    listed-unlisted {cells} answer p = p .answers ∙ told-as _ _ (list-unlisted (length cells))
+
+    pub wrote-unlisted : {lent′ : Lent} (answer : WrittenOff) → WroteOffRun lent letter answer lent′ → writtenOffNumbers answer ≡ refusalNumbers ListOf
+    wrote-unlisted answer p = p .answers ∙ told-as _ _ off-unlisted
+
+    pub read-unlisted : {key : List ℕ} {level : Level} (reading : Reading) → ReadRecord lent letter key level reading → readingNumbers reading ≡ refusalNumbers ListOf
+    read-unlisted {key} reading p = p .answers ∙ told-as _ _ (record-unlisted key)
+
+-- ---- what stands behind the front is neither looked at nor changed
+
+module _ (lent : Lent) (z : List ℕ) (room : most ≤ length (lent .rows)) where
+  abbrev list : List ℕ
+  list = lent .list
+
+  abbrev all : Lent
+  all = longer z lent
+
+  -- a batch
+
+  module _ (batch : List ℕ) where
+    acts-front : batchActs all batch ≡ batchActs lent batch
     unfolding batchActs
     acts-front =
-        heads
-        (λ h. acts-unlisted h (a ++ z) records batch ∙ sym (acts-unlisted h a records batch))
-        (λ header. ap₂ from (state-front a z room list header records) (letter-front a z room list header (batchLetter batch)))
+        heads list (λ h. acts-unlisted all h batch ∙ sym (acts-unlisted lent h batch))
+        (λ header. ap₂ from (state-front lent z room header) (letter-front lent z room header (batchLetter batch)))
       where
         from : List Rule → List ℕ → Acted
         from rules row =
             unlessBroken (firstBroken (rules ++ batchRules batch))
-            (messagesAct (countOf batch) list (batchLetter batch) 0 (record { row = row; records = records; taken = 0; old = 0; heartbeats = 0 }) (dataOf batch))
+            (messagesAct (countOf batch) list (batchLetter batch) 0 (record { row = row; records = lent .records; taken = 0; old = 0; heartbeats = 0 }) (batchData batch))
 
-    rows-front : rowsAfter list (batchLetter batch) (a ++ z) (batchActs list a records batch) ≡ rowsAfter list (batchLetter batch) a (batchActs list a records batch) ++ z
-    rows-front =
-        heads
-        (λ h. rw (acts-unlisted h a records batch))
-        (λ header. go header (batchActs list a records batch))
+    acted-left : lentAfter all (batchLetter batch) (batchActs lent batch) ≡ longer z (lentAfter lent (batchLetter batch) (batchActs lent batch))
+    acted-left = heads list (λ h. rw (acts-unlisted lent h batch)) (λ header. go header (batchActs lent batch))
       where
-        go : Header list → (acts : Acted) → rowsAfter list (batchLetter batch) (a ++ z) acts ≡ rowsAfter list (batchLetter batch) a acts ++ z
-        go header (acted box) = with-front a z room list header (batchLetter batch) (box .row)
+        go : Header list → (acts : Acted) → lentAfter all (batchLetter batch) acts ≡ longer z (lentAfter lent (batchLetter batch) acts)
+        go header (acted box) = ap (λ (rows : List ℕ). lends list rows (box .records)) (with-front lent z room header (batchLetter batch) (box .row))
         go header (refused refusal) = refl
 
-    pub judged-front : (answer : Judged) → JudgedBatch list a records batch answer → JudgedBatch list (a ++ z) records batch answer
+    pub judged-front : (answer : Judged) → JudgedBatch lent batch answer → JudgedBatch all batch answer
     judged-front answer p = record { answers = p .answers ∙ ap actedNumbers (sym acts-front) }
 
-    pub took-front : (answer : Judged) (rows′ records′ : List ℕ) → TookBatch list a records batch answer rows′ records′
-        → TookBatch list (a ++ z) records batch answer (rows′ ++ z) records′
-    took-front answer rows′ records′ p = record {
+    pub took-front : {lent′ : Lent} (answer : Judged) → TookBatch lent batch answer lent′ → TookBatch all batch answer (longer z lent′)
+    took-front answer p = record {
       answers = p .answers ∙ ap actedNumbers (sym acts-front);
-      rows-left = ap (λ (l : List ℕ). l ++ z) (p .rows-left) ∙ sym rows-front ∙ ap (rowsAfter list (batchLetter batch) (a ++ z)) (sym acts-front);
-      records-left = p .records-left ∙ ap (recordsAfter records) (sym acts-front);
+      left = ap (longer z) (p .left) ∙ sym acted-left ∙ ap (lentAfter all (batchLetter batch)) (sym acts-front);
     }
 
-  -- ---- a start
+  -- a start
 
-  start-unlisted : headerSound list ≡ false → (starts : List ℕ) (rows records : ℕ) → firstBroken (startRules list starts rows records) ≡ some ListOf
-  unfolding startRules
-  start-unlisted h starts rows records =
-      ⊎-elim (λ (s : sound list ≡ true). absurd (true≢false (sym (sound-header list s) ∙ h))) (λ (s : sound list ≡ false). rw s) (either (sound list))
-
-  pub started-unlisted : headerSound list ≡ false → (starts rows records : List ℕ) (answer : Started) (rows′ records′ : List ℕ) → StartedBox list starts rows records answer rows′ records′
-      → startedNumbers answer ≡ refusalNumbers ListOf
-  started-unlisted h starts rows records answer rows′ records′ p = p .answers ∙ told-as _ [] (start-unlisted h starts (length rows) (length records))
-
-  module _ (starts a z : List ℕ) (room : most ≤ length a) (records : List ℕ) where
-    abbrev broken : List ℕ → Option Refusal
-    broken rows = firstBroken (startRules list starts (length rows) (length records))
-
-    broken-front : broken (a ++ z) ≡ broken a
+  module _ (starts : List ℕ) where
+    broken-front : startBroken all starts ≡ startBroken lent starts
     unfolding startRules
-    broken-front =
-        heads (λ h. start-unlisted h starts (length (a ++ z)) (length records) ∙ sym (start-unlisted h starts (length a) (length records)))
-        (λ header. rw (rows-lent a z room list header))
+    broken-front = heads list (λ h. start-unlisted all h starts ∙ sym (start-unlisted lent h starts)) (λ header. rw (rows-lent lent z room header))
 
-    started-left : leftBy (broken a) (a ++ z) (rowsStarted list starts (a ++ z)) ≡ leftBy (broken a) a (rowsStarted list starts a) ++ z
+    rows-left : Header list → lentStarted all starts ≡ longer z (lentStarted lent starts)
     unfolding rowsStarted
-    started-left = heads (λ h. rw (start-unlisted h starts (length a) (length records))) (λ header. go header (broken a))
-      where
-        go : Header list → (o : Option Refusal) → leftBy o (a ++ z) (rowsStarted list starts (a ++ z)) ≡ leftBy o a (rowsStarted list starts a) ++ z
-        go header (some refusal) = refl
-        go header none =
-            ap (λ (l : List ℕ). startedRows (segmentsOf list) starts ++ l) (drop-append-le (rowsWanted list) a z (rows-within a z room list header))
-            ∙ sym (append-assoc (startedRows (segmentsOf list) starts) (drop (rowsWanted list) a) z)
+    rows-left header =
+        ap (λ (rows : List ℕ). lends list rows (recordsCleared list (lent .records)))
+        (ap (λ (l : List ℕ). startedRows (segmentsOf list) starts ++ l) (drop-append-le (gapRowsWanted list) (lent .rows) z (rows-within lent z room header))
+        ∙ sym (append-assoc (startedRows (segmentsOf list) starts) (drop (gapRowsWanted list) (lent .rows)) z))
 
-    pub started-front : (answer : Started) (rows′ records′ : List ℕ) → StartedBox list starts a records answer rows′ records′ → StartedBox list starts (a ++ z) records answer (rows′ ++ z) records′
-    started-front answer rows′ records′ p = record {
+    started-left : leftBy (startBroken lent starts) all (lentStarted all starts) ≡ longer z (leftBy (startBroken lent starts) lent (lentStarted lent starts))
+    started-left =
+        heads list (λ h. rw (start-unlisted lent h starts))
+        (λ header. left-longer z (startBroken lent starts) lent (lentStarted lent starts) (lentStarted all starts) (rows-left header))
+
+    pub started-front : {lent′ : Lent} (answer : Started) → StartedBox lent starts answer lent′ → StartedBox all starts answer (longer z lent′)
+    started-front answer p = record {
       answers = p .answers ∙ ap (λ (o : Option Refusal). answered o []) (sym broken-front);
-      rows-left = ap (λ (l : List ℕ). l ++ z) (p .rows-left) ∙ sym started-left ∙ ap (λ (o : Option Refusal). leftBy o (a ++ z) (rowsStarted list starts (a ++ z))) (sym broken-front);
-      records-left = p .records-left ∙ ap (λ (o : Option Refusal). leftBy o records (recordsCleared list records)) (sym broken-front);
+      left = ap (longer z) (p .left) ∙ sym started-left ∙ ap (λ (o : Option Refusal). leftBy o all (lentStarted all starts)) (sym broken-front);
     }
 
-  -- ---- the calls for a segment
+  -- the calls for a segment
 
-  module _ (records : List ℕ) (letter : ℕ) where
-    -- where the list's header isn't sound, whatever rule stands behind the state's
-    rules-unlisted : headerSound list ≡ false → (rows : List ℕ) (more : List Rule) → firstBroken (segmentRules list rows records letter ++ more) ≡ some ListOf
+  module _ (letter : ℕ) where
+    rules-front : Header list → segmentRules all letter ≡ segmentRules lent letter
     unfolding segmentRules
-    rules-unlisted h rows more = rw h
+    rules-front header = ap (λ (rules : List Rule). rules ++ (record { holds = isSome (segmentOf list letter); refusal = Code 0 } ∷ [])) (state-front lent z room header)
 
-    rules-front : (a z : List ℕ) → most ≤ length a → Header list → segmentRules list (a ++ z) records letter ≡ segmentRules list a records letter
-    unfolding segmentRules
-    rules-front a z room header =
-        ap (λ (rules : List Rule). rules ++ (record { holds = isSome (segmentOf list letter); refusal = Code 0 } ∷ [])) (state-front a z room list header records)
-
-    gaps-front : (a z : List ℕ) → most ≤ length a → Header list → gapsOfLetter list (a ++ z) letter ≡ gapsOfLetter list a letter
+    gaps-front : Header list → gapsOfLetter all letter ≡ gapsOfLetter lent letter
     unfolding gapsOfLetter
-    gaps-front a z room header = rw (letter-front a z room list header letter)
+    gaps-front header = rw (letter-front lent z room header letter)
 
-    list-unlisted : headerSound list ≡ false → (rows : List ℕ) (cells : ℕ) → firstBroken (listRules list rows records letter cells) ≡ some ListOf
+    list-front : Header list → (cells : ℕ) → listRules all letter cells ≡ listRules lent letter cells
     unfolding listRules
-    list-unlisted h rows cells =
-        rules-unlisted h rows (record { holds = leb (wanted (gapsOfLetter list rows letter .runs)) cells; refusal = Memory (wanted (gapsOfLetter list rows letter .runs)) } ∷ [])
+    list-front header cells =
+        ap₂ (λ (rules : List Rule) (gaps : Gaps). rules ++ (record { holds = leb (wanted (gaps .runs)) cells; refusal = Memory (wanted (gaps .runs)) } ∷ []))
+        (rules-front header) (gaps-front header)
 
-    off-unlisted : headerSound list ≡ false → (rows : List ℕ) → firstBroken (writeOffRules list rows records letter) ≡ some ListOf
+    off-front : Header list → writeOffRules all letter ≡ writeOffRules lent letter
     unfolding writeOffRules
-    off-unlisted h rows = rules-unlisted h rows (record { holds = ltb 0 (length (gapsOfLetter list rows letter .runs)); refusal = NoGap } ∷ [])
+    off-front header = ap₂ (λ (rules : List Rule) (gaps : Gaps). rules ++ (record { holds = ltb 0 (length (gaps .runs)); refusal = NoGap } ∷ [])) (rules-front header) (gaps-front header)
 
-    record-unlisted : headerSound list ≡ false → (rows key : List ℕ) → firstBroken (recordRules list rows records letter key) ≡ some ListOf
+    record-front : Header list → (key : List ℕ) → recordRules all letter key ≡ recordRules lent letter key
     unfolding recordRules
-    record-unlisted h rows key = rules-unlisted h rows (record { holds = isSome (keyPlace list letter key); refusal = Contract 0 } ∷ [])
+    record-front header key = ap (λ (rules : List Rule). rules ++ (record { holds = isSome (keyPlace list letter key); refusal = Contract 0 } ∷ [])) (rules-front header)
 
-    pub listed-unlisted : headerSound list ≡ false → (rows cells : List ℕ) (answer : Listed) (cells′ : List ℕ) → ListedRuns list rows records letter cells answer cells′ → listedNumbers answer ≡ refusalNumbers ListOf
-    listed-unlisted h rows cells answer cells′ p = p .answers ∙ told-as _ _ (list-unlisted h rows (length cells))
+    pub listed-front : {cells cells′ : List ℕ} (answer : Listed) → ListedRuns lent letter cells answer cells′ → ListedRuns all letter cells answer cells′
+    listed-front {cells} answer p =
+        heads list
+        (λ h. record {
+          answers = listed-unlisted lent h letter answer p ∙ sym (told-as _ _ (list-unlisted all h letter (length cells)));
+          cells-left = p .cells-left ∙ left-as _ cells _ (list-unlisted lent h letter (length cells)) ∙ sym (left-as _ cells _ (list-unlisted all h letter (length cells)));
+        })
+        (λ header. record {
+          answers = p .answers ∙ ap₂ (λ (rules : List Rule) (gaps : Gaps). answered (firstBroken rules) (listValues gaps)) (sym (list-front header (length cells))) (sym (gaps-front header));
+          cells-left = p .cells-left ∙ ap₂ (λ (rules : List Rule) (gaps : Gaps). leftBy (firstBroken rules) cells (runsPut gaps cells)) (sym (list-front header (length cells))) (sym (gaps-front header));
+        })
 
-    pub wrote-unlisted : headerSound list ≡ false → (rows : List ℕ) (answer : WrittenOff) (rows′ : List ℕ) → WroteOffRun list rows records letter answer rows′ → writtenOffNumbers answer ≡ refusalNumbers ListOf
-    wrote-unlisted h rows answer rows′ p = p .answers ∙ told-as _ _ (off-unlisted h rows)
+    pub read-front : {key : List ℕ} {level : Level} (reading : Reading) → ReadRecord lent letter key level reading → ReadRecord all letter key level reading
+    read-front {key} {level} reading p =
+        let same : firstBroken (recordRules lent letter key) ≡ firstBroken (recordRules all letter key) =
+        heads list (λ h. record-unlisted lent h letter key ∙ sym (record-unlisted all h letter key)) (λ header. ap firstBroken (sym (record-front header key))) in
+        record {
+          answers = p .answers ∙ ap (λ (o : Option Refusal). answered o (recordValues (recordNumber (lent .records) (recordOfKey list letter key level)))) same;
+          quotes = p .quotes ∙ ap (λ (o : Option Refusal). quoteBeside o (quoteAt (lent .records) (recordOfKey list letter key level) level)) same;
+        }
 
-    pub read-unlisted : headerSound list ≡ false → (rows key : List ℕ) (level : Level) (reading : Reading) → ReadRecord list rows records letter key level reading → readingNumbers reading ≡ refusalNumbers ListOf
-    read-unlisted h rows key level reading p = p .answers ∙ told-as _ _ (record-unlisted h rows key)
+    off-left : Header list → lentWrittenOff all letter ≡ longer z (lentWrittenOff lent letter)
+    unfolding lentWrittenOff
+    off-left header =
+        ap (λ (rows : List ℕ). lends list rows (lent .records))
+        (ap₂ (λ (row : List ℕ) (gaps : Gaps). withGapRowOfLetter list letter (lent .rows ++ z) (laid row (wroteOff gaps))) (letter-front lent z room header letter) (gaps-front header)
+        ∙ with-front lent z room header letter (laid (gapRowOfLetter list letter (lent .rows)) (wroteOff (gapsOfLetter lent letter))))
 
-    module _ (a z : List ℕ) (room : most ≤ length a) where
-      list-front : Header list → (cells : ℕ) → listRules list (a ++ z) records letter cells ≡ listRules list a records letter cells
-      unfolding listRules
-      list-front header cells =
-          ap₂ (λ (rules : List Rule) (gaps : Gaps). rules ++ (record { holds = leb (wanted (gaps .runs)) cells; refusal = Memory (wanted (gaps .runs)) } ∷ []))
-          (rules-front a z room header) (gaps-front a z room header)
-
-      off-front : Header list → writeOffRules list (a ++ z) records letter ≡ writeOffRules list a records letter
-      unfolding writeOffRules
-      off-front header =
-          ap₂ (λ (rules : List Rule) (gaps : Gaps). rules ++ (record { holds = ltb 0 (length (gaps .runs)); refusal = NoGap } ∷ [])) (rules-front a z room header) (gaps-front a z room header)
-
-      record-front : Header list → (key : List ℕ) → recordRules list (a ++ z) records letter key ≡ recordRules list a records letter key
-      unfolding recordRules
-      record-front header key = ap (λ (rules : List Rule). rules ++ (record { holds = isSome (keyPlace list letter key); refusal = Contract 0 } ∷ [])) (rules-front a z room header)
-
-      pub listed-front : (cells : List ℕ) (answer : Listed) (cells′ : List ℕ) → ListedRuns list a records letter cells answer cells′ → ListedRuns list (a ++ z) records letter cells answer cells′
-      listed-front cells answer cells′ p =
-          heads
-          (λ h. record {
-            answers = listed-unlisted h a cells answer cells′ p ∙ sym (told-as _ _ (list-unlisted h (a ++ z) (length cells)));
-            cells-left = p .cells-left ∙ left-as _ cells _ (list-unlisted h a (length cells)) ∙ sym (left-as _ cells _ (list-unlisted h (a ++ z) (length cells)));
-          })
-          (λ header. record {
-            answers = p .answers ∙ ap₂ (λ (rules : List Rule) (gaps : Gaps). answered (firstBroken rules) (listValues gaps)) (sym (list-front header (length cells))) (sym (gaps-front a z room header));
-            cells-left = p .cells-left ∙ ap₂ (λ (rules : List Rule) (gaps : Gaps). leftBy (firstBroken rules) cells (runsPut gaps cells)) (sym (list-front header (length cells))) (sym (gaps-front a z room header));
-          })
-
-      pub read-front : (key : List ℕ) (level : Level) (reading : Reading) → ReadRecord list a records letter key level reading → ReadRecord list (a ++ z) records letter key level reading
-      read-front key level reading p =
-          let same : firstBroken (recordRules list a records letter key) ≡ firstBroken (recordRules list (a ++ z) records letter key) =
-          heads (λ h. record-unlisted h a key ∙ sym (record-unlisted h (a ++ z) key)) (λ header. ap firstBroken (sym (record-front header key))) in
-          record {
-            answers = p .answers ∙ ap (λ (o : Option Refusal). answered o (recordValues (recordNumber records (recordOfKey list letter key level)))) same;
-            quotes = p .quotes ∙ ap (λ (o : Option Refusal). quoteBeside o (quoteAt records (recordOfKey list letter key level) level)) same;
-          }
-
-      off-left : Header list → rowsWrittenOff list (a ++ z) letter ≡ rowsWrittenOff list a letter ++ z
-      unfolding rowsWrittenOff
-      off-left header =
-          ap₂ (λ (row : List ℕ) (gaps : Gaps). withRowOfLetter list letter (a ++ z) (laid row (wroteOff gaps))) (letter-front a z room list header letter) (gaps-front a z room header)
-          ∙ with-front a z room list header letter (laid (rowOfLetter list letter a) (wroteOff (gapsOfLetter list a letter)))
-
-      left-front : Header list → (o : Option Refusal) → leftBy o (a ++ z) (rowsWrittenOff list (a ++ z) letter) ≡ leftBy o a (rowsWrittenOff list a letter) ++ z
-      left-front header (some refusal) = refl
-      left-front header none = off-left header
-
-      pub wrote-front : (answer : WrittenOff) (rows′ : List ℕ) → WroteOffRun list a records letter answer rows′ → WroteOffRun list (a ++ z) records letter answer (rows′ ++ z)
-      wrote-front answer rows′ p =
-          heads
-          (λ h. record {
-            answers = wrote-unlisted h a answer rows′ p ∙ sym (told-as _ _ (off-unlisted h (a ++ z)));
-            rows-left = ap (λ (l : List ℕ). l ++ z) (p .rows-left ∙ left-as _ a _ (off-unlisted h a)) ∙ sym (left-as _ (a ++ z) _ (off-unlisted h (a ++ z)));
-          })
-          (λ header. record {
-            answers = p .answers ∙ ap₂ (λ (rules : List Rule) (gaps : Gaps). answered (firstBroken rules) (runValues (lowestRun gaps))) (sym (off-front header)) (sym (gaps-front a z room header));
-            rows-left = ap (λ (l : List ℕ). l ++ z) (p .rows-left) ∙ sym (left-front header (firstBroken (writeOffRules list a records letter)))
-                ∙ ap (λ (rules : List Rule). leftBy (firstBroken rules) (a ++ z) (rowsWrittenOff list (a ++ z) letter)) (sym (off-front header));
-          })
+    pub wrote-front : {lent′ : Lent} (answer : WrittenOff) → WroteOffRun lent letter answer lent′ → WroteOffRun all letter answer (longer z lent′)
+    wrote-front answer p =
+        heads list
+        (λ h. record {
+          answers = wrote-unlisted lent h letter answer p ∙ sym (told-as _ _ (off-unlisted all h letter));
+          left = ap (longer z) (p .left ∙ left-as _ lent _ (off-unlisted lent h letter)) ∙ sym (left-as _ all _ (off-unlisted all h letter));
+        })
+        (λ header. record {
+          answers = p .answers ∙ ap₂ (λ (rules : List Rule) (gaps : Gaps). answered (firstBroken rules) (runValues (lowestRun gaps))) (sym (off-front header)) (sym (gaps-front header));
+          left = ap (longer z) (p .left) ∙ sym (left-longer z (firstBroken (writeOffRules lent letter)) lent (lentWrittenOff lent letter) (lentWrittenOff all letter) (off-left header))
+              ∙ ap (λ (rules : List Rule). leftBy (firstBroken rules) all (lentWrittenOff all letter)) (sym (off-front header));
+        })

@@ -1,7 +1,8 @@
 // The calls over numbers, on an array of runs of which so many are lent.
 ghost use Prim.Native.Nat.{_≤_};
 ghost use lib.ListN.{length, take};
-ghost use Rattle.quotebox.specs.Promises.{JudgedBatch, TookBatch};
+ghost use Rattle.state.specs.Memory.{lends};
+ghost use Rattle.batch.specs.Promises.{JudgedBatch, TookBatch};
 ghost use Rattle.quotebox.specs.CallPromises.{StartedBox, ListedRuns, WroteOffRun, ReadRecord};
 ghost use Rattle.runs.specs.Promises.{StartedRuns, JudgedRuns, TookRuns, ListedGaps, WroteOffRuns, ReadRuns};
 use crate::numbers;
@@ -38,7 +39,7 @@ fn start_numbers(
     records: &mut [u64],
 ) -> Started
     requires { ⌜ lent ≤ length (now numbers) ⌝ }
-    ensures { λ r. ⌜ StartedBox (now (list .entry)) (now (starts .entry)) (take lent (now (numbers .entry))) (now (records .entry)) r (take lent (now (numbers .exit))) (now (records .exit)) ⌝ }
+    ensures { λ r. ⌜ StartedBox (lends (now (list .entry)) (take lent (now (numbers .entry))) (now (records .entry))) (now (starts .entry)) r (lends (now (list .entry)) (take lent (now (numbers .exit))) (now (records .exit))) ⌝ }
 {
     quotebox::start(list, starts, &mut numbers[..lent], records)
 }
@@ -63,7 +64,7 @@ pub(crate) fn start(
 
 fn judge_numbers(list: &[u8], numbers: &[u32], lent: usize, records: &[u64], batch: &[u8]) -> Judged
     requires { ⌜ lent ≤ length (now numbers) ⌝ }
-    ensures { λ r. ⌜ JudgedBatch (now (list .entry)) (take lent (now (numbers .entry))) (now (records .entry)) (now (batch .entry)) r ⌝ }
+    ensures { λ r. ⌜ JudgedBatch (lends (now (list .entry)) (take lent (now (numbers .entry))) (now (records .entry))) (now (batch .entry)) r ⌝ }
 {
     quotebox::judge(list, &numbers[..lent], records, batch)
 }
@@ -91,7 +92,7 @@ fn take_numbers(
     batch: &[u8],
 ) -> Judged
     requires { ⌜ lent ≤ length (now numbers) ⌝ }
-    ensures { λ r. ⌜ TookBatch (now (list .entry)) (take lent (now (numbers .entry))) (now (records .entry)) (now (batch .entry)) r (take lent (now (numbers .exit))) (now (records .exit)) ⌝ }
+    ensures { λ r. ⌜ TookBatch (lends (now (list .entry)) (take lent (now (numbers .entry))) (now (records .entry))) (now (batch .entry)) r (lends (now (list .entry)) (take lent (now (numbers .exit))) (now (records .exit))) ⌝ }
 {
     quotebox::take(list, &mut numbers[..lent], records, batch)
 }
@@ -123,7 +124,7 @@ fn list_numbers(
     cells: &mut [u32],
 ) -> Listed
     requires { ⌜ lent ≤ length (now numbers) ⌝ }
-    ensures { λ r. ⌜ ListedRuns (now (list .entry)) (take lent (now (numbers .entry))) (now (records .entry)) letter (now (cells .entry)) r (now (cells .exit)) ⌝ }
+    ensures { λ r. ⌜ ListedRuns (lends (now (list .entry)) (take lent (now (numbers .entry))) (now (records .entry))) letter (now (cells .entry)) r (now (cells .exit)) ⌝ }
 {
     quotebox::list_gaps(list, &numbers[..lent], records, letter, cells)
 }
@@ -152,7 +153,7 @@ fn write_off_numbers(
     letter: u8,
 ) -> WrittenOff
     requires { ⌜ lent ≤ length (now numbers) ⌝ }
-    ensures { λ r. ⌜ WroteOffRun (now (list .entry)) (take lent (now (numbers .entry))) (now (records .entry)) letter r (take lent (now (numbers .exit))) ⌝ }
+    ensures { λ r. ⌜ WroteOffRun (lends (now (list .entry)) (take lent (now (numbers .entry))) (now (records .entry))) letter r (lends (now (list .entry)) (take lent (now (numbers .exit))) (now (records .entry))) ⌝ }
 {
     quotebox::write_off(list, &mut numbers[..lent], records, letter)
 }
@@ -185,7 +186,7 @@ fn read_numbers(
     level: Level,
 ) -> Reading
     requires { ⌜ lent ≤ length (now numbers) ⌝ }
-    ensures { λ r. ⌜ ReadRecord (now (list .entry)) (take lent (now (numbers .entry))) (now (records .entry)) letter (now (key .entry)) level r ⌝ }
+    ensures { λ r. ⌜ ReadRecord (lends (now (list .entry)) (take lent (now (numbers .entry))) (now (records .entry))) letter (now (key .entry)) level r ⌝ }
 {
     quotebox::read_record(list, &numbers[..lent], records, letter, key, level)
 }

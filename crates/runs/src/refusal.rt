@@ -1,7 +1,7 @@
 // Answers of the calls over numbers, with 15 for gap rows in runs.
 ghost use mathlib.Core.Path.{_≡_};
-ghost use Rattle.quotebox.specs.Refusals.{refusalNumbers};
-ghost use Rattle.quotebox.specs.Answers.{startedNumbers, judgedNumbers, listedNumbers, writtenOffNumbers, recordedNumbers};
+ghost use Rattle.state.specs.Refusals.{refusalNumbers};
+ghost use Rattle.state.specs.Answers.{startedNumbers, judgedNumbers, listedNumbers, writtenOffNumbers, recordedNumbers};
 ghost use Rattle.runs.specs.Rows.{inRuns};
 use quotebox::Judged;
 use quotebox::Listed;

@@ -6,13 +6,14 @@ use native.Mathlib.Omega.{arith}
 use borrow.Author.Tests.{le-leb, lt-leb}
 use lib.ListN.{length, take, drop}
 use Rattle.sequence.specs.Runs.{Run, run}
-use Rattle.sequence.specs.Gaps.{withRuns, withoutLowest, lowest, writtenOff, refusedNoGap, writeOffAnswer, wanted, listAnswer}
-use Rattle.sequence.specs.Row.{cells, head, gapsOf, runsOf, laid, filled}
+use Rattle.sequence.specs.Gaps.{withRuns, withoutLowest, wanted}
+use Rattle.sequence.specs.Answers.{listAnswer, writeOffAnswer, lowest, refusedNoGap, writtenOff, runsListed}
+use Rattle.sequence.specs.Row.{cells, head, gapsOf, runsOf, laid}
 use Rattle.sequence.specs.RowLaws.{length-runs, laid-self, flat-runs}
 use Rattle.sequence.specs.Steps.{instead, replaced}
 use Rattle.sequence.specs.Promises.{WroteOff, ListedGaps}
 use Rattle.sequence.specs.declared.WriteOff.the-variants.{Removed, NoGap}
-use Rattle.sequence.specs.declared.Listed.the-variants.{Runs, Short}
+use Rattle.sequence.specs.declared.GapsListed.the-variants.{Runs, Short}
 
 none-left : (rs : List Run) → length rs ≡ 0 → (lowest rs ≡ refusedNoGap) × (withoutLowest rs ≡ rs)
 none-left [] e = (refl, refl)
@@ -37,11 +38,11 @@ module _ (row : List ℕ) where
       record { says = sym (both .0); left = ap (λ (rs : List Run). laid row (withRuns (gapsOf row) rs)) (sym (both .1)) }
 
   pub listed-short : (lent : List ℕ) → length lent < wanted (runsOf row) → ListedGaps row lent (Short (wanted (runsOf row))) lent
-  unfolding listAnswer filled
+  unfolding listAnswer runsListed
   listed-short lent h =
       record { says = simp (lt-leb (wanted (runsOf row)) (length lent) h); left = simp (lt-leb (wanted (runsOf row)) (length lent) h) }
 
   pub listed-all : (lent : List ℕ) → wanted (runsOf row) ≤ length lent → ListedGaps row lent (Runs (gapsOf row .highest) (length (runsOf row))) (take (wanted (runsOf row)) (drop head row) ++ drop (wanted (runsOf row)) lent)
-  unfolding listAnswer filled
+  unfolding listAnswer runsListed
   listed-all lent h =
       record { says = simp (le-leb (wanted (runsOf row)) (length lent) h); left = simp (le-leb (wanted (runsOf row)) (length lent) h, flat-runs row) }

@@ -10,7 +10,7 @@ use lib.Seq.{take-at, drop-at, drop-cons, getD-at, append-snoc, length-take-le, 
 use Rattle.laws.specs.Moves.{stores-at}
 use Rattle.sequence.specs.Runs.{Run, _to_, run}
 use Rattle.sequence.specs.Gaps.{most, withRuns}
-use Rattle.sequence.specs.Row.{cells, cell, flat, count, gapsOf, runsOf, laid, soundRow}
+use Rattle.sequence.specs.Row.{cells, cell, flat, count, gapsOf, runsOf, laid, soundGapRow}
 use Rattle.sequence.specs.RowLaws.{length-flat, flat-append, length-runs, count-runs, parts, sound-row-exactly}
 use Rattle.sequence.specs.Steps.{moved, instead, replaced, divided, Stands}
 
@@ -137,5 +137,5 @@ module _ (row : List ℕ) (e : length row ≡ cells) where
         ∙ ap (λ (ns : List ℕ). gapsOf row .start ∷ gapsOf row .highest ∷ (length (runsOf row) + 1) ∷ getD row 3 0 ∷ ns) (append-assoc (flat (take i (runsOf row))) (run (runsOf row) i .first ∷ []) _)
         ∙ sym (replaced-as i (divided (run (runsOf row) i) end begin) (length (runsOf row) + 1) (omega arith))
 
-pub sound-stands : (row : List ℕ) (i : ℕ) → soundRow row ≡ true → i < length (runsOf row) → Stands row i
+pub sound-stands : (row : List ℕ) (i : ℕ) → soundGapRow row ≡ true → i < length (runsOf row) → Stands row i
 sound-stands row i s h = let all = sound-row-exactly row .0 s in stands-at row (all .0) i h

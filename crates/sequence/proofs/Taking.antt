@@ -10,15 +10,15 @@ use Rattle.laws.specs.Tests.{or-true}
 use Rattle.sequence.specs.Runs.{Run, _to_, run, names, missing, join, parted}
 use Rattle.sequence.specs.Apart.{Apart}
 use Rattle.sequence.specs.RunsLaws.{names-in, named, join-none}
-use Rattle.sequence.specs.Gaps.{Gaps, most, takes, runsAfter, after, took, takeAnswer, withRuns}
+use Rattle.sequence.specs.Gaps.{Gaps, most, takes, runsAfter, after, withRuns}
+use Rattle.sequence.specs.Answers.{takeAnswer, took, takenNumbers}
 use Rattle.sequence.specs.GapsLaws.{took-taken, took-full, took-old}
 use Rattle.sequence.specs.SoundLaws.{sound-apart, at-run}
-use Rattle.sequence.specs.Row.{gapsOf, runsOf, laid, soundRow}
+use Rattle.sequence.specs.Row.{gapsOf, runsOf, laid, soundGapRow}
 use Rattle.sequence.specs.RowLaws.{laid-self, sound-row-exactly}
 use Rattle.sequence.proofs.Cells.{sound-stands, length-instead}
 use Rattle.sequence.specs.Steps.{instead, replaced, Placed, Missed, Skipped}
 use Rattle.sequence.proofs.Steps.{missing-here, without-at, span-none, span-one, parted-both, join-at, join-behind}
-use Rattle.sequence.specs.Answers.{takenNumbers}
 use Rattle.sequence.specs.Promises.{Took}
 use Rattle.sequence.specs.declared.Taken.{Taken}
 use Rattle.sequence.specs.declared.late.Place.the-variants.{At}
@@ -43,20 +43,20 @@ module _ (row : List ℕ) (k : ℕ) where
       record { says = sym (both .0); left = e ∙ ap (laid row) (sym (both .1)) }
 
   -- an answer that changes nothing
-  unchanged : soundRow row ≡ true → (answer : Taken) → (takeAnswer (gapsOf row) k ≡ takenNumbers answer) × (took (gapsOf row) k ≡ gapsOf row) → Took row k answer row
+  unchanged : soundGapRow row ≡ true → (answer : Taken) → (takeAnswer (gapsOf row) k ≡ takenNumbers answer) × (took (gapsOf row) k ≡ gapsOf row) → Took row k answer row
   unchanged s answer both =
       let all = sound-row-exactly row .0 s in
       record { says = sym (both .0); left = sym (ap (laid row) (both .1) ∙ laid-self row (all .0) (all .1)) }
 
-  is-full : soundRow row ≡ true → takes (gapsOf row) k ≡ true → most < length (runsAfter (gapsOf row) k) → Took row k Taken.Full row
+  is-full : soundGapRow row ≡ true → takes (gapsOf row) k ≡ true → most < length (runsAfter (gapsOf row) k) → Took row k Taken.Full row
   is-full s t f = unchanged s Taken.Full (took-full (gapsOf row) k t (lt-ltb most (length (runsAfter (gapsOf row) k)) f))
 
   -- ---- a number that isn't above highest
 
-  pub old-took : soundRow row ≡ true → k ≤ gapsOf row .highest → missing (runsOf row) k ≡ false → Took row k Taken.Old row
+  pub old-took : soundGapRow row ≡ true → k ≤ gapsOf row .highest → missing (runsOf row) k ≡ false → Took row k Taken.Old row
   old-took s h m = unchanged s Taken.Old (took-old (gapsOf row) k (simp (le-ltb (gapsOf row .highest) k h) m))
 
-  pub is-missed : (i : ℕ) → soundRow row ≡ true → Placed (runsOf row) k (At i) → Missed row i k
+  pub is-missed : (i : ℕ) → soundGapRow row ≡ true → Placed (runsOf row) k (At i) → Missed row i k
   is-missed i s p =
       let all = sound-row-exactly row .0 s in
       let r = at-run i (sound-apart (all .2)) (p .0) in
@@ -106,7 +106,7 @@ module _ (row : List ℕ) (k : ℕ) where
       ∙ ap (laid row) (sym (after-above (gapsOf row) k h ∙ (λ i. record { start = gapsOf row .start; highest = k; runs = e i }))))
 
   -- the next
-  pub next-took : soundRow row ≡ true → gapsOf row .highest < k → k ≤ gapsOf row .highest + 1 → Took row k Taken.Taken (set row 1 k)
+  pub next-took : soundGapRow row ≡ true → gapsOf row .highest < k → k ≤ gapsOf row .highest + 1 → Took row k Taken.Taken (set row 1 k)
   next-took s h l =
       let all = sound-row-exactly row .0 s in
       let p = sound-apart (all .2) in

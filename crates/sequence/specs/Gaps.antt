@@ -2,7 +2,7 @@
 use Prim.Native.Nat.{ℕ, _+_, _-_, _*_, max}
 use mathlib.Core.Bool.{Bool, cond, _||_}
 use mathlib.Core.List.{List, [], _∷_}
-use lib.Dec.{leb, ltb}
+use lib.Dec.{ltb}
 use lib.ListN.{length}
 use Rattle.sequence.specs.Runs.{Run, missing, span, join, without}
 
@@ -37,10 +37,6 @@ after g k = record { start = g .start; highest = max (g .highest) k; runs = runs
 abbrev pub full : Gaps → ℕ → Bool
 full g k = ltb most (length (runsAfter g k))
 
--- 01 "Sequence and gaps": the gaps when a number has come: one that is old, or refused, leaves them as they are
-unfoldable pub took : Gaps → ℕ → Gaps
-took g k = cond (takes g k) (cond (full g k) g (after g k)) g
-
 -- a word of our own: the same start and highest with other runs
 abbrev pub withRuns : Gaps → List Run → Gaps
 withRuns g rs = record { start = g .start; highest = g .highest; runs = rs }
@@ -54,53 +50,6 @@ withoutLowest (r ∷ rs) = rs
 abbrev pub wroteOff : Gaps → Gaps
 wroteOff g = withRuns g (withoutLowest (g .runs))
 
--- An answer as numbers: 0 and the values of an accepted call, or a refusal's number and values.
-
--- 01 "What may be asked": one message taken, none old
-abbrev pub oneTaken : List ℕ
-oneTaken = 0 ∷ 1 ∷ 0 ∷ []
-
--- 01 "What may be asked": none taken, one old
-abbrev pub oneOld : List ℕ
-oneOld = 0 ∷ 0 ∷ 1 ∷ []
-
--- 01, the table's row 14
-abbrev pub refusedGaps : List ℕ
-refusedGaps = 14 ∷ []
-
--- 01 "Sequence and gaps": a number that is taken, unless too many runs would stand; all others are old
-unfoldable pub takeAnswer : Gaps → ℕ → List ℕ
-takeAnswer g k = cond (takes g k) (cond (full g k) refusedGaps oneTaken) oneOld
-
--- 01 "What may be asked": "a write-off answers the run it removed"
-abbrev pub writtenOff : ℕ → ℕ → List ℕ
-writtenOff first last = 0 ∷ first ∷ last ∷ []
-
--- 01, the table's row 17
-abbrev pub refusedNoGap : List ℕ
-refusedNoGap = 17 ∷ []
-
--- 01 "Sequence and gaps": a write-off removes the lowest run; 17 where there is none
-abbrev pub lowest : List Run → List ℕ
-lowest [] = refusedNoGap
-lowest (r ∷ rs) = writtenOff (r .first) (r .last)
-
--- 01 "What may be asked": the answer of a write-off
-unfoldable pub writeOffAnswer : Gaps → List ℕ
-writeOffAnswer g = lowest (g .runs)
-
--- 01 "What may be asked": "List gaps answers highest and the number of runs"
-abbrev pub listed : ℕ → ℕ → List ℕ
-listed highest count = 0 ∷ highest ∷ count ∷ []
-
--- 01, the table's row 15, with the cells wanted
-abbrev pub refusedMemory : ℕ → List ℕ
-refusedMemory wanted = 15 ∷ wanted ∷ []
-
 -- 01 "What may be asked": two cells a run answered
 abbrev pub wanted : List Run → ℕ
 wanted rs = 2 * length rs
-
--- 01 "What may be asked": lent cells are too few exactly when under the number wanted
-unfoldable pub listAnswer : Gaps → ℕ → List ℕ
-listAnswer g lent = cond (leb (wanted (g .runs)) lent) (listed (g .highest) (length (g .runs))) (refusedMemory (wanted (g .runs)))

@@ -13,12 +13,13 @@ use lib.ListN.{length, getD}
 use Rattle.laws.specs.Tests.{and-false, or-false, same-test}
 use Rattle.laws.specs.Choice.{either}
 use Rattle.laws.specs.Order.{order, same}
-use Rattle.sequence.specs.Runs.{Run, _to_, names, missing, runsIn, span, join}
+use Rattle.sequence.specs.Runs.{Run, _to_, run, names, missing, runsIn, span, join}
 use Rattle.sequence.specs.Apart.{Apart, none, next}
 use Rattle.sequence.specs.RunsLaws.{apart-from, apart-up, none-below, none-above, without-apart, without-itself, without-others, join-none, join-apart, missing-join, names-in, named, same-runs}
 use Rattle.sequence.specs.RunsCountLaws.{runs-counted}
-use Rattle.sequence.specs.Gaps.{Gaps, most, begun, takes, runsAfter, after, full, took, withoutLowest, wroteOff, oneTaken, oneOld, refusedGaps, takeAnswer, writtenOff, refusedNoGap, lowest, writeOffAnswer}
-use Rattle.sequence.specs.Sound.{Sound}
+use Rattle.sequence.specs.Gaps.{Gaps, most, begun, takes, runsAfter, after, full, withoutLowest, wroteOff}
+use Rattle.sequence.specs.Answers.{writeOffAnswer, lowest, refusedNoGap, writtenOff, takeAnswer, refusedGaps, oneOld, oneTaken, took}
+use Rattle.sequence.specs.Sound.{SoundGaps}
 use Rattle.sequence.specs.SoundLaws.{sound-apart, apart-sound}
 
 -- ---- the runs when a number is taken
@@ -49,7 +50,7 @@ missing-hole {from} {highest} k j m h p =
     ))
     (order k (highest + 1))
 
-module _ (g : Gaps) (s : Sound g) (k : ℕ) where
+module _ (g : Gaps) (s : SoundGaps g) (k : ℕ) where
   runs-apart : Apart (max (g .highest) k) (g .start) (runsAfter g k)
   runs-apart =
       let p = sound-apart s in
@@ -84,12 +85,12 @@ module _ (g : Gaps) (s : Sound g) (k : ℕ) where
       ∙ ap (λ (held : ℕ → Bool). runsIn held (suc (max (g .highest) k))) (fun-ext after-missing)
 
   -- gaps stay sound
-  pub after-sound : full g k ≡ false → Sound (after g k)
+  pub after-sound : full g k ≡ false → SoundGaps (after g k)
   after-sound e =
       let r = s .reached in
       apart-sound (after g k) (s .started) (omega arith) (ltb-false most (length (runsAfter g k)) e) runs-apart
 
-  pub took-sound : Sound (took g k)
+  pub took-sound : SoundGaps (took g k)
   unfolding took
   took-sound =
       ⊎-elim (λ (t : takes g k ≡ true).
@@ -97,7 +98,7 @@ module _ (g : Gaps) (s : Sound g) (k : ℕ) where
       (λ (t : takes g k ≡ false). simp t s)
       (either (takes g k))
 
-pub begun-sound : (n : ℕ) → 0 < n → Sound (begun n)
+pub begun-sound : (n : ℕ) → 0 < n → SoundGaps (begun n)
 begun-sound n h = apart-sound (begun n) h (le-refl _) (omega arith) none
 
 -- ---- the lowest run written off
@@ -119,14 +120,14 @@ lowest-fewer : (rs : List Run) → length (withoutLowest rs) ≤ length rs
 lowest-fewer [] = omega arith
 lowest-fewer (r ∷ rs) = omega arith
 
-pub wroteOff-sound : {g : Gaps} → Sound g → Sound (wroteOff g)
+pub wroteOff-sound : {g : Gaps} → SoundGaps g → SoundGaps (wroteOff g)
 wroteOff-sound {g} s =
     let l = lowest-fewer (g .runs) in
     let f = s .few in
     apart-sound (wroteOff g) (s .started) (s .reached) (omega arith) (lowest-apart (sound-apart s))
 
 -- 17 is given where nothing is missing
-pub no-gap-exactly : {g : Gaps} → Sound g → (writeOffAnswer g ≡ refusedNoGap) ↔ ((k : ℕ) → missing (g .runs) k ≡ false)
+pub no-gap-exactly : {g : Gaps} → SoundGaps g → (writeOffAnswer g ≡ refusedNoGap) ↔ ((k : ℕ) → missing (g .runs) k ≡ false)
 unfolding writeOffAnswer
 no-gap-exactly {g} s = (none-missing (g .runs), none-there (g .runs) (sound-apart s))
   where
@@ -145,7 +146,7 @@ lowest-is (r ∷ rs) a b e =
     let last : r .last ≡ b = cc in
     λ i. first i to last i ∷ rs
 
-module _ (g : Gaps) (s : Sound g) (a b : ℕ) (e : writeOffAnswer g ≡ writtenOff a b) where
+module _ (g : Gaps) (s : SoundGaps g) (a b : ℕ) (e : writeOffAnswer g ≡ writtenOff a b) where
   has-lowest : g .runs ≡ a to b ∷ withoutLowest (g .runs)
   unfolding writeOffAnswer
   has-lowest = lowest-is (g .runs) a b e
@@ -206,17 +207,48 @@ module _ (g : Gaps) (k : ℕ) where
   pub full-exactly : (takeAnswer g k ≡ refusedGaps) ↔ ((takes g k ≡ true) × (full g k ≡ true))
   full-exactly = ((λ e. let t = rw e at told-takes in (t, rw e at (told-full t))), λ w. took-full (w .0) (w .1) .0)
 
+-- ---- no number leaves its 32 bits
+
+-- every number of gaps is one of 32 bits
+pub record Small (g : Gaps) : Type 0 where
+  pub start : g .start < 2 ^ 32
+  pub highest : g .highest < 2 ^ 32
+  pub runs : (i : ℕ) → i < length (g .runs) → (run (g .runs) i .first < 2 ^ 32) × (run (g .runs) i .last < 2 ^ 32)
+
+sound-small : {g : Gaps} → SoundGaps g → g .start < 2 ^ 32 → g .highest < 2 ^ 32 → Small g
+sound-small s start highest =
+    record {
+      start = start;
+      highest = highest;
+      runs = λ i h. (omega (arith, s .proper i h, s .inside i h .1), omega (arith, s .inside i h .1));
+    }
+
+pub begun-small : (n : ℕ) → 0 < n → n < 2 ^ 32 → Small (begun n)
+begun-small n some small = sound-small (begun-sound n some) small (omega arith)
+
+pub took-small : (g : Gaps) → SoundGaps g → Small g → (k : ℕ) → k < 2 ^ 32 → Small (took g k)
+unfolding took
+took-small g s small k few = sound-small (took-sound g s k) (go (takes g k) (full g k) .0) (go (takes g k) (full g k) .1)
+  where
+    go : (t f : Bool) → let g′ = cond t (cond f g (after g k)) g in (g′ .start < 2 ^ 32) × (g′ .highest < 2 ^ 32)
+    go true true = (small .start, small .highest)
+    go true false = (small .start, omega (arith, small .highest))
+    go false f = (small .start, small .highest)
+
+pub wroteOff-small : {g : Gaps} → SoundGaps g → Small g → Small (wroteOff g)
+wroteOff-small s small = sound-small (wroteOff-sound s) (small .start) (small .highest)
+
 -- "Numbers don't wrap: after 4,294,967,295 only missing ones are taken"
 pub no-wrap : (g : Gaps) (k : ℕ) → g .highest ≡ 4294967295 → k < 2 ^ 32 → takes g k ≡ missing (g .runs) k
 no-wrap g k h l = simp (le-ltb (g .highest) k (omega arith))
 
 -- a number missing stands inside
-pub missing-inside : {g : Gaps} (k : ℕ) → Sound g → missing (g .runs) k ≡ true → (g .start ≤ k) × (k ≤ g .highest)
+pub missing-inside : {g : Gaps} (k : ℕ) → SoundGaps g → missing (g .runs) k ≡ true → (g .start ≤ k) × (k ≤ g .highest)
 missing-inside {g} k s m = (
   ⊎-elim (λ (o : g .start ≤ k). o) (λ (o : k < g .start). absurd (true≢false (sym m ∙ none-below k (sound-apart s) o))) (order (g .start) k),
   ⊎-elim (λ (o : k ≤ g .highest). o) (λ (o : g .highest < k). absurd (true≢false (sym m ∙ none-above k (sound-apart s) o))) (order k (g .highest)),
 )
 
 -- the numbers missing make the runs what they are, and so their number
-pub same-gaps : {g h : Gaps} → Sound g → Sound h → ((k : ℕ) → missing (g .runs) k ≡ missing (h .runs) k) → g .runs ≡ h .runs
+pub same-gaps : {g h : Gaps} → SoundGaps g → SoundGaps h → ((k : ℕ) → missing (g .runs) k ≡ missing (h .runs) k) → g .runs ≡ h .runs
 same-gaps {g} {h} s t e = same-runs (g .runs) (h .runs) (sound-apart s) (sound-apart t) e

@@ -1,14 +1,15 @@
--- What each call promises: its answer, and every number lent to it, afterwards.
+-- Words of inner contracts only: what each function of this crate promises its callers: its answer, and every number lent to it,
+-- afterwards.
 use Prim.Native.Nat.{ℕ}
 use mathlib.Core.Path.{_≡_}
 use mathlib.Core.List.{List}
 use lib.ListN.{length, replicate}
-use Rattle.sequence.specs.Gaps.{begun, took, takeAnswer, wroteOff, writeOffAnswer, listAnswer}
-use Rattle.sequence.specs.Row.{cells, gapsOf, laid, filled}
-use Rattle.sequence.specs.Answers.{takenNumbers, writeOffNumbers, listedNumbers}
+use Rattle.sequence.specs.Gaps.{begun, wroteOff}
+use Rattle.sequence.specs.Answers.{listAnswer, writeOffAnswer, takeAnswer, took, takenNumbers, writeOffNumbers, listedNumbers, runsListed}
+use Rattle.sequence.specs.Row.{cells, gapsOf, laid}
 use Rattle.sequence.specs.declared.Taken.{Taken}
 use Rattle.sequence.specs.declared.WriteOff.{WriteOff}
-use Rattle.sequence.specs.declared.Listed.{Listed}
+use Rattle.sequence.specs.declared.GapsListed.{GapsListed}
 
 -- 01 "Sequence and gaps": a segment's start, in a row that is cleared
 pub record Began (number : ℕ) (row′ : List ℕ) : Type 0 where
@@ -25,6 +26,6 @@ pub record WroteOff (row : List ℕ) (answer : WriteOff) (row′ : List ℕ) : T
   pub left : row′ ≡ laid row (wroteOff (gapsOf row))
 
 -- 01 "What may be asked": the gaps are listed in lent cells
-pub record ListedGaps (row lent : List ℕ) (answer : Listed) (lent′ : List ℕ) : Type 0 where
+pub record ListedGaps (row lent : List ℕ) (answer : GapsListed) (lent′ : List ℕ) : Type 0 where
   pub says : listedNumbers answer ≡ listAnswer (gapsOf row) (length lent)
-  pub left : lent′ ≡ filled lent (gapsOf row)
+  pub left : lent′ ≡ runsListed lent (gapsOf row)

@@ -1,11 +1,11 @@
 -- A segment's gap row: 132 numbers, which are start, highest, number of runs, 0, then 64 runs of first and last.
 use Prim.Native.Nat.{ℕ, _+_, _*_}
-use mathlib.Core.Bool.{Bool, cond, _&&_}
+use mathlib.Core.Bool.{Bool, _&&_}
 use mathlib.Core.List.{List, [], _∷_, _++_}
 use lib.Dec.{leb, eqb}
 use lib.ListN.{length, getD, take, drop}
 use Rattle.sequence.specs.Runs.{Run, _to_}
-use Rattle.sequence.specs.Gaps.{Gaps, most, wanted}
+use Rattle.sequence.specs.Gaps.{Gaps, most}
 use Rattle.sequence.specs.Sound.{soundGaps}
 
 -- lent memory: the numbers of a gap row
@@ -48,11 +48,6 @@ unfoldable pub laid : List ℕ → Gaps → List ℕ
 laid row g =
     g .start ∷ g .highest ∷ length (g .runs) ∷ getD row 3 0 ∷ (flat (g .runs) ++ drop (cell (length (g .runs))) row)
 
--- 01 "What may be asked": "puts the runs in lent cells": they are written from the first cell on where there is room, and no
--- others
-unfoldable pub filled : List ℕ → Gaps → List ℕ
-filled lent g = cond (leb (wanted (g .runs)) (length lent)) (flat (g .runs) ++ drop (wanted (g .runs)) lent) lent
-
 -- 01, the table's row 18: a row of 132 numbers with at most 64 runs whose gaps are sound
-unfoldable pub soundRow : List ℕ → Bool
-soundRow row = eqb (length row) cells && leb (count row) most && soundGaps (gapsOf row)
+unfoldable pub soundGapRow : List ℕ → Bool
+soundGapRow row = eqb (length row) cells && leb (count row) most && soundGaps (gapsOf row)

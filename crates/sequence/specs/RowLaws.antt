@@ -12,9 +12,9 @@ use lib.Seq.{drop-drop, take-append-seam}
 use Rattle.laws.specs.Tests.{all-three}
 use Rattle.sequence.specs.Runs.{Run}
 use Rattle.sequence.specs.Gaps.{Gaps, most, wanted}
-use Rattle.sequence.specs.Sound.{Sound}
+use Rattle.sequence.specs.Sound.{SoundGaps}
 use Rattle.sequence.specs.SoundLaws.{sound-exactly}
-use Rattle.sequence.specs.Row.{cells, head, cell, pairs, flat, count, gapsOf, laid, soundRow}
+use Rattle.sequence.specs.Row.{cells, head, cell, pairs, flat, count, gapsOf, laid, soundGapRow}
 
 -- ---- runs as numbers
 
@@ -93,8 +93,8 @@ laid-gaps row g =
 
 -- ---- sound rows
 
-pub sound-row-exactly : (row : List ℕ) → (soundRow row ≡ true) ↔ ((length row ≡ cells) × (count row ≤ most) × Sound (gapsOf row))
-unfolding soundRow
+pub sound-row-exactly : (row : List ℕ) → (soundGapRow row ≡ true) ↔ ((length row ≡ cells) × (count row ≤ most) × SoundGaps (gapsOf row))
+unfolding soundGapRow
 sound-row-exactly row = (
   (λ e.
       let all = all-three (eqb (length row) cells) _ _ e in
@@ -106,6 +106,6 @@ laid-count : (row : List ℕ) (g : Gaps) → count (laid row g) ≡ length (g .r
 unfolding laid
 laid-count row g = refl
 
-pub laid-sound : (row : List ℕ) (g : Gaps) → length row ≡ cells → Sound g → soundRow (laid row g) ≡ true
+pub laid-sound : (row : List ℕ) (g : Gaps) → length row ≡ cells → SoundGaps g → soundGapRow (laid row g) ≡ true
 laid-sound row g e s =
     sound-row-exactly (laid row g) .1 (laid-length row g e (s .few), rw (laid-count row g) (s .few), rw (laid-gaps row g) s)

@@ -9,7 +9,7 @@ use Rattle.sequence.specs.Gaps.{Gaps, most}
 
 -- 01, the table's row 18, given where one of these fails: start not 0, highest not under start - 1, not over 64 runs, no run's
 -- first above its last, runs ascending and not touching, and inside start to highest
-pub record Sound (g : Gaps) : Type 0 where
+pub record SoundGaps (g : Gaps) : Type 0 where
   pub started : 0 < g .start
   pub reached : g .start - 1 ≤ g .highest
   pub few : length (g .runs) ≤ most

@@ -15,7 +15,7 @@ use Rattle.laws.specs.Tests.{and-false, all-four}
 use Rattle.sequence.specs.Runs.{Run, _to_, run}
 use Rattle.sequence.specs.Apart.{Apart, none, next}
 use Rattle.sequence.specs.Gaps.{Gaps, most}
-use Rattle.sequence.specs.Sound.{Sound, soundRuns, soundGaps}
+use Rattle.sequence.specs.Sound.{SoundGaps, soundRuns, soundGaps}
 
 -- ---- runs that stand apart, one by one
 
@@ -55,10 +55,10 @@ apart-of from highest (r ∷ rs) proper ascending inside =
     (λ i h. ascending (suc i) (suc-le-suc h))
     (λ i h. (ahead r rs proper ascending i h, inside (suc i) (suc-le-suc h) .1)))
 
-pub sound-apart : {g : Gaps} → Sound g → Apart (g .highest) (g .start) (g .runs)
+pub sound-apart : {g : Gaps} → SoundGaps g → Apart (g .highest) (g .start) (g .runs)
 sound-apart {g} s = apart-of (g .start) (g .highest) (g .runs) (s .proper) (s .ascending) (s .inside)
 
-pub apart-sound : (g : Gaps) → 0 < g .start → g .start - 1 ≤ g .highest → length (g .runs) ≤ most → Apart (g .highest) (g .start) (g .runs) → Sound g
+pub apart-sound : (g : Gaps) → 0 < g .start → g .start - 1 ≤ g .highest → length (g .runs) ≤ most → Apart (g .highest) (g .start) (g .runs) → SoundGaps g
 apart-sound g started reached few p =
     record {
       started = started;
@@ -81,18 +81,18 @@ apart-runs : {highest from : ℕ} {rs : List Run} → Apart highest from rs → 
 apart-runs none = refl
 apart-runs {highest} {from} (next r f l u p) = simp (le-leb from (r .first) f, le-leb (r .first) (r .last) l, le-leb (r .last) highest u) (apart-runs p)
 
-test-sound : (g : Gaps) → soundGaps g ≡ true → Sound g
+test-sound : (g : Gaps) → soundGaps g ≡ true → SoundGaps g
 test-sound g e =
     let all = all-four (ltb 0 (g .start)) _ _ _ e in
     apart-sound g (ltb-true _ _ (all .0)) (leb-true _ _ (all .1)) (leb-true _ _ (all .2)) (runs-apart (g .start) (g .runs) (g .highest) (all .3))
 
-sound-test : (g : Gaps) → Sound g → soundGaps g ≡ true
+sound-test : (g : Gaps) → SoundGaps g → soundGaps g ≡ true
 sound-test g s =
     simp (lt-ltb 0 (g .start) (s .started), le-leb (g .start - 1) (g .highest) (s .reached), le-leb (length (g .runs)) most (s .few))
     (apart-runs (sound-apart s))
 
 -- 18, exactly when
-pub sound-exactly : (g : Gaps) → (soundGaps g ≡ true) ↔ Sound g
+pub sound-exactly : (g : Gaps) → (soundGaps g ≡ true) ↔ SoundGaps g
 sound-exactly g = (test-sound g, sound-test g)
 
 -- ---- the test, run by run

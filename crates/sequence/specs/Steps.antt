@@ -1,4 +1,4 @@
--- What the code does on its way, in terms of runs.
+-- Words of inner contracts only: what the code does on its way, in terms of runs.
 use Prim.Native.Nat.{ℕ, suc, _<_, _≤_}
 use mathlib.Core.Path.{_≡_}
 use mathlib.Core.Bool.{true, false}
@@ -7,7 +7,7 @@ use lib.ListN.{length, take, drop}
 use lib.Seq.{paste}
 use Rattle.sequence.specs.Runs.{Run, _to_, run, names, missing}
 use Rattle.sequence.specs.Gaps.{most, withRuns}
-use Rattle.sequence.specs.Row.{cells, count, gapsOf, runsOf, laid, soundRow}
+use Rattle.sequence.specs.Row.{cells, count, gapsOf, runsOf, laid, soundGapRow}
 use Rattle.sequence.specs.declared.late.Place.{Place}
 use Rattle.sequence.specs.declared.late.Place.the-variants.{At, Nowhere}
 
@@ -40,7 +40,7 @@ Placed rs k Nowhere = missing rs k ≡ false
 
 -- a word of our own: a sound row, a run of which names the number
 pub record Missed (row : List ℕ) (i number : ℕ) : Type 0 where
-  pub sound : soundRow row ≡ true
+  pub sound : soundGapRow row ≡ true
   pub place : Stands row i
   pub above : run (runsOf row) i .first ≤ number
   pub below : number ≤ run (runsOf row) i .last
@@ -50,5 +50,5 @@ pub record Missed (row : List ℕ) (i number : ℕ) : Type 0 where
 
 -- a word of our own: a sound row, and numbers between highest and the number
 pub record Skipped (row : List ℕ) (number : ℕ) : Type 0 where
-  pub sound : soundRow row ≡ true
+  pub sound : soundGapRow row ≡ true
   pub between : suc (gapsOf row .highest) < number

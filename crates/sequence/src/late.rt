@@ -6,7 +6,7 @@ use crate::runs;
 ghost use mathlib.Core.Path.{_≡_};
 ghost use mathlib.Core.Bool.{true};
 ghost use Prim.Native.Nat.{_≤_};
-ghost use Rattle.sequence.specs.Row.{gapsOf, runsOf, soundRow};
+ghost use Rattle.sequence.specs.Row.{gapsOf, runsOf, soundGapRow};
 ghost use Rattle.sequence.specs.Steps.{Placed, Missed};
 ghost use Rattle.sequence.specs.Promises.{Took};
 
@@ -19,7 +19,7 @@ pub(crate) enum Place {
 // The search goes from the highest run down, since a late number is seldom very late: the first run that doesn't begin
 // above the number names it, or none does.
 pub(crate) fn find(row: &[u32; CELLS], number: u32) -> Place
-    requires { ⌜ soundRow (now row) ≡ true ⌝ }
+    requires { ⌜ soundGapRow (now row) ≡ true ⌝ }
     ensures { λ r. ⌜ Placed (runsOf (now (row .entry))) number r ⌝ }
 {
     let mut i = runs::number(row);
@@ -62,7 +62,7 @@ fn fill(row: &mut [u32; CELLS], i: usize, number: u32) -> Taken
 }
 
 pub(crate) fn late(row: &mut [u32; CELLS], number: u32) -> Taken
-    requires { ⌜ (soundRow (now row) ≡ true) × (number ≤ gapsOf (now row) .highest) ⌝ }
+    requires { ⌜ (soundGapRow (now row) ≡ true) × (number ≤ gapsOf (now row) .highest) ⌝ }
     ensures { λ r. ⌜ Took (now (row .entry)) number r (now (row .exit)) ⌝ }
 {
     match find(row, number) {

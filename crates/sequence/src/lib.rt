@@ -10,7 +10,7 @@ ghost use Prim.Native.Nat.{_+_, _*_, _≤_};
 ghost use lib.ListN.{length, take, drop};
 ghost use Rattle.sequence.specs.Gaps.{most};
 ghost use Rattle.sequence.specs.Sound.{soundRuns};
-ghost use Rattle.sequence.specs.Row.{cells, head, gapsOf, runsOf, soundRow};
+ghost use Rattle.sequence.specs.Row.{cells, head, gapsOf, runsOf, soundGapRow};
 ghost use Rattle.sequence.specs.Promises.{Began, Took, WroteOff, ListedGaps};
 
 // The numbers of a row, and how many runs it has room for.
@@ -42,7 +42,7 @@ pub enum WriteOff {
 }
 
 // What listing answers: highest and the number of runs, or 15 with the cells wanted.
-pub enum Listed {
+pub enum GapsListed {
     Runs(u32, usize),
     Short(usize),
 }
@@ -76,7 +76,7 @@ fn sound_runs(row: &[u32]) -> bool
 
 // The test behind 18, for one row.
 pub fn sound(row: &[u32]) -> bool
-    ensures { λ r. ⌜ r ≡ soundRow (now (row .entry)) ⌝ }
+    ensures { λ r. ⌜ r ≡ soundGapRow (now (row .entry)) ⌝ }
 {
     if row.len() != CELLS {
         return false;
@@ -108,7 +108,7 @@ pub fn start(row: &mut [u32; CELLS], number: u32)
 // A number comes. The row has to be sound: to look would cost the number that comes in order, which is nearly every one,
 // more than all else does.
 pub fn take(row: &mut [u32; CELLS], number: u32) -> Taken
-    requires { ⌜ soundRow (now row) ≡ true ⌝ }
+    requires { ⌜ soundGapRow (now row) ≡ true ⌝ }
     ensures { λ r. ⌜ Took (now (row .entry)) number r (now (row .exit)) ⌝ }
 {
     let highest = row[HIGHEST];
@@ -148,14 +148,14 @@ fn copy(row: &[u32; CELLS], lent: &mut [u32], wanted: usize)
 }
 
 // The runs are put in lent cells, two a run, where there are so many.
-pub fn list(row: &[u32; CELLS], lent: &mut [u32]) -> Listed
+pub fn list(row: &[u32; CELLS], lent: &mut [u32]) -> GapsListed
     ensures { λ r. ⌜ ListedGaps (now (row .entry)) (now (lent .entry)) r (now (lent .exit)) ⌝ }
 {
     let n = runs::number(row);
     let wanted = 2 * n;
     if lent.len() < wanted {
-        return Listed::Short(wanted);
+        return GapsListed::Short(wanted);
     }
     copy(row, lent, wanted);
-    Listed::Runs(row[HIGHEST], n)
+    GapsListed::Runs(row[HIGHEST], n)
 }

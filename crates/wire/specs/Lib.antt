@@ -1,3 +1,5 @@
+pub mod Bytes
+pub mod BytesLaws
 pub mod Checksum
 pub mod ChecksumLaws
 pub mod Number

@@ -1,5 +1,5 @@
 ghost use mathlib.Core.Path.{_≡_};
-ghost use Prim.Native.Nat.{_+_};
+ghost use Prim.Native.Nat.{_+_, min};
 ghost use lib.Seq.{sets};
 ghost use Rattle.wire.specs.Number.{numberAt, bytesOf};
 
@@ -65,4 +65,11 @@ pub fn put_u32(s: &mut [u8], at: usize, number: u32)
         put_u16(s, at, (number / 65536) as u16);
         put_u16(s, at + 2, (number % 65536) as u16);
     }
+}
+
+// The lesser of two places.
+pub fn least(a: usize, b: usize) -> usize
+    ensures { λ r. ⌜ r ≡ min a b ⌝ }
+{
+    if a < b { a } else { b }
 }

@@ -19,27 +19,6 @@ abbrev μ-loop : tie.MeasureT-loop
 loop-holds : tie.Need-loop-holds Inv-loop μ-loop
 loop-holds c = (omega arith, refl, refl)
 
-add-lent : tie.Need-add-lent Inv-loop μ-loop
-add-lent c = omega arith
-
-mul-lent : tie.Need-mul-lent Inv-loop μ-loop
-mul-lent c = omega arith
-
-element-copy-out-lent : tie.Need-element-copy-out-lent Inv-loop μ-loop
-element-copy-out-lent c = omega arith
-
-mul-lent-2 : tie.Need-mul-lent-2 Inv-loop μ-loop
-mul-lent-2 c = omega arith
-
-slice-write-lent : tie.Need-slice-write-lent Inv-loop μ-loop
-slice-write-lent c = omega arith
-
-add-j : tie.Need-add-j Inv-loop μ-loop
-add-j c = omega arith
-
-loop-less : tie.Need-loop-less Inv-loop μ-loop
-loop-less c = omega arith
-
 loop-again : tie.Need-loop-again Inv-loop μ-loop
 loop-again c =
     let l = c .before .before .loop in
@@ -63,18 +42,4 @@ returns c =
 
 pub copy-spec : {M : Type 1} → statement M
 copy-spec =
-    tie.close
-    (tie.spec
-    Inv-loop
-    μ-loop
-    loop-holds
-    add-lent
-    mul-lent
-    element-copy-out-lent
-    mul-lent-2
-    slice-write-lent
-    add-j
-    loop-less
-    loop-again
-    same-length
-    returns)
+    tie.close (tie.spec Inv-loop μ-loop loop-holds (λ c. omega arith) (λ c. omega arith) (λ c. omega arith) (λ c. omega arith) (λ c. omega arith) (λ c. omega arith) (λ c. omega arith) loop-again same-length returns)

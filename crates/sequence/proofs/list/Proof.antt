@@ -6,25 +6,10 @@ use Rattle.sequence.proofs.Calls.{listed-short, listed-all}
 use Rattle.sequence.proofs.list.Statement.{statement}
 use Rattle.sequence.proofs.list.Tie as tie
 
-number-requires : tie.Need-number-requires
-number-requires c κs = search needs
-
-mul-wanted : tie.Need-mul-wanted
-mul-wanted c = search needs
-
 returns : tie.Need-returns
 returns c =
     let a = c .before .before .before .before .args in
     rw (c .before .number .ensures .0) (listed-short (a .row .now) (a .lent .now) (omega arith))
-
-copy-requires : tie.Need-copy-requires
-copy-requires c κs = search needs
-
-element-copy-out-t14 : tie.Need-element-copy-out-t14
-element-copy-out-t14 c = search needs
-
-same-length : tie.Need-same-length
-same-length c = search needs
 
 returns-2 : tie.Need-returns-2
 unfolding gapsOf
@@ -34,12 +19,4 @@ returns-2 c =
 
 pub list-spec : {M : Type 1} → statement M
 list-spec =
-    tie.close
-    (tie.spec
-    number-requires
-    mul-wanted
-    returns
-    copy-requires
-    element-copy-out-t14
-    same-length
-    returns-2)
+    tie.close (tie.spec (λ c κs. search needs) (λ c. search needs) returns (λ c κs. search needs) (λ c. search needs) (λ c. search needs) returns-2)

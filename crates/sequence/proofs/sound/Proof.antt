@@ -7,53 +7,38 @@ use borrow.Author.Tests.{eq-eqb, ne-eqb, le-leb, lt-leb, lt-ltb, le-ltb}
 use lib.ListN.{length, getD}
 use Rattle.laws.specs.Tests.{and-false}
 use Rattle.sequence.specs.Gaps.{most}
-use Rattle.sequence.specs.Row.{cells, gapsOf, runsOf, soundRow}
+use Rattle.sequence.specs.Row.{cells, gapsOf, runsOf, soundGapRow}
 use Rattle.sequence.proofs.Cells.{few-runs}
 use Rattle.sequence.proofs.sound.Statement.{statement}
 use Rattle.sequence.proofs.sound.Tie as tie
 
 returns : tie.Need-returns
-unfolding soundRow gapsOf
+unfolding soundGapRow gapsOf
 returns c = simp (ne-eqb (length (c .before .before .args .row .now)) cells (c .if1 .taken))
-
-shared-slice-read-if2 : tie.Need-shared-slice-read-if2
-shared-slice-read-if2 c = search needs
 
 cast-if2 : tie.Need-cast-if2
 cast-if2 c = omega (arith, c .shared-slice-known2 .given 2)
 
 returns-2 : tie.Need-returns-2
-unfolding soundRow gapsOf
+unfolding soundGapRow gapsOf
 returns-2 c =
     let row = c .before .before .before .before .args .row .now in
     simp (eq-eqb (length row) cells (omega arith), lt-leb (getD row 2 0) most (omega arith))
 
-shared-slice-read-start : tie.Need-shared-slice-read-start
-shared-slice-read-start c = search needs
-
 returns-3 : tie.Need-returns-3
-unfolding soundRow gapsOf
+unfolding soundGapRow gapsOf
 returns-3 c =
     let row = c .before .before .before .before .before .before .args .row .now in
     simp (eq-eqb (length row) cells (omega arith), le-leb (getD row 2 0) most (omega arith), le-ltb 0 (getD row 0 0) (omega arith))
 
-shared-slice-read-if4 : tie.Need-shared-slice-read-if4
-shared-slice-read-if4 c = search needs
-
-sub-if4 : tie.Need-sub-if4
-sub-if4 c = search needs
-
 returns-4 : tie.Need-returns-4
-unfolding soundRow gapsOf
+unfolding soundGapRow gapsOf
 returns-4 c =
     let row = c .before .before .before .before .before .before .before .before .args .row .now in
     simp (eq-eqb (length row) cells (omega arith), le-leb (getD row 2 0) most (omega arith), lt-leb (getD row 0 0 - 1) (getD row 1 0) (omega arith), and-false)
 
-sound-runs-requires : tie.Need-sound-runs-requires
-sound-runs-requires c κs = search needs
-
 returns-5 : tie.Need-returns-5
-unfolding soundRow gapsOf
+unfolding soundGapRow gapsOf
 returns-5 c =
     let row = c .before .before .before .before .before .before .before .before .before .args .row .now in
     let e : length row ≡ cells = omega arith in
@@ -68,16 +53,4 @@ returns-5 c =
 
 pub sound-spec : {M : Type 1} → statement M
 sound-spec =
-    tie.close
-    (tie.spec
-    returns
-    shared-slice-read-if2
-    cast-if2
-    returns-2
-    shared-slice-read-start
-    returns-3
-    shared-slice-read-if4
-    sub-if4
-    returns-4
-    sound-runs-requires
-    returns-5)
+    tie.close (tie.spec returns (λ c. search needs) cast-if2 returns-2 (λ c. search needs) returns-3 (λ c. search needs) (λ c. search needs) returns-4 (λ c κs. search needs) returns-5)

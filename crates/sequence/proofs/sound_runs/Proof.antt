@@ -18,14 +18,8 @@ Inv-loop row highest n from₀ i₀ from i = (i ≤ n) × (soundRuns (gapsOf row
 abbrev μ-loop : tie.MeasureT-loop
 μ-loop row highest n from₀ i₀ from i = n - i
 
-shared-slice-read-highest : tie.Need-shared-slice-read-highest Inv-loop μ-loop
-shared-slice-read-highest c = omega arith
-
 number-requires : tie.Need-number-requires Inv-loop μ-loop
 number-requires c κs = c .before .before .pre
-
-shared-slice-read-from : tie.Need-shared-slice-read-from Inv-loop μ-loop
-shared-slice-read-from c = omega arith
 
 cast-from : tie.Need-cast-from Inv-loop μ-loop
 cast-from c = omega (arith, c .shared-slice-known3 .given 0)
@@ -39,9 +33,6 @@ first-requires c κs = stands-at (c .before .before .before .before .before .bef
 
 last-requires : tie.Need-last-requires Inv-loop μ-loop
 last-requires c κs = stands-at (c .before .before .before .before .before .before .before .args .row .now) (c .before .before .before .before .before .before .before .pre) (c .before .before .loop .i) (omega arith)
-
-cast-if1 : tie.Need-cast-if1 Inv-loop μ-loop
-cast-if1 c = omega arith
 
 returns : tie.Need-returns Inv-loop μ-loop
 unfolding gapsOf
@@ -64,18 +55,6 @@ returns-3 c =
     let l = c .before .before .before .before .before .before .loop in
     sym (l .inv .1 ∙ sound-stop (l .from) (runsOf (a .row .now)) (getD (a .row .now) 1 0) (l .i) (omega arith) (inr (inr (omega arith))))
 
-cast-from-2 : tie.Need-cast-from-2 Inv-loop μ-loop
-cast-from-2 c = omega arith
-
-add-from : tie.Need-add-from Inv-loop μ-loop
-add-from c = omega arith
-
-add-i : tie.Need-add-i Inv-loop μ-loop
-add-i c = omega arith
-
-loop-less : tie.Need-loop-less Inv-loop μ-loop
-loop-less c = omega arith
-
 loop-again : tie.Need-loop-again Inv-loop μ-loop
 loop-again c =
     let a = c .before .before .before .before .before .before .before .before .before .before .before .args in
@@ -94,24 +73,4 @@ returns-4 c =
 
 pub sound-runs-spec : {M : Type 1} → statement M
 sound-runs-spec =
-    tie.close
-    (tie.spec
-    Inv-loop
-    μ-loop
-    shared-slice-read-highest
-    number-requires
-    shared-slice-read-from
-    cast-from
-    loop-holds
-    first-requires
-    last-requires
-    cast-if1
-    returns
-    returns-2
-    returns-3
-    cast-from-2
-    add-from
-    add-i
-    loop-less
-    loop-again
-    returns-4)
+    tie.close (tie.spec Inv-loop μ-loop (λ c. omega arith) number-requires (λ c. omega arith) cast-from loop-holds first-requires last-requires (λ c. omega arith) returns returns-2 returns-3 (λ c. omega arith) (λ c. omega arith) (λ c. omega arith) (λ c. omega arith) loop-again returns-4)

@@ -7,23 +7,11 @@ use Rattle.sequence.proofs.Calls.{no-gap, wrote-off}
 use Rattle.sequence.proofs.write_off.Statement.{statement}
 use Rattle.sequence.proofs.write_off.Tie as tie
 
-number-requires : tie.Need-number-requires
-number-requires c κs = search needs
-
 returns : tie.Need-returns
 returns c =
     let a = c .before .before .before .before .args in
     let e : length (a .row .now) ≡ 132 = search needs in
     no-gap (a .row .now) e (omega arith)
-
-first-requires : tie.Need-first-requires
-first-requires c κs = search needs
-
-last-requires : tie.Need-last-requires
-last-requires c κs = search needs
-
-remove-requires : tie.Need-remove-requires
-remove-requires c κs = search needs
 
 returns-2 : tie.Need-returns-2
 returns-2 c =
@@ -31,5 +19,4 @@ returns-2 c =
 
 pub write-off-spec : {M : Type 1} → statement M
 write-off-spec =
-    tie.close
-    (tie.spec number-requires returns first-requires last-requires remove-requires returns-2)
+    tie.close (tie.spec (λ c κs. search needs) returns (λ c κs. search needs) (λ c κs. search needs) (λ c κs. search needs) returns-2)

@@ -3,41 +3,8 @@ use borrow.Author.Needs.{needs}
 use Rattle.amount.proofs.read.answer.Statement.{statement}
 use Rattle.amount.proofs.read.answer.Tie as tie
 
-enum-told : tie.Need-enum-told
-enum-told c = search needs
-
-enum-known-state : tie.Need-enum-known-state
-enum-known-state c = search needs
-
-ranged-requires : tie.Need-ranged-requires
-ranged-requires c κs = search needs
-
-enum-told-2 : tie.Need-enum-told-2
-enum-told-2 c = search needs
-
-enum-known-state-2 : tie.Need-enum-known-state-2
-enum-known-state-2 c = search needs
-
-ranged-requires-2 : tie.Need-ranged-requires-2
-ranged-requires-2 c κs = search needs
-
-enum-known-state-3 : tie.Need-enum-known-state-3
-enum-known-state-3 c = search needs
-
-ranged-requires-3 : tie.Need-ranged-requires-3
-ranged-requires-3 c κs = search needs
-
-enum-told-3 : tie.Need-enum-told-3
-enum-told-3 c = search needs
-
-returns : tie.Need-returns
-returns c = search needs
-
 returns-2 : tie.Need-returns-2
 returns-2 c = rw (c .before .before .state .given .1) (c .ranged .ensures)
-
-returns-3 : tie.Need-returns-3
-returns-3 c = search needs
 
 returns-4 : tie.Need-returns-4
 returns-4 c = rw (c .before .before .state2 .given .1) (c .ranged2 .ensures)
@@ -45,25 +12,6 @@ returns-4 c = rw (c .before .before .state2 .given .1) (c .ranged2 .ensures)
 returns-5 : tie.Need-returns-5
 returns-5 c = rw (c .before .before .state3 .given .1) (c .ranged3 .ensures)
 
-returns-6 : tie.Need-returns-6
-returns-6 c = search needs
-
 pub answer-spec : {M : Type 1} → statement M
 answer-spec =
-    tie.close
-    (tie.spec
-    enum-told
-    enum-known-state
-    ranged-requires
-    enum-told-2
-    enum-known-state-2
-    ranged-requires-2
-    enum-known-state-3
-    ranged-requires-3
-    enum-told-3
-    returns
-    returns-2
-    returns-3
-    returns-4
-    returns-5
-    returns-6)
+    tie.close (tie.spec (λ c. search needs) (λ c. search needs) (λ c κs. search needs) (λ c. search needs) (λ c. search needs) (λ c κs. search needs) (λ c. search needs) (λ c κs. search needs) (λ c. search needs) (λ c. search needs) returns-2 (λ c. search needs) returns-4 returns-5 (λ c. search needs))

@@ -13,15 +13,18 @@ returns c = rw (lt-leb _ _ (c .if1 .taken))
 scaled-requires : tie.Need-scaled-requires
 scaled-requires c κs = search needs
 
-told : (c : tie.After-scaled) → inRange (c .before .before .args .max) (c .scaled .result)
-    ≡ ranged (c .before .before .args .places) (c .before .before .args .max) (c .before .before .args .amount) (c .before .before .args .digits)
-told c = rw (le-leb _ _ (c .before .if1 .left), c .scaled .ensures) (inRange-cap _ _ (c .before .before .pre))
+told : (c : tie.After-scaled) →
+    let start = c .before .before .before .before in
+    inRange (start .args .kind) (c .scaled .result) ≡ ranged (start .args .kind) (start .args .amount) (start .args .digits)
+told c =
+    let start = c .before .before .before .before in
+    rw (le-leb _ _ (c .before .before .if1 .left), c .scaled .ensures) (inRange-cap (start .args .kind) _ (start .pre))
 
 returns-2 : tie.Need-returns-2
-returns-2 c = rw (le-leb _ _ (c .if2 .taken)) at (told (c .before))
+returns-2 c = rw (le-leb _ _ (c .if2 .taken)) at (told (c .before .before))
 
 returns-3 : tie.Need-returns-3
-returns-3 c = rw (lt-leb _ _ (c .if2 .left)) at (told (c .before))
+returns-3 c = rw (lt-leb _ _ (c .if2 .left)) at (told (c .before .before))
 
 pub ranged-spec : {M : Type 1} → statement M
 ranged-spec = tie.close (tie.spec returns scaled-requires returns-2 returns-3)

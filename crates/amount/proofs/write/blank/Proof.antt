@@ -19,24 +19,12 @@ abbrev μ-loop : tie.MeasureT-loop
 loop-holds : tie.Need-loop-holds Inv-loop μ-loop
 loop-holds c = (omega arith, refl, refl)
 
-slice-write-field : tie.Need-slice-write-field Inv-loop μ-loop
-slice-write-field c = omega arith
-
-add-i : tie.Need-add-i Inv-loop μ-loop
-add-i c = omega arith
-
-loop-less : tie.Need-loop-less Inv-loop μ-loop
-loop-less c = omega arith
-
 loop-again : tie.Need-loop-again Inv-loop μ-loop
 loop-again c =
     let old = c .before .before .args .field .now in
     let stored : set (c .before .loop .field) (c .before .loop .i) space ≡ replicate (c .before .loop .i + 1) space ++ drop (c .before .loop .i + 1) old =
     rw (c .before .loop .inv .2) (fill-more (c .before .loop .i) space old (omega arith)) in
     (omega arith, simp length-set (omega arith), stored)
-
-same-length : tie.Need-same-length Inv-loop μ-loop
-same-length c = omega arith
 
 returns : tie.Need-returns Inv-loop μ-loop
 returns c =
@@ -46,5 +34,4 @@ returns c =
 
 pub blank-spec : {M : Type 1} → statement M
 blank-spec =
-    tie.close
-    (tie.spec Inv-loop μ-loop loop-holds slice-write-field add-i loop-less loop-again same-length returns)
+    tie.close (tie.spec Inv-loop μ-loop loop-holds (λ c. omega arith) (λ c. omega arith) (λ c. omega arith) loop-again (λ c. omega arith) returns)

@@ -52,20 +52,8 @@ module _ (field : List ℕ) (n behind front count : ℕ) (before-point : front �
         wrote-filled field (fitting (length field) (textOf behind n) (omega (arith, text-long)))
         (e ∙ rw (chars-length, append-assoc, spaces, left, ← text))
 
-whole-requires : tie.Need-whole-requires
-whole-requires c κs = search needs
-
-size-requires : tie.Need-size-requires
-size-requires c κs = search needs
-
 returns : tie.Need-returns
 returns c = no-room _ _ _ _ _ (c .before .before .whole .ensures) (c .before .size .ensures) (c .if1 .taken)
-
-put-whole-requires : tie.Need-put-whole-requires
-put-whole-requires c κs = search needs
-
-same-length : tie.Need-same-length
-same-length c = search needs
 
 returns-2 : tie.Need-returns-2
 returns-2 c =
@@ -78,35 +66,11 @@ returns-3 c =
     no-room-behind _ _ _ _ _ (c .before .before .before .before .whole .ensures) (c .before .before .before .size .ensures)
     (c .before .before .before .before .before .before .pre) (c .before .if2 .left) (c .if3 .taken)
 
-sub-point : tie.Need-sub-point
-sub-point c = search needs
-
-sub-point-2 : tie.Need-sub-point-2
-sub-point-2 c = search needs
-
-slice-relend-prefix-put-whole : tie.Need-slice-relend-prefix-put-whole
-slice-relend-prefix-put-whole c = search needs
-
 slice-aggregate-put-whole : tie.Need-slice-aggregate-put-whole
 slice-aggregate-put-whole c = sym (length-take-le _ (c .before .before .before .before .before .before .before .args .field .now) (omega arith))
 
 put-whole-requires-2 : tie.Need-put-whole-requires-2
 put-whole-requires-2 c κs = rw length-take (omega arith)
-
-sub-put-fraction : tie.Need-sub-put-fraction
-sub-put-fraction c = search needs
-
-part-put-fraction-start : tie.Need-part-put-fraction-start
-part-put-fraction-start c = search needs
-
-part-put-fraction-end : tie.Need-part-put-fraction-end
-part-put-fraction-end c = search needs
-
-put-fraction-requires : tie.Need-put-fraction-requires
-put-fraction-requires c κs = search needs
-
-same-length-2 : tie.Need-same-length-2
-same-length-2 c = search needs
 
 returns-4 : tie.Need-returns-4
 returns-4 c =
@@ -125,23 +89,4 @@ returns-4 c =
 
 pub lay-spec : {M : Type 1} → statement M
 lay-spec =
-    tie.close
-    (tie.spec
-    whole-requires
-    size-requires
-    returns
-    put-whole-requires
-    same-length
-    returns-2
-    returns-3
-    sub-point
-    sub-point-2
-    slice-relend-prefix-put-whole
-    slice-aggregate-put-whole
-    put-whole-requires-2
-    sub-put-fraction
-    part-put-fraction-start
-    part-put-fraction-end
-    put-fraction-requires
-    same-length-2
-    returns-4)
+    tie.close (tie.spec (λ c κs. search needs) (λ c κs. search needs) returns (λ c κs. search needs) (λ c. search needs) returns-2 returns-3 (λ c. search needs) (λ c. search needs) (λ c. search needs) slice-aggregate-put-whole put-whole-requires-2 (λ c. search needs) (λ c. search needs) (λ c. search needs) (λ c κs. search needs) (λ c. search needs) returns-4)

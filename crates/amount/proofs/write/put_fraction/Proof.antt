@@ -12,21 +12,6 @@ use Rattle.amount.proofs.Parts.{put-rest}
 use Rattle.amount.proofs.write.put_fraction.Statement.{statement}
 use Rattle.amount.proofs.write.put_fraction.Tie as tie
 
-slice-write-field : tie.Need-slice-write-field
-slice-write-field c = search needs
-
-sub-put-digits : tie.Need-sub-put-digits
-sub-put-digits c = search needs
-
-part-put-digits-start : tie.Need-part-put-digits-start
-part-put-digits-start c = search needs
-
-part-put-digits-end : tie.Need-part-put-digits-end
-part-put-digits-end c = search needs
-
-put-digits-requires : tie.Need-put-digits-requires
-put-digits-requires c κs = search needs
-
 same-length : tie.Need-same-length
 same-length c =
     let field = c .before .before .before .before .before .args .field .now in
@@ -46,12 +31,4 @@ returns c =
 
 pub put-fraction-spec : {M : Type 1} → statement M
 put-fraction-spec =
-    tie.close
-    (tie.spec
-    slice-write-field
-    sub-put-digits
-    part-put-digits-start
-    part-put-digits-end
-    put-digits-requires
-    same-length
-    returns)
+    tie.close (tie.spec (λ c. search needs) (λ c. search needs) (λ c. search needs) (λ c. search needs) (λ c κs. search needs) same-length returns)

@@ -12,32 +12,8 @@ use Rattle.amount.proofs.Parts.{put-both}
 use Rattle.amount.proofs.write.put_whole.Statement.{statement}
 use Rattle.amount.proofs.write.put_whole.Tie as tie
 
-sub-at : tie.Need-sub-at
-sub-at c = search needs
-
-slice-relend-prefix-blank : tie.Need-slice-relend-prefix-blank
-slice-relend-prefix-blank c = search needs
-
 slice-aggregate-blank : tie.Need-slice-aggregate-blank
 slice-aggregate-blank c = sym (length-take-le _ (c .before .before .args .field .now) (omega arith))
-
-blank-requires : tie.Need-blank-requires
-blank-requires c κs = search needs
-
-sub-put-digits : tie.Need-sub-put-digits
-sub-put-digits c = search needs
-
-part-put-digits-start : tie.Need-part-put-digits-start
-part-put-digits-start c = search needs
-
-part-put-digits-end : tie.Need-part-put-digits-end
-part-put-digits-end c = search needs
-
-put-digits-requires : tie.Need-put-digits-requires
-put-digits-requires c κs = search needs
-
-same-length : tie.Need-same-length
-same-length c = search needs
 
 returns : tie.Need-returns
 returns c =
@@ -52,15 +28,4 @@ returns c =
 
 pub put-whole-spec : {M : Type 1} → statement M
 put-whole-spec =
-    tie.close
-    (tie.spec
-    sub-at
-    slice-relend-prefix-blank
-    slice-aggregate-blank
-    blank-requires
-    sub-put-digits
-    part-put-digits-start
-    part-put-digits-end
-    put-digits-requires
-    same-length
-    returns)
+    tie.close (tie.spec (λ c. search needs) (λ c. search needs) slice-aggregate-blank (λ c κs. search needs) (λ c. search needs) (λ c. search needs) (λ c. search needs) (λ c κs. search needs) (λ c. search needs) returns)

@@ -14,15 +14,6 @@ Inv-loop n left₀ count₀ left count = (count + size left ≡ size n + 1) × (
 abbrev μ-loop : tie.MeasureT-loop
 μ-loop n left₀ count₀ left count = left
 
-loop-holds : tie.Need-loop-holds Inv-loop μ-loop
-loop-holds c = omega arith
-
-add-count : tie.Need-add-count Inv-loop μ-loop
-add-count c = omega arith
-
-loop-less : tie.Need-loop-less Inv-loop μ-loop
-loop-less c = omega arith
-
 loop-again : tie.Need-loop-again Inv-loop μ-loop
 loop-again c = omega (arith, size-more (c .before .loop .left) (c .loop-test .taken))
 
@@ -30,4 +21,5 @@ returns : tie.Need-returns Inv-loop μ-loop
 returns c = omega (arith, size-one (c .before .loop .left) (c .loop-test .left))
 
 pub size-spec : {M : Type 1} → statement M
-size-spec = tie.close (tie.spec Inv-loop μ-loop loop-holds add-count loop-less loop-again returns)
+size-spec =
+    tie.close (tie.spec Inv-loop μ-loop (λ c. omega arith) (λ c. omega arith) (λ c. omega arith) loop-again returns)

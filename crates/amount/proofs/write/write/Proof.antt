@@ -7,23 +7,15 @@ use Rattle.amount.proofs.write.write.Statement.{statement}
 use Rattle.amount.proofs.write.write.Tie as tie
 
 returns : tie.Need-returns
-returns c = wrote-refused _ (over _ _ _ _ (c .if1 .taken))
-
-stripped-requires : tie.Need-stripped-requires
-stripped-requires c κs = search needs
-
-lay-requires : tie.Need-lay-requires
-lay-requires c κs = search needs
-
-same-length : tie.Need-same-length
-same-length c = search needs
+returns c = wrote-refused _ (over _ _ _ (c .if1 .taken))
 
 returns-2 : tie.Need-returns-2
 returns-2 c =
-    let start = c .before .before .before .before .before .before .before in
+    let start = c .before .before .before .before .before .before .before .before in
     let small = c .before .before .before .before .before .if1 .left in
-    rw (within (start .args .places) (start .args .max) (length (start .args .field .now)) (start .args .units) small)
+    rw (within (start .args .kind) (length (start .args .field .now)) (start .args .units) small)
     (rw (c .before .before .before .before .stripped .ensures .same-text) at (c .before .before .lay .ensures))
 
 pub write-spec : {M : Type 1} → statement M
-write-spec = tie.close (tie.spec returns stripped-requires lay-requires same-length returns-2)
+write-spec =
+    tie.close (tie.spec returns (λ c κs. search needs) (λ c κs. search needs) (λ c. search needs) returns-2)

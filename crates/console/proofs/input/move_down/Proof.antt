@@ -1,4 +1,5 @@
 -- The loop's invariant: the first bytes have moved, and those from there on are as they were.
+use borrow.Author.Needs.{needs}
 use native.Mathlib.Omega.{arith}
 use Prim.Native.Nat.{_≤_, _-_}
 use mathlib.Core.Path.{_≡_, refl}
@@ -13,26 +14,8 @@ Inv-loop room₀ at end left i₀ room i = (i ≤ left) × (length room ≡ leng
 abbrev μ-loop : tie.MeasureT-loop
 μ-loop room₀ at end left i₀ room i = left - i
 
-sub-left : tie.Need-sub-left Inv-loop μ-loop
-sub-left c = omega arith
-
 loop-holds : tie.Need-loop-holds Inv-loop μ-loop
 loop-holds c = (omega arith, refl, refl, refl)
-
-add-room : tie.Need-add-room Inv-loop μ-loop
-add-room c = omega arith
-
-slice-read-room : tie.Need-slice-read-room Inv-loop μ-loop
-slice-read-room c = omega arith
-
-slice-write-room : tie.Need-slice-write-room Inv-loop μ-loop
-slice-write-room c = omega arith
-
-add-i : tie.Need-add-i Inv-loop μ-loop
-add-i c = omega arith
-
-loop-less : tie.Need-loop-less Inv-loop μ-loop
-loop-less c = omega arith
 
 loop-again : tie.Need-loop-again Inv-loop μ-loop
 loop-again c =
@@ -56,17 +39,4 @@ returns c =
 
 pub move-down-spec : {M : Type 1} → statement M
 move-down-spec =
-    tie.close
-    (tie.spec
-    Inv-loop
-    μ-loop
-    sub-left
-    loop-holds
-    add-room
-    slice-read-room
-    slice-write-room
-    add-i
-    loop-less
-    loop-again
-    same-length
-    returns)
+    tie.close (tie.spec Inv-loop μ-loop (search needs) loop-holds (search needs) (search needs) (search needs) (search needs) (search needs) loop-again same-length returns)

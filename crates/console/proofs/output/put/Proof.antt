@@ -7,18 +7,6 @@ use lib.ListN.{length}
 use Rattle.console.proofs.output.put.Statement.{statement}
 use Rattle.console.proofs.output.put.Tie as tie
 
-sub-if1 : tie.Need-sub-if1
-sub-if1 c = search needs
-
-copy-requires : tie.Need-copy-requires
-copy-requires c κs = search needs
-
-add-result : tie.Need-add-result
-add-result c = search needs
-
-same-length : tie.Need-same-length
-same-length c = search needs
-
 returns : tie.Need-returns
 returns c =
     let a = c .before .before .before .before .before .before .before .args in
@@ -29,15 +17,6 @@ returns c =
       says = simp (le-leb _ _ fits) (c .before .before .copy .ensures);
     }
 
-flush-requires : tie.Need-flush-requires
-flush-requires c κs = search needs
-
-write-all-requires : tie.Need-write-all-requires
-write-all-requires c κs = search needs
-
-same-length-2 : tie.Need-same-length-2
-same-length-2 c = search needs
-
 returns-2 : tie.Need-returns-2
 returns-2 c =
     let a = c .before .before .before .before .before .before .args in
@@ -46,14 +25,4 @@ returns-2 c =
 
 pub put-spec : {M : Type 1} → statement M
 put-spec =
-    tie.close
-    (tie.spec
-    sub-if1
-    copy-requires
-    add-result
-    same-length
-    returns
-    flush-requires
-    write-all-requires
-    same-length-2
-    returns-2)
+    tie.close (tie.spec (search needs) (search needs) (search needs) (search needs) returns (search needs) (search needs) (search needs) returns-2)

@@ -11,17 +11,11 @@ use Rattle.contracts.proofs.check.body_at.Tie as tie
 bytes : (c : tie.After-shared-slice-known) (j : ℕ) → getD (now (c .before .args .list)) j 0 < 256
 bytes c j = c .shared-slice-known .given j .fits
 
-segments-requires : tie.Need-segments-requires
-segments-requires c κs = search needs
-
 mul-result : tie.Need-mul-result
 mul-result c = omega (arith, segments-under (now (c .before .before .args .list)) (bytes (c .before)))
 
 add-result : tie.Need-add-result
 add-result c = omega (arith, segments-under (now (c .before .before .args .list)) (bytes (c .before)))
-
-contracts-before-requires : tie.Need-contracts-before-requires
-contracts-before-requires c κs = search needs
 
 mul-result-2 : tie.Need-mul-result-2
 mul-result-2 c =
@@ -33,17 +27,6 @@ add-result-2 c =
     let a = c .before .before .before .args in
     omega (arith, segments-under (now (a .list)) (bytes (c .before .before)), before-under (now (a .list)) (bytes (c .before .before)) (a .segment))
 
-returns : tie.Need-returns
-returns c = search needs
-
 pub body-at-spec : {M : Type 1} → statement M
 body-at-spec =
-    tie.close
-    (tie.spec
-    segments-requires
-    mul-result
-    add-result
-    contracts-before-requires
-    mul-result-2
-    add-result-2
-    returns)
+    tie.close (tie.spec (search needs) mul-result add-result (search needs) mul-result-2 add-result-2 (λ c. search needs))

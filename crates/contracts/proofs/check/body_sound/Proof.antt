@@ -19,9 +19,6 @@ Inv-loop list segment count place₀ place = (place ≤ count) × (allBelow plac
 abbrev μ-loop : tie.MeasureT-loop
 μ-loop list segment count place₀ place = count - place
 
-count-at-requires : tie.Need-count-at-requires Inv-loop μ-loop
-count-at-requires c κs = search needs
-
 loop-holds : tie.Need-loop-holds Inv-loop μ-loop
 loop-holds c = (omega arith, refl)
 
@@ -60,15 +57,4 @@ returns-2 c =
 
 pub body-sound-spec : {M : Type 1} → statement M
 body-sound-spec =
-    tie.close
-    (tie.spec
-    Inv-loop
-    μ-loop
-    count-at-requires
-    loop-holds
-    key-sound-requires
-    returns
-    add-place
-    loop-less
-    loop-again
-    returns-2)
+    tie.close (tie.spec Inv-loop μ-loop (search needs) loop-holds key-sound-requires returns add-place loop-less loop-again returns-2)

@@ -19,14 +19,8 @@ Inv-loop list part listed i₀ i = (i ≤ listed) × (allBelow i (partSound list
 abbrev μ-loop : tie.MeasureT-loop
 μ-loop list part listed i₀ i = listed - i
 
-segments-requires : tie.Need-segments-requires Inv-loop μ-loop
-segments-requires c κs = search needs
-
 loop-holds : tie.Need-loop-holds Inv-loop μ-loop
 loop-holds c = (omega arith, refl)
-
-part-sound-requires : tie.Need-part-sound-requires Inv-loop μ-loop
-part-sound-requires c κs = search needs
 
 returns : tie.Need-returns Inv-loop μ-loop
 returns c =
@@ -58,15 +52,4 @@ returns-2 c =
 
 pub each-sound-spec : {M : Type 1} → statement M
 each-sound-spec =
-    tie.close
-    (tie.spec
-    Inv-loop
-    μ-loop
-    segments-requires
-    loop-holds
-    part-sound-requires
-    returns
-    add-i
-    loop-less
-    loop-again
-    returns-2)
+    tie.close (tie.spec Inv-loop μ-loop (search needs) loop-holds (search needs) returns add-i loop-less loop-again returns-2)

@@ -10,18 +10,6 @@ use Rattle.contracts.specs.Sound.{mostSegments, within, bodyAt, headerSo
 use Rattle.contracts.proofs.check.header_sound.Statement.{statement}
 use Rattle.contracts.proofs.check.header_sound.Tie as tie
 
-segments-requires : tie.Need-segments-requires
-segments-requires c κs = search needs
-
-within-requires : tie.Need-within-requires
-within-requires c κs = search needs
-
-each-sound-requires : tie.Need-each-sound-requires
-each-sound-requires c κs = search needs
-
-body-at-requires : tie.Need-body-at-requires
-body-at-requires c κs = search needs
-
 -- the test of the number of segments
 tested : (c : tie.After-within) → within 1 mostSegments (segmentsOf (now (c .before .before .before .args .list))) ≡ c .within .result
 tested c = ap (within 1 mostSegments) (sym (c .before .segments .ensures)) ∙ sym (c .within .ensures)
@@ -44,11 +32,4 @@ returns-2 c =
 
 pub header-sound-spec : {M : Type 1} → statement M
 header-sound-spec =
-    tie.close
-    (tie.spec
-    segments-requires
-    within-requires
-    each-sound-requires
-    body-at-requires
-    returns
-    returns-2)
+    tie.close (tie.spec (search needs) (search needs) (search needs) (search needs) returns returns-2)

@@ -16,17 +16,11 @@ room c =
     let byte : (j : ℕ) → getD (now (a .list)) j 0 < 256 = λ j. c .before .shared-slice-known .given j .fits in
     omega (arith, count-under (now (a .list)) byte (a .segment), offset-under (now (a .list)) byte (a .segment))
 
-offset-at-requires : tie.Need-offset-at-requires
-offset-at-requires c κs = search needs
-
 mul-key-from : tie.Need-mul-key-from
 mul-key-from c = omega (arith, room c)
 
 add-key-from : tie.Need-add-key-from
 add-key-from c = omega (arith, room c)
-
-key-from-requires : tie.Need-key-from-requires
-key-from-requires c κs = search needs
 
 returns : tie.Need-returns
 returns c =
@@ -35,4 +29,4 @@ returns c =
 
 pub key-of-spec : {M : Type 1} → statement M
 key-of-spec =
-    tie.close (tie.spec offset-at-requires mul-key-from add-key-from key-from-requires returns)
+    tie.close (tie.spec (search needs) mul-key-from add-key-from (search needs) returns)

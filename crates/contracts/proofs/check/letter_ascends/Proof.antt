@@ -13,15 +13,6 @@ use Rattle.contracts.proofs.check.letter_ascends.Tie as tie
 returns : tie.Need-returns
 returns c = rw (c .if1 .taken)
 
-sub-letter-at : tie.Need-sub-letter-at
-sub-letter-at c = search needs
-
-letter-at-requires : tie.Need-letter-at-requires
-letter-at-requires c κs = search needs
-
-letter-at-requires-2 : tie.Need-letter-at-requires-2
-letter-at-requires-2 c κs = search needs
-
 returns-2 : tie.Need-returns-2
 returns-2 c =
     let a = c .before .before .before .before .args in
@@ -31,4 +22,4 @@ returns-2 c =
 
 pub letter-ascends-spec : {M : Type 1} → statement M
 letter-ascends-spec =
-    tie.close (tie.spec returns sub-letter-at letter-at-requires letter-at-requires-2 returns-2)
+    tie.close (tie.spec returns (search needs) (search needs) (search needs) returns-2)

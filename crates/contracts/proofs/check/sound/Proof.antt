@@ -7,12 +7,6 @@ use Rattle.contracts.specs.Sound.{headerSound, sound}
 use Rattle.contracts.proofs.check.sound.Statement.{statement}
 use Rattle.contracts.proofs.check.sound.Tie as tie
 
-header-sound-requires : tie.Need-header-sound-requires
-header-sound-requires c κs = search needs
-
-each-sound-requires : tie.Need-each-sound-requires
-each-sound-requires c κs = search needs
-
 returns : tie.Need-returns
 unfolding sound
 returns c =
@@ -28,4 +22,5 @@ returns-2 c =
     rw fails (c .if1 .left)
 
 pub sound-spec : {M : Type 1} → statement M
-sound-spec = tie.close (tie.spec header-sound-requires each-sound-requires returns returns-2)
+sound-spec =
+    tie.close (tie.spec (search needs) (search needs) returns returns-2)

@@ -6,15 +6,10 @@ use Rattle.contracts.specs.File.{contractsBefore}
 use Rattle.contracts.proofs.header.all_contracts.Statement.{statement}
 use Rattle.contracts.proofs.header.all_contracts.Tie as tie
 
-segments-requires : tie.Need-segments-requires
-segments-requires c κs = search needs
-
-contracts-before-requires : tie.Need-contracts-before-requires
-contracts-before-requires c κs = search needs
-
 returns : tie.Need-returns
 returns c =
     c .contracts-before .ensures ∙ ap (contractsBefore (now (c .before .before .before .args .list))) (c .before .segments .ensures)
 
 pub all-contracts-spec : {M : Type 1} → statement M
-all-contracts-spec = tie.close (tie.spec segments-requires contracts-before-requires returns)
+all-contracts-spec =
+    tie.close (tie.spec (search needs) (search needs) returns)

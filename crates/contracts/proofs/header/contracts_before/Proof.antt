@@ -19,17 +19,8 @@ Inv-loop list segment end sum₀ i₀ sum i = (i ≤ end) × (sum ≡ sumBelow i
 abbrev μ-loop : tie.MeasureT-loop
 μ-loop list segment end sum₀ i₀ sum i = end - i
 
-segments-requires : tie.Need-segments-requires Inv-loop μ-loop
-segments-requires c κs = search needs
-
-least-requires : tie.Need-least-requires Inv-loop μ-loop
-least-requires c κs = search needs
-
 loop-holds : tie.Need-loop-holds Inv-loop μ-loop
 loop-holds c = (omega arith, refl)
-
-count-at-requires : tie.Need-count-at-requires Inv-loop μ-loop
-count-at-requires c κs = search needs
 
 add-sum : tie.Need-add-sum Inv-loop μ-loop
 add-sum c =
@@ -59,16 +50,4 @@ returns c =
 
 pub contracts-before-spec : {M : Type 1} → statement M
 contracts-before-spec =
-    tie.close
-    (tie.spec
-    Inv-loop
-    μ-loop
-    segments-requires
-    least-requires
-    loop-holds
-    count-at-requires
-    add-sum
-    add-i
-    loop-less
-    loop-again
-    returns)
+    tie.close (tie.spec Inv-loop μ-loop (search needs) (search needs) loop-holds (search needs) add-sum add-i loop-less loop-again returns)

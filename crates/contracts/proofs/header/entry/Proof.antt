@@ -9,15 +9,6 @@ use Rattle.contracts.specs.File.{entryAt}
 use Rattle.contracts.proofs.header.entry.Statement.{statement}
 use Rattle.contracts.proofs.header.entry.Tie as tie
 
-mul-result : tie.Need-mul-result
-mul-result c = search needs
-
-add-result : tie.Need-add-result
-add-result c = search needs
-
-returns : tie.Need-returns
-returns c = search needs
-
 returns-2 : tie.Need-returns-2
 returns-2 c =
     let a = c .before .args in
@@ -28,4 +19,5 @@ returns-2 c =
     }
 
 pub entry-spec : {M : Type 1} → statement M
-entry-spec = tie.close (tie.spec mul-result add-result returns returns-2)
+entry-spec =
+    tie.close (tie.spec (search needs) (search needs) (λ c. search needs) returns-2)

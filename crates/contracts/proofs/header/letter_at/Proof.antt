@@ -16,12 +16,6 @@ here : (list : List ℕ) (i place : ℕ) → EntryPlace list i place → numberA
 here list i place h =
     ap (numberAt 1 list) (sym (add-zero place)) ∙ h .reads 1 0 ∙ ap (numberAt 1 list) (add-zero (entryAt i))
 
-entry-requires : tie.Need-entry-requires
-entry-requires c κs = search needs
-
-u8-at-requires : tie.Need-u8-at-requires
-u8-at-requires c κs = search needs
-
 returns : tie.Need-returns
 unfolding letterAt
 returns c =
@@ -29,4 +23,5 @@ returns c =
     c .u8-at .ensures ∙ here (now (a .list)) (a .segment) (c .before .entry .result) (c .before .entry .ensures)
 
 pub letter-at-spec : {M : Type 1} → statement M
-letter-at-spec = tie.close (tie.spec entry-requires u8-at-requires returns)
+letter-at-spec =
+    tie.close (tie.spec (search needs) (search needs) returns)

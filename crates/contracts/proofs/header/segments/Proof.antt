@@ -4,15 +4,10 @@ use Rattle.contracts.specs.File.{segmentsOf}
 use Rattle.contracts.proofs.header.segments.Statement.{statement}
 use Rattle.contracts.proofs.header.segments.Tie as tie
 
-u16-at-requires : tie.Need-u16-at-requires
-u16-at-requires c κs = search needs
-
-cast-result : tie.Need-cast-result
-cast-result c = search needs
-
 returns : tie.Need-returns
 unfolding segmentsOf
 returns c = c .u16-at .ensures
 
 pub segments-spec : {M : Type 1} → statement M
-segments-spec = tie.close (tie.spec u16-at-requires cast-result returns)
+segments-spec =
+    tie.close (tie.spec (search needs) (search needs) returns)

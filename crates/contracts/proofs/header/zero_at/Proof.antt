@@ -5,18 +5,10 @@ use Rattle.contracts.specs.File.{zeroAt}
 use Rattle.contracts.proofs.header.zero_at.Statement.{statement}
 use Rattle.contracts.proofs.header.zero_at.Tie as tie
 
-entry-requires : tie.Need-entry-requires
-entry-requires c κs = search needs
-
-add-u8-at : tie.Need-add-u8-at
-add-u8-at c = search needs
-
-u8-at-requires : tie.Need-u8-at-requires
-u8-at-requires c κs = search needs
-
 returns : tie.Need-returns
 unfolding zeroAt
 returns c = c .u8-at .ensures ∙ c .before .entry .ensures .reads 1 1
 
 pub zero-at-spec : {M : Type 1} → statement M
-zero-at-spec = tie.close (tie.spec entry-requires add-u8-at u8-at-requires returns)
+zero-at-spec =
+    tie.close (tie.spec (search needs) (search needs) (search needs) returns)

@@ -6,7 +6,7 @@ use native.Mathlib.Omega.{arith}
 use borrow.Author.Needs.{needs}
 use lib.ListN.{getD}
 use denote.Ref.{now}
-use Rattle.contracts.specs.declared.key.Order.{Order}
+use Rattle.contracts.specs.declared.key.Stands.{Stands}
 use Rattle.contracts.specs.File.{countAt, offsetAt, keyFrom}
 use Rattle.contracts.specs.FileLaws.{count-under, offset-under}
 use Rattle.contracts.specs.Halving.{Halved, halvedFrom}
@@ -37,7 +37,7 @@ abbrev middle : tie.After-order-of Inv-loop μ-loop → ℕ
 middle c = c .before .before .before .loop .low + (c .before .before .before .loop .left - 1) / 2
 
 -- what the comparison answers is how the key wanted stands to it
-abbrev sought : tie.After-order-of Inv-loop μ-loop → ℕ → Order
+abbrev sought : tie.After-order-of Inv-loop μ-loop → ℕ → Stands
 sought c =
     let a = c .before .before .before .before .before .before .before .before .args in
     standsTo (now (a .list)) (a .segment) (now (a .wanted))
@@ -49,12 +49,6 @@ stands c =
     ap (λ (o : ℕ). keyFrom (now (a .list)) (o + 39 * middle c)) (sym (c .before .before .before .before .before .offset-at .ensures))
     ∙ sym (c .before .key-from .ensures) in
     ap (orderOf (now (a .wanted))) key ∙ sym (c .order-of .ensures)
-
-offset-at-requires : tie.Need-offset-at-requires Inv-loop μ-loop
-offset-at-requires c κs = search needs
-
-count-at-requires : tie.Need-count-at-requires Inv-loop μ-loop
-count-at-requires c κs = search needs
 
 loop-holds : tie.Need-loop-holds Inv-loop μ-loop
 unfolding lookup
@@ -74,24 +68,12 @@ mul-key-from c = omega (arith, room c)
 add-key-from : tie.Need-add-key-from Inv-loop μ-loop
 add-key-from c = omega (arith, room c)
 
-key-from-requires : tie.Need-key-from-requires Inv-loop μ-loop
-key-from-requires c κs = search needs
-
-order-of-requires : tie.Need-order-of-requires Inv-loop μ-loop
-order-of-requires c κs = search needs
-
-enum-told : tie.Need-enum-told Inv-loop μ-loop
-enum-told c = search needs
-
 returns : tie.Need-returns Inv-loop μ-loop
 returns c =
     let d = c .before .before in
     let at = d .before .before .before .loop in
     let e = match-stops (sought d) (at .low) (at .left) (omega (arith, d .before .before .loop-test .taken)) (stands d ∙ c .enum-told .given .1) in
     sym (at .inv .1 ∙ ap (λ (h : Halved). h .place) e)
-
-enum-told-2 : tie.Need-enum-told-2 Inv-loop μ-loop
-enum-told-2 c = search needs
 
 loop-less : tie.Need-loop-less Inv-loop μ-loop
 loop-less c = omega (arith, c .before .before .before .before .loop-test .taken)
@@ -102,9 +84,6 @@ loop-again c =
     let at = d .before .before .before .loop in
     let e = goes-below (sought d) (at .low) (at .left) (omega (arith, d .before .before .loop-test .taken)) (stands d ∙ c .enum-told2 .given .1) in
     (omega arith, at .inv .1 ∙ ap (λ (h : Halved). h .place) e)
-
-enum-told-3 : tie.Need-enum-told-3 Inv-loop μ-loop
-enum-told-3 c = search needs
 
 add-low : tie.Need-add-low Inv-loop μ-loop
 add-low c = omega (arith, room (c .before .before .before .before))
@@ -135,28 +114,4 @@ returns-2 c =
 
 pub place-of-spec : {M : Type 1} → statement M
 place-of-spec =
-    tie.close
-    (tie.spec
-    Inv-loop
-    μ-loop
-    offset-at-requires
-    count-at-requires
-    loop-holds
-    sub-below
-    add-place
-    mul-key-from
-    add-key-from
-    key-from-requires
-    order-of-requires
-    enum-told
-    returns
-    enum-told-2
-    loop-less
-    loop-again
-    enum-told-3
-    add-low
-    sub-left
-    sub-left-2
-    loop-less-2
-    loop-again-2
-    returns-2)
+    tie.close (tie.spec Inv-loop μ-loop (search needs) (search needs) loop-holds sub-below add-place mul-key-from add-key-from (search needs) (search needs) (search needs) returns (search needs) loop-less loop-again (search needs) add-low sub-left sub-left-2 loop-less-2 loop-again-2 returns-2)

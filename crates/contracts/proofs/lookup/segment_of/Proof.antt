@@ -26,14 +26,8 @@ Inv-loop list letter listed i₀ i = (i ≤ listed) × (firstBelow i (has list l
 abbrev μ-loop : tie.MeasureT-loop
 μ-loop list letter listed i₀ i = listed - i
 
-segments-requires : tie.Need-segments-requires Inv-loop μ-loop
-segments-requires c κs = search needs
-
 loop-holds : tie.Need-loop-holds Inv-loop μ-loop
 loop-holds c = (omega arith, refl)
-
-letter-at-requires : tie.Need-letter-at-requires Inv-loop μ-loop
-letter-at-requires c κs = search needs
 
 returns : tie.Need-returns Inv-loop μ-loop
 unfolding segmentOf
@@ -70,15 +64,4 @@ returns-2 c =
 
 pub segment-of-spec : {M : Type 1} → statement M
 segment-of-spec =
-    tie.close
-    (tie.spec
-    Inv-loop
-    μ-loop
-    segments-requires
-    loop-holds
-    letter-at-requires
-    returns
-    add-i
-    loop-less
-    loop-again
-    returns-2)
+    tie.close (tie.spec Inv-loop μ-loop (search needs) loop-holds (search needs) returns add-i loop-less loop-again returns-2)

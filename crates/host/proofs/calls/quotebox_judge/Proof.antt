@@ -1,18 +1,9 @@
 -- The call's own promise, and its answer told.
-use Rattle.quotebox.specs.Answers.{judgedNumbers}
+use Rattle.state.specs.Answers.{judgedNumbers}
 use Rattle.host.specs.ToldLaws.{handed-on}
 use borrow.Author.Needs.{needs}
 use Rattle.host.proofs.calls.quotebox_judge.Statement.{statement}
 use Rattle.host.proofs.calls.quotebox_judge.Tie as tie
-
-judge-requires : tie.Need-judge-requires
-judge-requires c κs = search needs
-
-of-judged-requires : tie.Need-of-judged-requires
-of-judged-requires c κs = search needs
-
-tell-requires : tie.Need-tell-requires
-tell-requires c κs = search needs
 
 returns : tie.Need-returns
 returns c =
@@ -21,4 +12,5 @@ returns c =
     record { judged = made .result; promised = made .ensures; tells = handed-on (judgedNumbers (made .result)) (told .of-judged .ensures) (c .tell .ensures) }
 
 pub quotebox-judge-spec : {M : Type 1} → statement M
-quotebox-judge-spec = tie.close (tie.spec judge-requires of-judged-requires tell-requires returns)
+quotebox-judge-spec =
+    tie.close (tie.spec (λ c κs. search needs) (λ c κs. search needs) (λ c κs. search needs) returns)

@@ -1,24 +1,9 @@
 -- The call's own promise, and its answer told.
-use Rattle.quotebox.specs.Answers.{startedNumbers}
+use Rattle.state.specs.Answers.{startedNumbers}
 use Rattle.host.specs.ToldLaws.{handed-on}
 use borrow.Author.Needs.{needs}
 use Rattle.host.proofs.calls.quotebox_start.Statement.{statement}
 use Rattle.host.proofs.calls.quotebox_start.Tie as tie
-
-start-requires : tie.Need-start-requires
-start-requires c κs = search needs
-
-of-started-requires : tie.Need-of-started-requires
-of-started-requires c κs = search needs
-
-tell-requires : tie.Need-tell-requires
-tell-requires c κs = search needs
-
-same-length : tie.Need-same-length
-same-length c = search needs
-
-same-length-2 : tie.Need-same-length-2
-same-length-2 c = search needs
 
 returns : tie.Need-returns
 returns c =
@@ -28,5 +13,4 @@ returns c =
 
 pub quotebox-start-spec : {M : Type 1} → statement M
 quotebox-start-spec =
-    tie.close
-    (tie.spec start-requires of-started-requires tell-requires same-length same-length-2 returns)
+    tie.close (tie.spec (λ c κs. search needs) (λ c κs. search needs) (λ c κs. search needs) (search needs) (search needs) returns)

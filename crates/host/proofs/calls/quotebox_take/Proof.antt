@@ -1,24 +1,9 @@
 -- The call's own promise, and its answer told.
-use Rattle.quotebox.specs.Answers.{judgedNumbers}
+use Rattle.state.specs.Answers.{judgedNumbers}
 use Rattle.host.specs.ToldLaws.{handed-on}
 use borrow.Author.Needs.{needs}
 use Rattle.host.proofs.calls.quotebox_take.Statement.{statement}
 use Rattle.host.proofs.calls.quotebox_take.Tie as tie
-
-take-requires : tie.Need-take-requires
-take-requires c κs = search needs
-
-of-judged-requires : tie.Need-of-judged-requires
-of-judged-requires c κs = search needs
-
-tell-requires : tie.Need-tell-requires
-tell-requires c κs = search needs
-
-same-length : tie.Need-same-length
-same-length c = search needs
-
-same-length-2 : tie.Need-same-length-2
-same-length-2 c = search needs
 
 returns : tie.Need-returns
 returns c =
@@ -28,5 +13,4 @@ returns c =
 
 pub quotebox-take-spec : {M : Type 1} → statement M
 quotebox-take-spec =
-    tie.close
-    (tie.spec take-requires of-judged-requires tell-requires same-length same-length-2 returns)
+    tie.close (tie.spec (λ c κs. search needs) (λ c κs. search needs) (λ c κs. search needs) (search needs) (search needs) returns)

@@ -1,21 +1,9 @@
 -- The call's own promise, and its answer told.
-use Rattle.quotebox.specs.Answers.{writtenOffNumbers}
+use Rattle.state.specs.Answers.{writtenOffNumbers}
 use Rattle.host.specs.ToldLaws.{handed-on}
 use borrow.Author.Needs.{needs}
 use Rattle.host.proofs.calls.quotebox_write_off.Statement.{statement}
 use Rattle.host.proofs.calls.quotebox_write_off.Tie as tie
-
-write-off-requires : tie.Need-write-off-requires
-write-off-requires c κs = search needs
-
-of-written-off-requires : tie.Need-of-written-off-requires
-of-written-off-requires c κs = search needs
-
-tell-requires : tie.Need-tell-requires
-tell-requires c κs = search needs
-
-same-length : tie.Need-same-length
-same-length c = search needs
 
 returns : tie.Need-returns
 returns c =
@@ -25,5 +13,4 @@ returns c =
 
 pub quotebox-write-off-spec : {M : Type 1} → statement M
 quotebox-write-off-spec =
-    tie.close
-    (tie.spec write-off-requires of-written-off-requires tell-requires same-length returns)
+    tie.close (tie.spec (λ c κs. search needs) (λ c κs. search needs) (λ c κs. search needs) (search needs) returns)

@@ -5,24 +5,9 @@ use borrow.Author.Needs.{needs}
 use Rattle.layout.proofs.cells.cell_of.Statement.{statement}
 use Rattle.layout.proofs.cells.cell_of.Tie as tie
 
-enum-told : tie.Need-enum-told
-enum-told c = search needs
-
-enum-known-held : tie.Need-enum-known-held
-enum-known-held c = search needs
-
-sub-result : tie.Need-sub-result
-sub-result c = search needs
-
-returns : tie.Need-returns
-returns c = search needs
-
-returns-2 : tie.Need-returns-2
-returns-2 c = search needs
-
 returns-3 : tie.Need-returns-3
 returns-3 c = rw (c .before .before .held .given .1) (simp (ne-eqb _ none (c .if1 .left)))
 
 pub cell-of-spec : {M : Type 1} → statement M
 cell-of-spec =
-    tie.close (tie.spec enum-told enum-known-held sub-result returns returns-2 returns-3)
+    tie.close (tie.spec (search needs) (search needs) (search needs) (λ c. search needs) (λ c. search needs) returns-3)

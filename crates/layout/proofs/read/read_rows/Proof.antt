@@ -6,12 +6,12 @@ use native.Mathlib.Omega.{arith}
 use borrow.Author.Needs.{needs}
 use lib.ListN.{length, getD, take, drop, length-take}
 use lib.Seq.{getD-take}
-use Rattle.layout.specs.declared.rows.Row.{Row}
-use Rattle.layout.specs.declared.rows.Row.the-variants.{Text}
+use Rattle.forms.specs.declared.rows.Row.{Row}
+use Rattle.forms.specs.declared.rows.Row.the-variants.{Key}
 use Rattle.layout.specs.declared.read.RowRead.{RowRead}
 use Rattle.layout.specs.declared.read.Verdict.{Verdict}
 use Rattle.layout.specs.declared.read.Verdict.the-variants.{Field, Range}
-use Rattle.layout.specs.Rows.{widthOf}
+use Rattle.forms.specs.Rows.{widthOf}
 use Rattle.layout.specs.Read.{Outcome, readRow, rowThen, ReadsRows}
 use Rattle.layout.specs.ReadLaws.{behind, Going, begins, this-row, goes-on, stands, all-read}
 use Rattle.layout.proofs.read.read_rows.Statement.{statement}
@@ -56,17 +56,11 @@ part-read-row-end c = omega arith
 read-row-requires : tie.Need-read-row-requires Inv-loop μ-loop
 read-row-requires c κs = tt
 
-enum-known-cell : tie.Need-enum-known-cell Inv-loop μ-loop
-enum-known-cell c = search needs
-
 mul-cells : tie.Need-mul-cells Inv-loop μ-loop
 mul-cells c = omega arith
 
 element-write-cells : tie.Need-element-write-cells Inv-loop μ-loop
 element-write-cells c = omega arith
-
-enum-told : tie.Need-enum-told Inv-loop μ-loop
-enum-told c = search needs
 
 -- what the walk knows of the row that it has just read
 module _ (c : tie.After-read-row Inv-loop μ-loop) where
@@ -100,13 +94,13 @@ module _ (c : tie.After-read-row Inv-loop μ-loop) where
   more : i < length (take count rows)
   more = rw (length-take count rows) (omega arith)
 
-  same-row : getD (take count rows) i (Text 0) ≡ getD rows i (Text 0)
-  same-row = getD-take count rows i (Text 0) (c .before .before .before .before .before .loop-test .taken)
+  same-row : getD (take count rows) i (Key 0) ≡ getD rows i (Key 0)
+  same-row = getD-take count rows i (Key 0) (c .before .before .before .before .before .loop-test .taken)
 
-  is-width : width ≡ min (widthOf (getD (take count rows) i (Text 0))) (length bytes - at)
+  is-width : width ≡ min (widthOf (getD (take count rows) i (Key 0))) (length bytes - at)
   is-width = rw (same-row, ← c .before .before .before .width-of .ensures) (c .before .before .least .ensures)
 
-  row-read : readRow (getD (take count rows) i (Text 0)) (take width (drop at bytes)) ≡ c .read-row .result
+  row-read : readRow (getD (take count rows) i (Key 0)) (take width (drop at bytes)) ≡ c .read-row .result
   row-read =
       let e : at + width - at ≡ width = omega arith in
       rw same-row (sym (rw e at (c .read-row .ensures)))
@@ -120,9 +114,6 @@ module _ (c : tie.After-read-row Inv-loop μ-loop) where
 
 returns : tie.Need-returns Inv-loop μ-loop
 returns c = ended (c .before .before) (Field _) (c .enum-told .given .1) (λ rest. refl)
-
-enum-told-2 : tie.Need-enum-told-2 Inv-loop μ-loop
-enum-told-2 c = search needs
 
 returns-2 : tie.Need-returns-2 Inv-loop μ-loop
 returns-2 c = ended (c .before .before) (Range _) (c .enum-told2 .given .1) (λ rest. refl)
@@ -145,29 +136,4 @@ returns-3 c =
 
 pub read-rows-spec : {M : Type 1} → statement M
 read-rows-spec =
-    tie.close
-    (tie.spec
-    Inv-loop
-    μ-loop
-    loop-holds
-    mul-row
-    array-copy-out-row
-    width-of-requires
-    sub-least
-    least-requires
-    add-end
-    sub-read-row
-    part-read-row-start
-    part-read-row-end
-    read-row-requires
-    enum-known-cell
-    mul-cells
-    element-write-cells
-    enum-told
-    returns
-    enum-told-2
-    returns-2
-    add-i
-    loop-less
-    loop-again
-    returns-3)
+    tie.close (tie.spec Inv-loop μ-loop loop-holds mul-row array-copy-out-row width-of-requires sub-least least-requires add-end sub-read-row part-read-row-start part-read-row-end read-row-requires (search needs) mul-cells element-write-cells (search needs) returns (search needs) returns-2 add-i loop-less loop-again returns-3)

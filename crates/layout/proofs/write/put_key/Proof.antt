@@ -16,9 +16,6 @@ returns c =
 slice-aggregate-all-printable : tie.Need-slice-aggregate-all-printable
 slice-aggregate-all-printable c = sym (length-take-le _ _ (c .before .if1 .left))
 
-all-printable-requires : tie.Need-all-printable-requires
-all-printable-requires c κs = search needs
-
 returns-2 : tie.Need-returns-2
 returns-2 c =
     let a = c .before .before .before .before .before .before .args in
@@ -27,12 +24,6 @@ returns-2 c =
 
 slice-aggregate-put-front : tie.Need-slice-aggregate-put-front
 slice-aggregate-put-front c = sym (length-take-le _ _ (c .before .before .before .before .if1 .left))
-
-put-front-requires : tie.Need-put-front-requires
-put-front-requires c κs = search needs
-
-same-length : tie.Need-same-length
-same-length c = search needs
 
 returns-3 : tie.Need-returns-3
 returns-3 c =
@@ -44,13 +35,4 @@ returns-3 c =
 
 pub put-key-spec : {M : Type 1} → statement M
 put-key-spec =
-    tie.close
-    (tie.spec
-    returns
-    slice-aggregate-all-printable
-    all-printable-requires
-    returns-2
-    slice-aggregate-put-front
-    put-front-requires
-    same-length
-    returns-3)
+    tie.close (tie.spec returns slice-aggregate-all-printable (search needs) returns-2 slice-aggregate-put-front (search needs) (search needs) returns-3)

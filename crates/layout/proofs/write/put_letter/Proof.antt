@@ -5,14 +5,9 @@ use borrow.Author.Needs.{needs}
 use Rattle.layout.proofs.write.put_letter.Statement.{statement}
 use Rattle.layout.proofs.write.put_letter.Tie as tie
 
-slice-write-field : tie.Need-slice-write-field
-slice-write-field c = search needs
-
-same-length : tie.Need-same-length
-same-length c = search needs
-
 returns : tie.Need-returns
 returns c = record { answers = refl; leaves = one-byte (c .args .field .now) _ (c .pre) }
 
 pub put-letter-spec : {M : Type 1} → statement M
-put-letter-spec = tie.close (tie.spec slice-write-field same-length returns)
+put-letter-spec =
+    tie.close (tie.spec (search needs) (search needs) returns)

@@ -7,15 +7,6 @@ use borrow.Author.Needs.{needs}
 use Rattle.layout.proofs.write.put_market_type.Statement.{statement}
 use Rattle.layout.proofs.write.put_market_type.Tie as tie
 
-cast-if1 : tie.Need-cast-if1
-cast-if1 c = search needs
-
-put-letter-requires : tie.Need-put-letter-requires
-put-letter-requires c κs = search needs
-
-same-length : tie.Need-same-length
-same-length c = search needs
-
 returns : tie.Need-returns
 returns c = rw (letter-good isMarketType _ 78 (c .before .before .before .before .if1 .taken) refl) (c .before .before .put-letter .ensures)
 
@@ -24,4 +15,4 @@ returns-2 c = refuses _ (letter-bad isMarketType (c .before .before .args .cell)
 
 pub put-market-type-spec : {M : Type 1} → statement M
 put-market-type-spec =
-    tie.close (tie.spec cast-if1 put-letter-requires same-length returns returns-2)
+    tie.close (tie.spec (search needs) (search needs) (search needs) returns returns-2)

@@ -7,26 +7,8 @@ use borrow.Author.Needs.{needs}
 use Rattle.layout.proofs.write.put_status.Statement.{statement}
 use Rattle.layout.proofs.write.put_status.Tie as tie
 
-cast-if1 : tie.Need-cast-if1
-cast-if1 c = search needs
-
-put-letter-requires : tie.Need-put-letter-requires
-put-letter-requires c κs = search needs
-
-same-length : tie.Need-same-length
-same-length c = search needs
-
 returns : tie.Need-returns
 returns c = rw (letter-good isStatus _ 83 (c .before .before .before .before .if1 .taken) refl) (c .before .before .put-letter .ensures)
-
-cast-if2 : tie.Need-cast-if2
-cast-if2 c = search needs
-
-put-letter-requires-2 : tie.Need-put-letter-requires-2
-put-letter-requires-2 c κs = search needs
-
-same-length-2 : tie.Need-same-length-2
-same-length-2 c = search needs
 
 returns-2 : tie.Need-returns-2
 returns-2 c = rw (letter-good isStatus _ 32 (c .before .before .before .before .if2 .taken) refl) (c .before .before .put-letter2 .ensures)
@@ -36,14 +18,4 @@ returns-3 c = refuses _ (letter-bad isStatus (c .before .before .before .args .c
 
 pub put-status-spec : {M : Type 1} → statement M
 put-status-spec =
-    tie.close
-    (tie.spec
-    cast-if1
-    put-letter-requires
-    same-length
-    returns
-    cast-if2
-    put-letter-requires-2
-    same-length-2
-    returns-2
-    returns-3)
+    tie.close (tie.spec (search needs) (search needs) (search needs) returns (search needs) (search needs) (search needs) returns-2 returns-3)

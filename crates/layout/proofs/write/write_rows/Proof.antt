@@ -7,9 +7,10 @@ use borrow.Author.Needs.{needs}
 use borrow.Rule.Slice.PartMut.{midOf, putMid, mid-len, same-len-mid, take-put}
 use lib.ListN.{length, getD, take, drop, length-take, length-drop, length-append}
 use lib.Seq.{getD-take, length-take-le, take-at, take-all}
-use Rattle.layout.specs.declared.rows.Row.{Row}
-use Rattle.layout.specs.declared.rows.Row.the-variants.{Text}
-use Rattle.layout.specs.Rows.{widthOf}
+use Rattle.forms.specs.declared.rows.Row.{Row}
+use Rattle.forms.specs.declared.rows.Row.the-variants.{Key}
+use Rattle.forms.specs.Rows.{widthOf}
+use Rattle.forms.specs.Sizes.{mostData}
 use Rattle.layout.specs.declared.read.Verdict.{Verdict}
 use Rattle.layout.specs.declared.read.Verdict.the-variants.{Field, Range}
 use Rattle.layout.specs.Write.{PutsRow, RowText, rowText, Laid, textThen, writeRows, WritesRows, keyUsed}
@@ -53,10 +54,10 @@ module _ (c : tie.In-loop Inv-loop μ-loop) where
   more : i < length rows
   more = rw (length-take (c .before .before .before .args .count) (c .before .before .before .args .t1)) (omega arith)
 
-  same-row : getD rows i (Text 0) ≡ getD (c .before .before .before .args .t1) i (Text 0)
-  same-row = getD-take (c .before .before .before .args .count) (c .before .before .before .args .t1) i (Text 0) (c .loop-test .taken)
+  same-row : getD rows i (Key 0) ≡ getD (c .before .before .before .args .t1) i (Key 0)
+  same-row = getD-take (c .before .before .before .args .count) (c .before .before .before .args .t1) i (Key 0) (c .loop-test .taken)
 
-  has-room : at + widthOf (getD (c .before .before .before .args .t1) i (Text 0)) ≤ 494
+  has-room : at + widthOf (getD (c .before .before .before .args .t1) i (Key 0)) ≤ mostData
   has-room = rw (← same-row) (omega (arith, room rows key cells bytes at used i more writing))
 
 -- and once its field is back
@@ -73,7 +74,7 @@ module _ (c : tie.After-bytes2 Inv-loop μ-loop) where
   abbrev bytes′ : List ℕ
   bytes′ = putMid (at d) (at d + width - at d) (bytes d) part
 
-  is-width : width ≡ widthOf (getD (rows d) (i d) (Text 0))
+  is-width : width ≡ widthOf (getD (rows d) (i d) (Key 0))
   is-width = rw (same-row d) (c .before .before .before .before .before .width-of .ensures)
 
   fits : at d + width ≤ length (bytes d)
@@ -84,7 +85,7 @@ module _ (c : tie.After-bytes2 Inv-loop μ-loop) where
       let same : at d + width - at d ≡ width = omega arith in
       c .before .put-row .kept .1 .1 .1 .0 ∙ mid-len (at d) (at d + width) (bytes d) fits ∙ same
 
-  whole : length bytes′ ≡ 494
+  whole : length bytes′ ≡ mostData
   whole = same-len-mid (at d) (at d + width - at d) (bytes d) part (c .before .put-row .kept .1 .1 .1 .0) ∙ writing d .1
 
   before-kept : take (at d) bytes′ ≡ take (at d) (bytes d)
@@ -96,13 +97,13 @@ module _ (c : tie.After-bytes2 Inv-loop μ-loop) where
       rw (length-append (take (at d) (bytes d)) part, part-length, length-take-le (at d) (bytes d) (omega (arith, fits))) in
       rw (← append-assoc (take (at d) (bytes d)) part) (take-at (take (at d) (bytes d) ++ part) _ (at d + width) long)
 
-  row-put : PutsRow (rowText (getD (rows d) (i d) (Text 0)) (drop (used d) (key d)) (getD (cells d) (i d) 0)) (midOf (at d) (at d + width - at d) (bytes d)) (c .before .put-row .result) part
+  row-put : PutsRow (rowText (getD (rows d) (i d) (Key 0)) (drop (used d) (key d)) (getD (cells d) (i d) 0)) (midOf (at d) (at d + width - at d) (bytes d)) (c .before .put-row .result) part
   row-put =
       let left : take (length (key d) - used d) (drop (used d) (key d)) ≡ drop (used d) (key d) =
       take-all (length (key d) - used d) (drop (used d) (key d)) (omega (arith, length-drop (used d) (key d))) in
       rw (same-row d) (rw left at (c .before .put-row .ensures))
 
-  ended : (verdict : Verdict) {t : RowText} → rowText (getD (rows d) (i d) (Text 0)) (drop (used d) (key d)) (getD (cells d) (i d) 0) ≡ t
+  ended : (verdict : Verdict) {t : RowText} → rowText (getD (rows d) (i d) (Key 0)) (drop (used d) (key d)) (getD (cells d) (i d) 0) ≡ t
       → ((rest : Laid) → textThen t (i d) rest ≡ record { bytes = []; verdict = verdict })
       → WritesRows (writeRows 0 (rows d) (key d) (cells d)) (record { verdict = verdict; bytes = bytes′ })
   ended verdict e none = stops (rows d) (key d) (cells d) (bytes d) (at d) (used d) (i d) (more d) (writing d) bytes′ verdict e none before-kept
@@ -153,17 +154,8 @@ put-row-requires c κs =
     let same : at d + width - at d ≡ width = omega arith in
     mid-len (at d) (at d + width) (bytes d) (omega (arith, has-room d, writing d .1)) ∙ same ∙ c .before .before .before .width-of .ensures
 
-enum-told : tie.Need-enum-told Inv-loop μ-loop
-enum-told c = search needs
-
-enum-told-2 : tie.Need-enum-told-2 Inv-loop μ-loop
-enum-told-2 c = search needs
-
 returns : tie.Need-returns Inv-loop μ-loop
 returns c = ended (c .before .before) (Field _) (field-text _ (sym (row-put (c .before .before) .answers) ∙ c .enum-told2 .given .1)) (λ rest. refl)
-
-enum-told-3 : tie.Need-enum-told-3 Inv-loop μ-loop
-enum-told-3 c = search needs
 
 returns-2 : tie.Need-returns-2 Inv-loop μ-loop
 returns-2 c = ended (c .before .before) (Range _) (range-text _ (sym (row-put (c .before .before) .answers) ∙ c .enum-told3 .given .1)) (λ rest. refl)
@@ -190,7 +182,7 @@ loop-again : tie.Need-loop-again Inv-loop μ-loop
 loop-again c =
     let b = c .before .before .before .before in
     let d = b .before .before .before .before .before .before .before in
-    let is-taken : c .least .result ≡ min (keyUsed (getD (rows d) (i d) (Text 0))) (length (key d) - used d) =
+    let is-taken : c .least .result ≡ min (keyUsed (getD (rows d) (i d) (Key 0))) (length (key d) - used d) =
     rw (same-row d, ← c .before .key-used .ensures) (c .least .ensures) in
     (omega arith, goes-on (rows d) (key d) (cells d) (bytes d) (at d) (used d) (i d) (more d) (writing d) (bytes′ b) (width b) (c .least .result) (is-width b) is-taken (fits-text _ (row-put b) (c .before .before .enum-told .given .1)) (whole b) (in-front b))
 
@@ -202,34 +194,4 @@ returns-3 c =
 
 pub write-rows-spec : {M : Type 1} → statement M
 write-rows-spec =
-    tie.close
-    (tie.spec
-    Inv-loop
-    μ-loop
-    loop-holds
-    mul-row
-    array-copy-out-row
-    width-of-requires
-    add-end
-    sub-put-row
-    part-put-row-start
-    part-put-row-end
-    mul-put-row
-    element-copy-out-put-row
-    sub-put-row-2
-    part-bytes-start
-    part-bytes-end
-    put-row-requires
-    enum-told
-    enum-told-2
-    returns
-    enum-told-3
-    returns-2
-    key-used-requires
-    sub-least
-    least-requires
-    add-used
-    add-i
-    loop-less
-    loop-again
-    returns-3)
+    tie.close (tie.spec Inv-loop μ-loop loop-holds mul-row array-copy-out-row width-of-requires add-end sub-put-row part-put-row-start part-put-row-end mul-put-row element-copy-out-put-row sub-put-row-2 part-bytes-start part-bytes-end put-row-requires (search needs) (search needs) returns (search needs) returns-2 key-used-requires sub-least least-requires add-used add-i loop-less loop-again returns-3)

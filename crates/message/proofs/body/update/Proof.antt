@@ -1,4 +1,4 @@
--- The rows of its length's layout, and then its key.
+-- The rows of its form, and then its key.
 use Prim.Native.Nat.{ℕ, _-_}
 use mathlib.Core.Path.{_≡_, refl, ap, sym, _∙_}
 use mathlib.Core.List.{List}
@@ -7,88 +7,56 @@ use borrow.Author.Needs.{needs}
 use lib.ListN.{take, drop}
 use Rattle.layout.specs.declared.read.Verdict.{Verdict}
 use Rattle.message.specs.declared.body.What.{What}
-use Rattle.message.specs.Codes.{levelOf}
+use mathlib.Core.Option.{Option}
+use Rattle.contracts.specs.Answers.{placeOf}
+use Rattle.forms.specs.declared.forms.Form.{Form}
+use Rattle.forms.specs.Sizes.{keyBytes, bareLength}
 use Rattle.message.specs.Fields.{lengthOf, numberOf, dataOf}
-use Rattle.message.specs.Message.{keyOf, keyPlace, rowsRead, ofPlace, ofVerdict, contentsOf, ReadsMessage}
+use Rattle.message.specs.Message.{messageKey, placeThere, rowsRead, ofPlace, ofVerdict, contentsBy, ReadsMessage}
 use Rattle.message.specs.MessageLaws.{update-reads}
 use Rattle.message.proofs.body.update.Statement.{statement}
 use Rattle.message.proofs.body.update.Tie as tie
 
-level-of-requires : tie.Need-level-of-requires
-level-of-requires c κs = search needs
-
-number-of-requires : tie.Need-number-of-requires
-number-of-requires c κs = search needs
-
-sub-end : tie.Need-sub-end
-sub-end c = search needs
-
-sub-data : tie.Need-sub-data
-sub-data c = search needs
-
-part-data-start : tie.Need-part-data-start
-part-data-start c = search needs
-
-part-data-end : tie.Need-part-data-end
-part-data-end c = search needs
-
-read-update-requires : tie.Need-read-update-requires
-read-update-requires c κs = search needs
-
-enum-told : tie.Need-enum-told
-enum-told c = search needs
-
-placed-requires : tie.Need-placed-requires
-placed-requires c κs = search needs
-
-enum-known-row : tie.Need-enum-known-row
-enum-known-row c = search needs
-
-enum-known-row-2 : tie.Need-enum-known-row-2
-enum-known-row-2 c = search needs
-
 -- what is known once the rows are read
 module _ (c : tie.After-read-update) where
-  abbrev list : List ℕ
-  list = c .before .before .before .before .before .before .before .args .list .now
-
-  abbrev letter : ℕ
-  letter = c .before .before .before .before .before .before .before .args .letter
+  abbrev begun : tie.Start
+  begun = c .before .before .before .before .before .before
 
   abbrev bytes : List ℕ
-  bytes = c .before .before .before .before .before .before .before .args .bytes .now
+  bytes = begun .args .bytes .now
 
   abbrev cells : List ℕ
-  cells = c .before .before .before .before .before .before .before .args .cells .now
+  cells = begun .args .cells .now
 
   abbrev whole : ℕ
-  whole = c .before .before .before .before .before .before .before .args .whole
+  whole = begun .args .whole
+
+  abbrev form : Form
+  form = begun .args .form
+
+  -- the place of its key
+  abbrev found : Option ℕ
+  found = placeThere (begun .args .list .now) (messageKey bytes) (placeOf (begun .args .segment))
 
   whole-is : whole ≡ lengthOf bytes
-  whole-is = c .before .before .before .before .before .before .before .pre .1
+  whole-is = begun .pre .1
 
   data-is : take (whole - 3 - 8) (drop 8 bytes) ≡ dataOf bytes
   unfolding dataOf
   data-is =
-      let e : whole - 3 - 8 ≡ lengthOf bytes - 11 = omega (arith, whole-is) in
+      let e : whole - 3 - 8 ≡ lengthOf bytes - bareLength = omega (arith, whole-is) in
       rw e
 
-  level-is : c .before .before .before .before .level-of .result ≡ levelOf (lengthOf bytes)
-  level-is = rw (← whole-is) (c .before .before .before .before .level-of .ensures)
-
-  -- what an update with good rows is
-  abbrev good : What
-  good = ofPlace (numberOf bytes) (levelOf (lengthOf bytes)) (keyPlace list letter (keyOf bytes))
-
-  ended : (v : Verdict) (w : What) → c .read-update .result ≡ v → w ≡ ofVerdict v good
-      → ReadsMessage (contentsOf list letter bytes) (rowsRead bytes .cells) cells (record { what = w; length = whole }) (c .read-update .last .1 .1 .0)
+  ended : (v : Verdict) (w : What) → c .read-update .result ≡ v → w ≡ ofVerdict v (ofPlace (numberOf bytes) form found)
+      → ReadsMessage (contentsBy found bytes) (rowsRead bytes .cells) cells (record { what = w; length = whole }) (c .read-update .last .1 .1 .0)
   ended v w e same =
-      update-reads list letter bytes whole w whole-is (c .before .before .before .before .before .before .before .pre .2) (c .read-update .result) cells _
-      (rw (level-is, data-is) at (c .read-update .ensures)) (same ∙ ap (λ (u : Verdict). ofVerdict u good) (sym e))
+      update-reads found bytes whole whole-is w form (begun .pre .2) (begun .pre .3) (c .read-update .result) cells _
+      (rw data-is at (c .read-update .ensures)) (same ∙ ap (λ (u : Verdict). ofVerdict u (ofPlace (numberOf bytes) form found)) (sym e))
 
-  good-is : {r : What} → r ≡ ofPlace (c .before .before .before .number-of .result) (c .before .before .before .before .level-of .result) (keyPlace list letter (take 39 (take (whole - 3 - 8) (drop 8 bytes)))) → r ≡ good
-  unfolding keyOf
-  good-is e = e ∙ (λ i. ofPlace (c .before .before .before .number-of .ensures i) (level-is i) (keyPlace list letter (take 39 (data-is i))))
+  good-is : {r : What} → r ≡ ofPlace (c .before .before .before .number-of .result) form (placeThere (begun .args .list .now) (take keyBytes (take (whole - 3 - 8) (drop 8 bytes))) (placeOf (begun .args .segment)))
+      → r ≡ ofPlace (numberOf bytes) form found
+  unfolding messageKey
+  good-is e = e ∙ (λ i. ofPlace (c .before .before .before .number-of .ensures i) form (placeThere (begun .args .list .now) (take keyBytes (data-is i)) (placeOf (begun .args .segment))))
 
 returns : tie.Need-returns
 returns c =
@@ -103,19 +71,4 @@ returns-3 c = ended (c .before .before .before) _ _ (c .before .row2 .given .1) 
 
 pub update-spec : {M : Type 1} → statement M
 update-spec =
-    tie.close
-    (tie.spec
-    level-of-requires
-    number-of-requires
-    sub-end
-    sub-data
-    part-data-start
-    part-data-end
-    read-update-requires
-    enum-told
-    placed-requires
-    enum-known-row
-    enum-known-row-2
-    returns
-    returns-2
-    returns-3)
+    tie.close (tie.spec (search needs) (search needs) (search needs) (search needs) (search needs) (search needs) (search needs) (search needs) (search needs) (search needs) returns returns-2 returns-3)

@@ -4,12 +4,10 @@ use Rattle.message.specs.Fields.{letterOf}
 use Rattle.message.proofs.fields.letter_of.Statement.{statement}
 use Rattle.message.proofs.fields.letter_of.Tie as tie
 
-u8-at-requires : tie.Need-u8-at-requires
-u8-at-requires c κs = search needs
-
 returns : tie.Need-returns
 unfolding letterOf
 returns c = c .u8-at .ensures
 
 pub letter-of-spec : {M : Type 1} → statement M
-letter-of-spec = tie.close (tie.spec u8-at-requires returns)
+letter-of-spec =
+    tie.close (tie.spec (search needs) returns)

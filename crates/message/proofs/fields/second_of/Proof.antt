@@ -4,12 +4,10 @@ use Rattle.message.specs.Fields.{secondOf}
 use Rattle.message.proofs.fields.second_of.Statement.{statement}
 use Rattle.message.proofs.fields.second_of.Tie as tie
 
-u8-at-requires : tie.Need-u8-at-requires
-u8-at-requires c κs = search needs
-
 returns : tie.Need-returns
 unfolding secondOf
 returns c = c .u8-at .ensures
 
 pub second-of-spec : {M : Type 1} → statement M
-second-of-spec = tie.close (tie.spec u8-at-requires returns)
+second-of-spec =
+    tie.close (tie.spec (search needs) returns)

@@ -5,21 +5,9 @@ use borrow.Author.Needs.{needs}
 use Rattle.message.proofs.head.carries.Statement.{statement}
 use Rattle.message.proofs.head.carries.Tie as tie
 
-sub-u8-at : tie.Need-sub-u8-at
-sub-u8-at c = search needs
-
-u8-at-requires : tie.Need-u8-at-requires
-u8-at-requires c κs = search needs
-
 returns : tie.Need-returns
 returns c = let a = c .before .before .before .args in
     rw (sum-bytes (a .bytes .now) (a .whole) (a .first) (a .second) (c .before .before .before .pre .1), ← c .before .u8-at .ensures, ne-eqb _ _ (c .if1 .taken))
-
-sub-u8-at-2 : tie.Need-sub-u8-at-2
-sub-u8-at-2 c = search needs
-
-u8-at-requires-2 : tie.Need-u8-at-requires-2
-u8-at-requires-2 c κs = search needs
 
 returns-2 : tie.Need-returns-2
 returns-2 c = let a = c .before .before .before .before .args in
@@ -27,4 +15,4 @@ returns-2 c = let a = c .before .before .before .before .args in
 
 pub carries-spec : {M : Type 1} → statement M
 carries-spec =
-    tie.close (tie.spec sub-u8-at u8-at-requires returns sub-u8-at-2 u8-at-requires-2 returns-2)
+    tie.close (tie.spec (search needs) (search needs) returns (search needs) (search needs) returns-2)

@@ -8,26 +8,8 @@ use borrow.Author.Needs.{needs}
 use Rattle.message.proofs.head.carries_right.Statement.{statement}
 use Rattle.message.proofs.head.carries_right.Tie as tie
 
-sub-end : tie.Need-sub-end
-sub-end c = search needs
-
 slice-aggregate-sum : tie.Need-slice-aggregate-sum
 slice-aggregate-sum c = sym (length-take-le (c .before .before .args .whole - 3) (c .before .before .args .bytes .now) (omega arith))
-
-sum-requires : tie.Need-sum-requires
-sum-requires c κs = search needs
-
-sent-requires : tie.Need-sent-requires
-sent-requires c κs = search needs
-
-array-read-carries : tie.Need-array-read-carries
-array-read-carries c = search needs
-
-array-read-carries-2 : tie.Need-array-read-carries-2
-array-read-carries-2 c = search needs
-
-carries-requires : tie.Need-carries-requires
-carries-requires c κs = search needs
 
 returns : tie.Need-returns
 unfolding rightSum
@@ -35,13 +17,4 @@ returns c = rw (← c .before .before .before .before .before .pre .1, ← c .be
 
 pub carries-right-spec : {M : Type 1} → statement M
 carries-right-spec =
-    tie.close
-    (tie.spec
-    sub-end
-    slice-aggregate-sum
-    sum-requires
-    sent-requires
-    array-read-carries
-    array-read-carries-2
-    carries-requires
-    returns)
+    tie.close (tie.spec (search needs) slice-aggregate-sum (search needs) (search needs) (search needs) (search needs) (search needs) returns)

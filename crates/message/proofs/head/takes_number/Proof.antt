@@ -1,26 +1,17 @@
--- Each kind by its own rule.
+-- By what the form tells of.
 use borrow.Author.Needs.{needs}
 use Rattle.message.proofs.head.takes_number.Statement.{statement}
 use Rattle.message.proofs.head.takes_number.Tie as tie
 
-enum-told : tie.Need-enum-told
-enum-told c = search needs
-
-enum-told-2 : tie.Need-enum-told-2
-enum-told-2 c = search needs
-
-enum-told-3 : tie.Need-enum-told-3
-enum-told-3 c = search needs
-
 returns : tie.Need-returns
-returns c = rw (c .enum-told .given .1)
+returns c = rw (c .before .before .before .named .given .1, ← c .before .subject-of .ensures) (c .numbers-subject .ensures)
 
 returns-2 : tie.Need-returns-2
-returns-2 c = rw (c .enum-told2 .given .1)
+returns-2 c = rw (c .enum-told .given .1)
 
 returns-3 : tie.Need-returns-3
-returns-3 c = rw (c .enum-told3 .given .1)
+returns-3 c = rw (c .enum-told2 .given .1)
 
 pub takes-number-spec : {M : Type 1} → statement M
 takes-number-spec =
-    tie.close (tie.spec enum-told enum-told-2 enum-told-3 returns returns-2 returns-3)
+    tie.close (tie.spec (search needs) (search needs) (search needs) (search needs) (search needs) returns returns-2 returns-3)

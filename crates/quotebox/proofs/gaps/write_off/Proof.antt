@@ -3,59 +3,38 @@ use borrow.Author.Needs.{needs}
 use Rattle.sequence.specs.PromisesLaws.{wroteOff-row}
 use Rattle.sequence.specs.Promises.{WroteOff}
 use Rattle.sequence.specs.RowLaws.{sound-row-exactly}
-use Rattle.quotebox.specs.declared.state.Asked.the-variants.{Segment}
-use Rattle.quotebox.specs.Memory.{rowOf}
-use Rattle.quotebox.specs.State.{Asks}
-use Rattle.quotebox.specs.StateLaws.{row-there, row-sound}
+use Rattle.state.specs.declared.state.Asked.the-variants.{Segment}
+use Rattle.state.specs.Memory.{lends, gapRowOf}
+use Rattle.state.specs.State.{Asks}
+use Rattle.state.specs.StateLaws.{row-there, row-sound}
 use Rattle.quotebox.specs.CallsLaws.{off-refused, off-removed, off-none}
 use Rattle.quotebox.proofs.gaps.write_off.Statement.{statement}
 use Rattle.quotebox.proofs.gaps.write_off.Tie as tie
 
 asked : (c : tie.After-known-told) → let a = c .before .before .before .before .before .before .before .before .args in
-    Asks (a .list .now) (a .rows .now) (a .records .now) (a .letter) (Segment (c .before .segment .given .0 .0))
+    Asks (lends (a .list .now) (a .rows .now) (a .records .now)) (a .letter) (Segment (c .before .segment .given .0 .0))
 asked c = rw (c .before .segment .given .1) at (c .before .before .before .check-segment .ensures)
 
 -- what the row's own write-off promises
 own : (c : tie.After-write-off) → let told = c .before .before .before .before in
-    WroteOff (rowOf (told .before .before .before .before .before .before .before .before .args .rows .now) (told .before .segment .given .0 .0)) (c .write-off .result) (c .write-off .last .0)
+    WroteOff (gapRowOf (told .before .before .before .before .before .before .before .before .args .rows .now) (told .before .segment .given .0 .0)) (c .write-off .result) (c .write-off .last .0)
 own c = rw (c .before .before .row-of .ensures) at (c .write-off .ensures)
-
-check-segment-requires : tie.Need-check-segment-requires
-check-segment-requires c κs = search needs
-
-enum-known-segment : tie.Need-enum-known-segment
-enum-known-segment c = search needs
 
 row-of-requires : tie.Need-row-of-requires
 row-of-requires c κs =
     let told = c .before in
     let a = told .before .before .before .before .before .before .before .before .args in
-    row-there (a .list .now) (a .rows .now) (a .records .now) (a .letter) (asked told .0) _ (asked told .1)
-
-write-off-requires : tie.Need-write-off-requires
-write-off-requires c κs = search needs
-
-enum-known-first : tie.Need-enum-known-first
-enum-known-first c = search needs
+    row-there (lends (a .list .now) (a .rows .now) (a .records .now)) (a .letter) (asked told .0) _ (asked told .1)
 
 put-row-requires : tie.Need-put-row-requires
 put-row-requires c κs =
     let off = c .before .before .before .before .before in
     let told = off .before .before .before .before in
     let a = told .before .before .before .before .before .before .before .before .args in
-    let sound = row-sound (a .list .now) (a .rows .now) (a .records .now) (a .letter) (asked told .0) _ (asked told .1) in (
-      row-there (a .list .now) (a .rows .now) (a .records .now) (a .letter) (asked told .0) _ (asked told .1),
+    let sound = row-sound (lends (a .list .now) (a .rows .now) (a .records .now)) (a .letter) (asked told .0) _ (asked told .1) in (
+      row-there (lends (a .list .now) (a .rows .now) (a .records .now)) (a .letter) (asked told .0) _ (asked told .1),
       sound-row-exactly (off .write-off .last .0) .0 (wroteOff-row sound (own off)) .0,
     )
-
-enum-told : tie.Need-enum-told
-enum-told c = search needs
-
-enum-known-refusal : tie.Need-enum-known-refusal
-enum-known-refusal c = search needs
-
-same-length : tie.Need-same-length
-same-length c = search needs
 
 returns : tie.Need-returns
 returns c =
@@ -65,42 +44,21 @@ returns c =
     let told = off .before .before .before .before in
     let a = told .before .before .before .before .before .before .before .before .args in
     rw (put .put-row .ensures)
-    (off-removed (a .list .now) (a .rows .now) (a .records .now) (a .letter) (asked told .0) _ (asked told .1) _ _ _ (rw (first .first .given .1) at (own off)))
-
-same-length-2 : tie.Need-same-length-2
-same-length-2 c = search needs
+    (off-removed (lends (a .list .now) (a .rows .now) (a .records .now)) (a .letter) (asked told .0) _ (asked told .1) _ _ _ (rw (first .first .given .1) at (own off)))
 
 returns-2 : tie.Need-returns-2
 returns-2 c =
     let off = c .before .before in
     let told = off .before .before .before .before in
     let a = told .before .before .before .before .before .before .before .before .args in
-    off-none (a .list .now) (a .rows .now) (a .records .now) (a .letter) (asked told .0) _ (asked told .1) _ (rw (c .enum-told .given .1) at (own off))
-
-same-length-3 : tie.Need-same-length-3
-same-length-3 c = search needs
+    off-none (lends (a .list .now) (a .rows .now) (a .records .now)) (a .letter) (asked told .0) _ (asked told .1) _ (rw (c .enum-told .given .1) at (own off))
 
 returns-3 : tie.Need-returns-3
 returns-3 c =
     let d = c .before .before .before in
     let a = d .before .before .before .before .before .args in
-    off-refused (a .list .now) (a .rows .now) (a .records .now) (a .letter) _ (rw (c .before .refusal .given .1) at (d .check-segment .ensures))
+    off-refused (lends (a .list .now) (a .rows .now) (a .records .now)) (a .letter) _ (rw (c .before .refusal .given .1) at (d .check-segment .ensures))
 
 pub write-off-spec : {M : Type 1} → statement M
 write-off-spec =
-    tie.close
-    (tie.spec
-    check-segment-requires
-    enum-known-segment
-    row-of-requires
-    write-off-requires
-    enum-known-first
-    put-row-requires
-    enum-told
-    enum-known-refusal
-    same-length
-    returns
-    same-length-2
-    returns-2
-    same-length-3
-    returns-3)
+    tie.close (tie.spec (λ c κs. search needs) (search needs) row-of-requires (λ c κs. search needs) (search needs) put-row-requires (search needs) (search needs) (search needs) returns (search needs) returns-2 (search needs) returns-3)

@@ -4,12 +4,10 @@ use borrow.Author.Needs.{needs}
 use Rattle.quotebox.proofs.record.blank.Statement.{statement}
 use Rattle.quotebox.proofs.record.blank.Tie as tie
 
-quote-of-requires : tie.Need-quote-of-requires
-quote-of-requires c κs = search needs
-
 returns : tie.Need-returns
 unfolding blank
 returns c = c .quote-of .ensures
 
 pub blank-spec : {M : Type 1} → statement M
-blank-spec = tie.close (tie.spec quote-of-requires returns)
+blank-spec =
+    tie.close (tie.spec (λ c κs. search needs) returns)

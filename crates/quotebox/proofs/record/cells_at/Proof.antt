@@ -7,8 +7,9 @@ use native.Mathlib.Omega.{arith}
 use borrow.Author.Needs.{needs}
 use lib.ListN.{length, set, drop, replicate, length-set, length-drop, length-replicate}
 use lib.Seq.{paste, paste-zero, paste-suc, getD-drop}
-use Rattle.quotebox.specs.Record.{recordRows}
-use Rattle.quotebox.specs.RecordLaws.{rows-few, cells-copied}
+use Rattle.state.specs.Slots.{recordRows}
+use Rattle.quotebox.specs.RecordLaws.{cells-copied}
+use Rattle.state.specs.SlotsLaws.{rows-few}
 use Rattle.quotebox.proofs.record.cells_at.Statement.{statement}
 use Rattle.quotebox.proofs.record.cells_at.Tie as tie
 
@@ -17,9 +18,6 @@ Inv-loop records at count first cells₀ i₀ cells i = (i ≤ count) × (length
 
 abbrev μ-loop : tie.MeasureT-loop
 μ-loop records at count first cells₀ i₀ cells i = count - i
-
-record-rows-requires : tie.Need-record-rows-requires Inv-loop μ-loop
-record-rows-requires c κs = search needs
 
 add-first : tie.Need-add-first Inv-loop μ-loop
 add-first c = omega arith
@@ -80,20 +78,4 @@ returns c =
 
 pub cells-at-spec : {M : Type 1} → statement M
 cells-at-spec =
-    tie.close
-    (tie.spec
-    Inv-loop
-    μ-loop
-    record-rows-requires
-    add-first
-    loop-holds
-    add-cells
-    mul-cells
-    shared-slice-read-cells
-    add-cells-2
-    mul-cells-2
-    array-write-cells
-    add-i
-    loop-less
-    loop-again
-    returns)
+    tie.close (tie.spec Inv-loop μ-loop (λ c κs. search needs) add-first loop-holds add-cells mul-cells shared-slice-read-cells add-cells-2 mul-cells-2 array-write-cells add-i loop-less loop-again returns)

@@ -3,18 +3,19 @@ use Prim.Native.Nat.{ℕ, _+_, _<_}
 use mathlib.Core.Path.{_≡_, sym, ap, _∙_}
 use mathlib.Core.Option.{some}
 use native.Mathlib.Omega.{arith}
+use Rattle.state.specs.Memory.{lends}
 use borrow.Author.Needs.{needs}
 use Rattle.contracts.specs.Answers.{placeOf}
 use Rattle.contracts.specs.Lookup.{placeIn}
-use Rattle.quotebox.specs.declared.state.Asked.the-variants.{Segment}
-use Rattle.quotebox.specs.Memory.{recordAt}
-use Rattle.quotebox.specs.State.{Asks}
+use Rattle.state.specs.declared.state.Asked.the-variants.{Segment}
+use Rattle.state.specs.Slots.{recordAt}
+use Rattle.state.specs.State.{Asks}
 use Rattle.quotebox.specs.RecordLaws.{segment-broken, key-broken, key-holds, record-found, contract-few, record-lent}
 use Rattle.quotebox.proofs.record.find_record.Statement.{statement}
 use Rattle.quotebox.proofs.record.find_record.Tie as tie
 
 asked : (c : tie.After-known-told) → let a = c .before .before .before .before .before .before .before .args in
-    Asks (a .list .now) (a .rows .now) (a .records .now) (a .letter) (Segment (c .before .segment .given .0 .0))
+    Asks (lends (a .list .now) (a .rows .now) (a .records .now)) (a .letter) (Segment (c .before .segment .given .0 .0))
 asked c = rw (c .before .segment .given .1) at (c .before .before .before .check-segment .ensures)
 
 found : (c : tie.After-known-told2) → let told = c .before .before .before .before .before in
@@ -28,22 +29,7 @@ few c =
     let told = c .before .before .before .before .before .before in
     let a = told .before .before .before .before .before .before .before .args in
     rw (c .contracts-before .ensures)
-    (contract-few (a .list .now) (a .rows .now) (a .records .now) (a .letter) (a .key .now) (asked told .0) _ (asked told .1) _ (found (c .before)))
-
-check-segment-requires : tie.Need-check-segment-requires
-check-segment-requires c κs = search needs
-
-enum-known-segment : tie.Need-enum-known-segment
-enum-known-segment c = search needs
-
-place-of-requires : tie.Need-place-of-requires
-place-of-requires c κs = search needs
-
-enum-known-place : tie.Need-enum-known-place
-enum-known-place c = search needs
-
-contracts-before-requires : tie.Need-contracts-before-requires
-contracts-before-requires c κs = search needs
+    (contract-few (lends (a .list .now) (a .rows .now) (a .records .now)) (a .letter) (a .key .now) (asked told .0) _ (asked told .1) _ (found (c .before)))
 
 add-record-at : tie.Need-add-record-at
 add-record-at c = omega (arith, few c)
@@ -51,21 +37,15 @@ add-record-at c = omega (arith, few c)
 record-at-requires : tie.Need-record-at-requires
 record-at-requires c κs = few c
 
-enum-told : tie.Need-enum-told
-enum-told c = search needs
-
-enum-known-refusal : tie.Need-enum-known-refusal
-enum-known-refusal c = search needs
-
 returns : tie.Need-returns
 returns c =
     let b = c .before in
     let told = b .before .before .before .before .before .before in
     let a = told .before .before .before .before .before .before .before .args in
     let at = c .record-at .ensures ∙ ap (λ (n : ℕ). recordAt (n + b .before .before .place .given .0 .0) (a .level)) (b .contracts-before .ensures) in (
-      key-holds (a .list .now) (a .rows .now) (a .records .now) (a .letter) (a .key .now) (asked told .0) _ (asked told .1) _ (found (b .before)),
-      at ∙ record-found (a .list .now) (a .rows .now) (a .records .now) (a .letter) (a .key .now) (asked told .0) _ (asked told .1) _ (found (b .before)) (a .level),
-      rw at (record-lent (a .list .now) (a .rows .now) (a .records .now) (a .letter) (a .key .now) (asked told .0) _ (asked told .1) _ (found (b .before)) (a .level)),
+      key-holds (lends (a .list .now) (a .rows .now) (a .records .now)) (a .letter) (a .key .now) (asked told .0) _ (asked told .1) _ (found (b .before)),
+      at ∙ record-found (lends (a .list .now) (a .rows .now) (a .records .now)) (a .letter) (a .key .now) (asked told .0) _ (asked told .1) _ (found (b .before)) (a .level),
+      rw at (record-lent (lends (a .list .now) (a .rows .now) (a .records .now)) (a .letter) (a .key .now) (asked told .0) _ (asked told .1) _ (found (b .before)) (a .level)),
     )
 
 returns-2 : tie.Need-returns-2
@@ -73,28 +53,15 @@ returns-2 c =
     let d = c .before .before in
     let told = d .before .before in
     let a = told .before .before .before .before .before .before .before .args in
-    key-broken (a .list .now) (a .rows .now) (a .records .now) (a .letter) (a .key .now) (asked told .0) _ (asked told .1)
+    key-broken (lends (a .list .now) (a .rows .now) (a .records .now)) (a .letter) (a .key .now) (asked told .0) _ (asked told .1)
     (sym (d .place-of .ensures) ∙ ap placeOf (c .enum-told .given .1))
 
 returns-3 : tie.Need-returns-3
 returns-3 c =
     let d = c .before .before .before in
     let a = d .before .before .before .before .args in
-    segment-broken (a .list .now) (a .rows .now) (a .records .now) (a .letter) (a .key .now) _ (rw (c .before .refusal .given .1) at (d .check-segment .ensures))
+    segment-broken (lends (a .list .now) (a .rows .now) (a .records .now)) (a .letter) (a .key .now) _ (rw (c .before .refusal .given .1) at (d .check-segment .ensures))
 
 pub find-record-spec : {M : Type 1} → statement M
 find-record-spec =
-    tie.close
-    (tie.spec
-    check-segment-requires
-    enum-known-segment
-    place-of-requires
-    enum-known-place
-    contracts-before-requires
-    add-record-at
-    record-at-requires
-    enum-told
-    enum-known-refusal
-    returns
-    returns-2
-    returns-3)
+    tie.close (tie.spec (λ c κs. search needs) (search needs) (λ c κs. search needs) (search needs) (λ c κs. search needs) add-record-at record-at-requires (search needs) (search needs) returns returns-2 returns-3)

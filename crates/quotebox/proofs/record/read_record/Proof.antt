@@ -1,4 +1,5 @@
 -- What stands at the record's place is read; beside a refusal the quote is blank.
+use Rattle.state.specs.Memory.{lends}
 use borrow.Author.Needs.{needs}
 use Rattle.quotebox.specs.declared.record.Place.the-variants.{At}
 use Rattle.quotebox.specs.Record.{Finds}
@@ -7,45 +8,25 @@ use Rattle.quotebox.proofs.record.read_record.Statement.{statement}
 use Rattle.quotebox.proofs.record.read_record.Tie as tie
 
 found : (c : tie.After-known-told) → let a = c .before .before .before .before .before .before .before .args in
-    Finds (a .list .now) (a .rows .now) (a .records .now) (a .letter) (a .key .now) (a .level) (At (c .before .at .given .0 .0))
+    Finds (lends (a .list .now) (a .rows .now) (a .records .now)) (a .letter) (a .key .now) (a .level) (At (c .before .at .given .0 .0))
 found c = rw (c .before .at .given .1) at (c .before .before .before .find-record .ensures)
-
-find-record-requires : tie.Need-find-record-requires
-find-record-requires c κs = search needs
-
-enum-known-at : tie.Need-enum-known-at
-enum-known-at c = search needs
 
 read-at-requires : tie.Need-read-at-requires
 read-at-requires c κs = found c .2
-
-enum-known-refusal : tie.Need-enum-known-refusal
-enum-known-refusal c = search needs
-
-blank-requires : tie.Need-blank-requires
-blank-requires c κs = search needs
 
 returns : tie.Need-returns
 returns c =
     let told = c .before in
     let a = told .before .before .before .before .before .before .before .args in
-    record-read (a .list .now) (a .rows .now) (a .records .now) (a .letter) (a .key .now) (a .level) (found told .0) (found told .1) (c .read-at .ensures)
+    record-read (lends (a .list .now) (a .rows .now) (a .records .now)) (a .letter) (a .key .now) (a .level) (found told .0) (found told .1) (c .read-at .ensures)
 
 returns-2 : tie.Need-returns-2
 returns-2 c =
     let d = c .before .before .before .before in
     let a = d .before .before .before .before .args in
     rw (c .blank .ensures)
-    (record-refused (a .list .now) (a .rows .now) (a .records .now) (a .letter) (a .key .now) (a .level) _ (rw (c .before .before .refusal .given .1) at (d .find-record .ensures)))
+    (record-refused (lends (a .list .now) (a .rows .now) (a .records .now)) (a .letter) (a .key .now) (a .level) _ (rw (c .before .before .refusal .given .1) at (d .find-record .ensures)))
 
 pub read-record-spec : {M : Type 1} → statement M
 read-record-spec =
-    tie.close
-    (tie.spec
-    find-record-requires
-    enum-known-at
-    read-at-requires
-    enum-known-refusal
-    blank-requires
-    returns
-    returns-2)
+    tie.close (tie.spec (λ c κs. search needs) (search needs) read-at-requires (search needs) (λ c κs. search needs) returns returns-2)

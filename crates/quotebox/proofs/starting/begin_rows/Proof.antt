@@ -5,8 +5,8 @@ use mathlib.Core.List.{List, _++_}
 use native.Mathlib.Omega.{arith}
 use borrow.Author.Needs.{needs}
 use lib.ListN.{length, drop}
-use Rattle.quotebox.specs.Memory.{rowCells, withRow}
-use Rattle.quotebox.specs.RowsLaws.{length-with}
+use Rattle.state.specs.Memory.{gapRowCells, withGapRow}
+use Rattle.state.specs.RowsLaws.{length-with}
 use Rattle.quotebox.specs.Start.{startOf, startedRow, startedRows}
 use Rattle.quotebox.specs.StartLaws.{started-length, started-more}
 use Rattle.quotebox.proofs.starting.begin_rows.Statement.{statement}
@@ -14,19 +14,13 @@ use Rattle.quotebox.proofs.starting.begin_rows.Tie as tie
 
 abbrev Inv-loop : tie.InvT-loop
 Inv-loop starts rows₀ segments row₀ i₀ rows row i =
-    (i ≤ segments) × (length rows ≡ length rows₀) × (rows ≡ startedRows i starts ++ drop (rowCells * i) rows₀)
+    (i ≤ segments) × (length rows ≡ length rows₀) × (rows ≡ startedRows i starts ++ drop (gapRowCells * i) rows₀)
 
 abbrev μ-loop : tie.MeasureT-loop
 μ-loop starts rows₀ segments row₀ i₀ rows row i = segments - i
 
 loop-holds : tie.Need-loop-holds Inv-loop μ-loop
 loop-holds c = (omega arith, refl, refl)
-
-start-of-requires : tie.Need-start-of-requires Inv-loop μ-loop
-start-of-requires c κs = search needs
-
-start-requires : tie.Need-start-requires Inv-loop μ-loop
-start-requires c κs = search needs
 
 put-row-requires : tie.Need-put-row-requires Inv-loop μ-loop
 put-row-requires c κs =
@@ -50,7 +44,7 @@ loop-again c =
     let begun-row : row ≡ startedRow (startOf (a .starts .now) (l .i)) = d .start .ensures .left ∙ ap startedRow (d .before .start-of .ensures) in (
       omega arith,
       ap length (put .ensures) ∙ length-with (l .rows) (l .i) row (omega arith) (ap length begun-row ∙ started-length (startOf (a .starts .now) (l .i))) ∙ l .inv .1,
-      put .ensures ∙ ap₂ (λ (ns : List ℕ) (r : List ℕ). withRow ns (l .i) r) (l .inv .2) begun-row ∙ started-more (a .starts .now) (l .i) (a .rows .now),
+      put .ensures ∙ ap₂ (λ (ns : List ℕ) (r : List ℕ). withGapRow ns (l .i) r) (l .inv .2) begun-row ∙ started-more (a .starts .now) (l .i) (a .rows .now),
     )
 
 same-length : tie.Need-same-length Inv-loop μ-loop
@@ -61,20 +55,8 @@ returns c =
     let l = c .before .loop in
     let a = c .before .before .before .before .args in
     let all : l .i ≡ a .segments = omega arith in
-    l .inv .2 ∙ ap (λ (i : ℕ). startedRows i (a .starts .now) ++ drop (rowCells * i) (a .rows .now)) all
+    l .inv .2 ∙ ap (λ (i : ℕ). startedRows i (a .starts .now) ++ drop (gapRowCells * i) (a .rows .now)) all
 
 pub begin-rows-spec : {M : Type 1} → statement M
 begin-rows-spec =
-    tie.close
-    (tie.spec
-    Inv-loop
-    μ-loop
-    loop-holds
-    start-of-requires
-    start-requires
-    put-row-requires
-    add-i
-    loop-less
-    loop-again
-    same-length
-    returns)
+    tie.close (tie.spec Inv-loop μ-loop loop-holds (λ c κs. search needs) (λ c κs. search needs) put-row-requires add-i loop-less loop-again same-length returns)

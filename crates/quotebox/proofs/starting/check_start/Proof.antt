@@ -20,20 +20,11 @@ tested c =
     let a = c .before .before .before .before .before .before .args in
     ap (λ n. eachStarts n (a .starts .now)) (sym (c .before .segments .ensures)) ∙ sym (c .each-starts .ensures)
 
-sound-requires : tie.Need-sound-requires
-sound-requires c κs = search needs
-
 returns : tie.Need-returns
 returns c =
     let a = c .before .before .before .before .args in
     let fails = not-true (c .before .sound .result) (c .if1 .taken) in
     sym (unsound-list (a .list .now) (a .starts .now) (a .rows) (a .records) (sym (c .before .sound .ensures) ∙ fails))
-
-segments-requires : tie.Need-segments-requires
-segments-requires c κs = search needs
-
-each-starts-requires : tie.Need-each-starts-requires
-each-starts-requires c κs = search needs
 
 returns-2 : tie.Need-returns-2
 returns-2 c =
@@ -41,9 +32,6 @@ returns-2 c =
     let a = d .before .before .before .before .before .before .args in
     let fails = not-true (d .each-starts .result) (c .if2 .taken) in
     sym (no-start (a .list .now) (a .starts .now) (a .rows) (a .records) (held (d .before .before)) (tested d ∙ fails))
-
-check-memory-requires : tie.Need-check-memory-requires
-check-memory-requires c κs = search needs
 
 returns-3 : tie.Need-returns-3
 returns-3 c =
@@ -54,12 +42,4 @@ returns-3 c =
 
 pub check-start-spec : {M : Type 1} → statement M
 check-start-spec =
-    tie.close
-    (tie.spec
-    sound-requires
-    returns
-    segments-requires
-    each-starts-requires
-    returns-2
-    check-memory-requires
-    returns-3)
+    tie.close (tie.spec (λ c κs. search needs) returns (λ c κs. search needs) (λ c κs. search needs) returns-2 (λ c κs. search needs) returns-3)

@@ -18,9 +18,6 @@ abbrev μ-loop : tie.MeasureT-loop
 loop-holds : tie.Need-loop-holds Inv-loop μ-loop
 loop-holds c = (omega arith, refl, fill-none (c .args .records .now) 0)
 
-mul-records : tie.Need-mul-records Inv-loop μ-loop
-mul-records c = search needs
-
 slice-write-records : tie.Need-slice-write-records Inv-loop μ-loop
 slice-write-records c = omega arith
 
@@ -51,15 +48,4 @@ returns c =
 
 pub clear-spec : {M : Type 1} → statement M
 clear-spec =
-    tie.close
-    (tie.spec
-    Inv-loop
-    μ-loop
-    loop-holds
-    mul-records
-    slice-write-records
-    add-i
-    loop-less
-    loop-again
-    same-length
-    returns)
+    tie.close (tie.spec Inv-loop μ-loop loop-holds (search needs) slice-write-records add-i loop-less loop-again same-length returns)

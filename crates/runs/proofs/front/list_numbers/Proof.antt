@@ -8,15 +8,6 @@ use Rattle.runs.proofs.front.list_numbers.Tie as tie
 slice-aggregate-list-gaps : tie.Need-slice-aggregate-list-gaps
 slice-aggregate-list-gaps c = simp length-take (omega arith)
 
-list-gaps-requires : tie.Need-list-gaps-requires
-list-gaps-requires c κs = search needs
-
-same-length : tie.Need-same-length
-same-length c = search needs
-
-returns : tie.Need-returns
-returns c = search needs
-
 pub list-numbers-spec : {M : Type 1} → statement M
 list-numbers-spec =
-    tie.close (tie.spec slice-aggregate-list-gaps list-gaps-requires same-length returns)
+    tie.close (tie.spec slice-aggregate-list-gaps (λ c κs. search needs) (λ c. search needs) (λ c. search needs))

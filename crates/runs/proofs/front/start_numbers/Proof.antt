@@ -7,20 +7,8 @@ use lib.Seq.{take-at, length-take-le}
 use Rattle.runs.proofs.front.start_numbers.Statement.{statement}
 use Rattle.runs.proofs.front.start_numbers.Tie as tie
 
-slice-relend-prefix-start : tie.Need-slice-relend-prefix-start
-slice-relend-prefix-start c = search needs
-
 slice-aggregate-start : tie.Need-slice-aggregate-start
 slice-aggregate-start c = simp length-take (omega arith)
-
-start-requires : tie.Need-start-requires
-start-requires c κs = search needs
-
-same-length : tie.Need-same-length
-same-length c = search needs
-
-same-length-2 : tie.Need-same-length-2
-same-length-2 c = search needs
 
 returns : tie.Need-returns
 returns c =
@@ -31,11 +19,4 @@ returns c =
 
 pub start-numbers-spec : {M : Type 1} → statement M
 start-numbers-spec =
-    tie.close
-    (tie.spec
-    slice-relend-prefix-start
-    slice-aggregate-start
-    start-requires
-    same-length
-    same-length-2
-    returns)
+    tie.close (tie.spec (λ c. search needs) slice-aggregate-start (λ c κs. search needs) (λ c. search needs) (λ c. search needs) returns)

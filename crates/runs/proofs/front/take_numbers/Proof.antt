@@ -7,20 +7,8 @@ use mathlib.Core.Path.{_≡_, _∙_}
 use Rattle.runs.proofs.front.take_numbers.Statement.{statement}
 use Rattle.runs.proofs.front.take_numbers.Tie as tie
 
-slice-relend-prefix-take : tie.Need-slice-relend-prefix-take
-slice-relend-prefix-take c = search needs
-
 slice-aggregate-take : tie.Need-slice-aggregate-take
 slice-aggregate-take c = simp length-take (omega arith)
-
-take-requires : tie.Need-take-requires
-take-requires c κs = search needs
-
-same-length : tie.Need-same-length
-same-length c = search needs
-
-same-length-2 : tie.Need-same-length-2
-same-length-2 c = search needs
 
 returns : tie.Need-returns
 returns c =
@@ -31,11 +19,4 @@ returns c =
 
 pub take-numbers-spec : {M : Type 1} → statement M
 take-numbers-spec =
-    tie.close
-    (tie.spec
-    slice-relend-prefix-take
-    slice-aggregate-take
-    take-requires
-    same-length
-    same-length-2
-    returns)
+    tie.close (tie.spec (λ c. search needs) slice-aggregate-take (λ c κs. search needs) (λ c. search needs) (λ c. search needs) returns)

@@ -7,17 +7,8 @@ use lib.Seq.{take-at, length-take-le}
 use Rattle.runs.proofs.front.write_off_numbers.Statement.{statement}
 use Rattle.runs.proofs.front.write_off_numbers.Tie as tie
 
-slice-relend-prefix-write-off : tie.Need-slice-relend-prefix-write-off
-slice-relend-prefix-write-off c = search needs
-
 slice-aggregate-write-off : tie.Need-slice-aggregate-write-off
 slice-aggregate-write-off c = simp length-take (omega arith)
-
-write-off-requires : tie.Need-write-off-requires
-write-off-requires c κs = search needs
-
-same-length : tie.Need-same-length
-same-length c = search needs
 
 returns : tie.Need-returns
 returns c =
@@ -28,10 +19,4 @@ returns c =
 
 pub write-off-numbers-spec : {M : Type 1} → statement M
 write-off-numbers-spec =
-    tie.close
-    (tie.spec
-    slice-relend-prefix-write-off
-    slice-aggregate-write-off
-    write-off-requires
-    same-length
-    returns)
+    tie.close (tie.spec (λ c. search needs) slice-aggregate-write-off (λ c κs. search needs) (λ c. search needs) returns)

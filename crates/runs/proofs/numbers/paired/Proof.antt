@@ -16,44 +16,8 @@ Inv-loop numbers runs₀ i₀ runs i = (i ≤ 132) × (length runs ≡ 132) × (
 abbrev μ-loop : tie.MeasureT-loop
 μ-loop numbers runs₀ i₀ runs i = 132 - i
 
-blanks-requires : tie.Need-blanks-requires Inv-loop μ-loop
-blanks-requires c κs = search needs
-
 loop-holds : tie.Need-loop-holds Inv-loop μ-loop
 loop-holds c = (omega arith, ap length (c .blanks .ensures), refl)
-
-mul-t7 : tie.Need-mul-t7 Inv-loop μ-loop
-mul-t7 c = omega arith
-
-mul-t8 : tie.Need-mul-t8 Inv-loop μ-loop
-mul-t8 c = omega arith
-
-array-read-t11 : tie.Need-array-read-t11 Inv-loop μ-loop
-array-read-t11 c = omega arith
-
-mul-t12 : tie.Need-mul-t12 Inv-loop μ-loop
-mul-t12 c = omega arith
-
-add-t13 : tie.Need-add-t13 Inv-loop μ-loop
-add-t13 c = omega arith
-
-mul-t14 : tie.Need-mul-t14 Inv-loop μ-loop
-mul-t14 c = omega arith
-
-array-read-t17 : tie.Need-array-read-t17 Inv-loop μ-loop
-array-read-t17 c = omega arith
-
-mul-runs : tie.Need-mul-runs Inv-loop μ-loop
-mul-runs c = omega arith
-
-array-set-from-runs : tie.Need-array-set-from-runs Inv-loop μ-loop
-array-set-from-runs c = omega arith
-
-add-i : tie.Need-add-i Inv-loop μ-loop
-add-i c = omega arith
-
-loop-less : tie.Need-loop-less Inv-loop μ-loop
-loop-less c = omega arith
 
 loop-again : tie.Need-loop-again Inv-loop μ-loop
 loop-again c =
@@ -74,22 +38,4 @@ returns c =
 
 pub paired-spec : {M : Type 1} → statement M
 paired-spec =
-    tie.close
-    (tie.spec
-    Inv-loop
-    μ-loop
-    blanks-requires
-    loop-holds
-    mul-t7
-    mul-t8
-    array-read-t11
-    mul-t12
-    add-t13
-    mul-t14
-    array-read-t17
-    mul-runs
-    array-set-from-runs
-    add-i
-    loop-less
-    loop-again
-    returns)
+    tie.close (tie.spec Inv-loop μ-loop (λ c κs. search needs) loop-holds (λ c. omega arith) (λ c. omega arith) (λ c. omega arith) (λ c. omega arith) (λ c. omega arith) (λ c. omega arith) (λ c. omega arith) (λ c. omega arith) (λ c. omega arith) (λ c. omega arith) (λ c. omega arith) loop-again returns)

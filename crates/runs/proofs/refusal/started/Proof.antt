@@ -4,15 +4,6 @@ use Rattle.runs.specs.Rows.{inRuns}
 use Rattle.runs.proofs.refusal.started.Statement.{statement}
 use Rattle.runs.proofs.refusal.started.Tie as tie
 
-enum-told : tie.Need-enum-told
-enum-told c = search needs
-
-enum-known-answer : tie.Need-enum-known-answer
-enum-known-answer c = search needs
-
-in-runs-requires : tie.Need-in-runs-requires
-in-runs-requires c κs = search needs
-
 returns : tie.Need-returns
 unfolding inRuns
 returns c = rw (c .enum-told .given .1)
@@ -21,4 +12,5 @@ returns-2 : tie.Need-returns-2
 returns-2 c = rw (c .before .before .answer .given .1) (c .in-runs .ensures)
 
 pub started-spec : {M : Type 1} → statement M
-started-spec = tie.close (tie.spec enum-told enum-known-answer in-runs-requires returns returns-2)
+started-spec =
+    tie.close (tie.spec (λ c. search needs) (λ c. search needs) (λ c κs. search needs) returns returns-2)

@@ -4,15 +4,6 @@ use Rattle.runs.specs.Rows.{inRuns}
 use Rattle.runs.proofs.refusal.written_off.Statement.{statement}
 use Rattle.runs.proofs.refusal.written_off.Tie as tie
 
-enum-known-answer : tie.Need-enum-known-answer
-enum-known-answer c = search needs
-
-enum-known-answer-2 : tie.Need-enum-known-answer-2
-enum-known-answer-2 c = search needs
-
-in-runs-requires : tie.Need-in-runs-requires
-in-runs-requires c κs = search needs
-
 returns : tie.Need-returns
 unfolding inRuns
 returns c = rw (c .before .answer .given .1)
@@ -22,4 +13,4 @@ returns-2 c = rw (c .before .before .answer2 .given .1) (c .in-runs .ensures)
 
 pub written-off-spec : {M : Type 1} → statement M
 written-off-spec =
-    tie.close (tie.spec enum-known-answer enum-known-answer-2 in-runs-requires returns returns-2)
+    tie.close (tie.spec (λ c. search needs) (λ c. search needs) (λ c κs. search needs) returns returns-2)

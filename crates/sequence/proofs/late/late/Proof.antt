@@ -4,22 +4,10 @@ use Rattle.sequence.proofs.Taking.{old-took, is-missed}
 use Rattle.sequence.proofs.late.late.Statement.{statement}
 use Rattle.sequence.proofs.late.late.Tie as tie
 
-find-requires : tie.Need-find-requires
-find-requires c κs = search needs
-
-enum-known-i : tie.Need-enum-known-i
-enum-known-i c = search needs
-
 fill-requires : tie.Need-fill-requires
 fill-requires c κs =
     let a = c .before .before .before .before .before .before .args in
     is-missed (a .row .now) (a .number) (c .before .before .i .given .0 .0) (c .before .before .before .before .before .before .pre .0) (rw (c .before .before .i .given .1) at (c .before .before .before .before .find .ensures))
-
-enum-told : tie.Need-enum-told
-enum-told c = search needs
-
-returns : tie.Need-returns
-returns c = search needs
 
 returns-2 : tie.Need-returns-2
 returns-2 c =
@@ -28,4 +16,4 @@ returns-2 c =
 
 pub late-spec : {M : Type 1} → statement M
 late-spec =
-    tie.close (tie.spec find-requires enum-known-i fill-requires enum-told returns returns-2)
+    tie.close (tie.spec (λ c κs. search needs) (λ c. search needs) fill-requires (λ c. search needs) (λ c. search needs) returns-2)

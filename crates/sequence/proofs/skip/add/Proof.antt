@@ -6,27 +6,12 @@ use Rattle.sequence.proofs.Taking.{behind-took, behind-full}
 use Rattle.sequence.proofs.skip.add.Statement.{statement}
 use Rattle.sequence.proofs.skip.add.Tie as tie
 
-number-requires : tie.Need-number-requires
-number-requires c κs = search needs
-
 returns : tie.Need-returns
 returns c = behind-full (c .before .before .before .before .args .row .now) (c .before .before .before .before .args .number) (c .before .before .before .before .pre .0) (c .before .before .before .before .pre .1) (omega arith)
-
-element-copy-out-first : tie.Need-element-copy-out-first
-element-copy-out-first c = search needs
 
 add-first : tie.Need-add-first
 unfolding gapsOf
 add-first c = omega (arith, c .before .before .before .before .before .pre .0 .between, c .before .before .before .before .before .fits .number)
-
-sub-append : tie.Need-sub-append
-sub-append c = search needs
-
-append-requires : tie.Need-append-requires
-append-requires c κs = search needs
-
-element-write-row : tie.Need-element-write-row
-element-write-row c = search needs
 
 returns-2 : tie.Need-returns-2
 unfolding gapsOf
@@ -37,13 +22,4 @@ returns-2 c =
 
 pub add-spec : {M : Type 1} → statement M
 add-spec =
-    tie.close
-    (tie.spec
-    number-requires
-    returns
-    element-copy-out-first
-    add-first
-    sub-append
-    append-requires
-    element-write-row
-    returns-2)
+    tie.close (tie.spec (λ c κs. search needs) returns (λ c. search needs) add-first (λ c. search needs) (λ c κs. search needs) (λ c. search needs) returns-2)

@@ -10,35 +10,17 @@ use Rattle.sequence.specs.declared.late.Place.the-variants.{At}
 use Rattle.sequence.proofs.skip.skip.Statement.{statement}
 use Rattle.sequence.proofs.skip.skip.Tie as tie
 
-element-copy-out-highest : tie.Need-element-copy-out-highest
-element-copy-out-highest c = search needs
-
-find-requires : tie.Need-find-requires
-find-requires c κs = search needs
-
-enum-known-i : tie.Need-enum-known-i
-enum-known-i c = search needs
-
 first-requires : tie.Need-first-requires
 first-requires c κs =
     let a = c .before .before .before .before .before .before .before .before .args in
     let here : Placed (runsOf (a .row .now)) (getD (a .row .now) 1 0) (At (c .before .before .before .i .given .0 .0)) = rw (c .before .before .before .i .given .1) at (c .before .before .before .before .before .find .ensures) in
     sound-stands (a .row .now) (c .before .before .before .i .given .0 .0) (c .before .before .before .before .before .before .before .before .pre .sound) (here .0)
 
-sub-put : tie.Need-sub-put
-sub-put c = search needs
-
 put-requires : tie.Need-put-requires
 put-requires c κs =
     let a = c .before .before .before .before .before .before .before .before .before .before .args in
     let here : Placed (runsOf (a .row .now)) (getD (a .row .now) 1 0) (At (c .before .before .before .before .before .i .given .0 .0)) = rw (c .before .before .before .before .before .i .given .1) at (c .before .before .before .before .before .before .before .find .ensures) in
     (sound-stands (a .row .now) (c .before .before .before .before .before .i .given .0 .0) (c .before .before .before .before .before .before .before .before .before .before .pre .sound) (here .0), sound-row-exactly (a .row .now) .0 (c .before .before .before .before .before .before .before .before .before .before .pre .sound) .1)
-
-element-write-row : tie.Need-element-write-row
-element-write-row c = search needs
-
-enum-told : tie.Need-enum-told
-enum-told c = search needs
 
 add-requires : tie.Need-add-requires
 unfolding gapsOf
@@ -51,21 +33,6 @@ returns c =
     let here : Placed (runsOf (a .row .now)) (getD (a .row .now) 1 0) (At (c .before .before .before .before .before .before .i .given .0 .0)) = rw (c .before .before .before .before .before .before .i .given .1) at (c .before .before .before .before .before .before .before .before .find .ensures) in
     rw (c .put .ensures, c .before .before .first .ensures) (join-took (a .row .now) (a .number) (c .before .before .before .before .before .before .before .before .before .before .before .pre) (c .before .before .before .before .before .before .i .given .0 .0) (here .0) (here .1))
 
-returns-2 : tie.Need-returns-2
-returns-2 c = search needs
-
 pub skip-spec : {M : Type 1} → statement M
 skip-spec =
-    tie.close
-    (tie.spec
-    element-copy-out-highest
-    find-requires
-    enum-known-i
-    first-requires
-    sub-put
-    put-requires
-    element-write-row
-    enum-told
-    add-requires
-    returns
-    returns-2)
+    tie.close (tie.spec (λ c. search needs) (λ c κs. search needs) (λ c. search needs) first-requires (λ c. search needs) put-requires (λ c. search needs) (λ c. search needs) add-requires returns (λ c. search needs))

@@ -5,9 +5,6 @@ use borrow.Author.Needs.{needs}
 use Rattle.wire.proofs.checksum.bit_step.Statement.{statement}
 use Rattle.wire.proofs.checksum.bit_step.Tie as tie
 
-wrapping-add-u16-requires : tie.Need-wrapping-add-u16-requires
-wrapping-add-u16-requires c κs = search needs
-
 returns : tie.Need-returns
 unfolding bitStep
 returns c = simp (eq-eqb _ _ (c .if1 .taken)) (c .before .wrapping-add-u16 .ensures)
@@ -17,4 +14,5 @@ unfolding bitStep
 returns-2 c = simp (ne-eqb _ _ (c .if1 .left), c .before .wrapping-add-u16 .ensures)
 
 pub bit-step-spec : {M : Type 1} → statement M
-bit-step-spec = tie.close (tie.spec wrapping-add-u16-requires returns returns-2)
+bit-step-spec =
+    tie.close (tie.spec (search needs) returns returns-2)

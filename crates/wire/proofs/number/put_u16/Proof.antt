@@ -7,24 +7,6 @@ use borrow.Author.Needs.{needs}
 use Rattle.wire.proofs.number.put_u16.Statement.{statement}
 use Rattle.wire.proofs.number.put_u16.Tie as tie
 
-cast-put-u8 : tie.Need-cast-put-u8
-cast-put-u8 c = search needs
-
-put-u8-requires : tie.Need-put-u8-requires
-put-u8-requires c κs = search needs
-
-add-put-u8 : tie.Need-add-put-u8
-add-put-u8 c = search needs
-
-cast-put-u8-2 : tie.Need-cast-put-u8-2
-cast-put-u8-2 c = search needs
-
-put-u8-requires-2 : tie.Need-put-u8-requires-2
-put-u8-requires-2 c κs = search needs
-
-same-length : tie.Need-same-length
-same-length c = search needs
-
 returns : tie.Need-returns
 returns c =
     let a = c .before .before .before .before .before .before .before .before .before .before .args in
@@ -35,13 +17,4 @@ returns-2 c = sym (past-kept (bytesOf 2 (c .before .before .args .number)) (now 
 
 pub put-u16-spec : {M : Type 1} → statement M
 put-u16-spec =
-    tie.close
-    (tie.spec
-    cast-put-u8
-    put-u8-requires
-    add-put-u8
-    cast-put-u8-2
-    put-u8-requires-2
-    same-length
-    returns
-    returns-2)
+    tie.close (tie.spec (search needs) (search needs) (search needs) (search needs) (search needs) (search needs) returns returns-2)

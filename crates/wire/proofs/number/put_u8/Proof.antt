@@ -9,12 +9,6 @@ use borrow.Author.Needs.{needs}
 use Rattle.wire.proofs.number.put_u8.Statement.{statement}
 use Rattle.wire.proofs.number.put_u8.Tie as tie
 
-slice-write-s : tie.Need-slice-write-s
-slice-write-s c = search needs
-
-same-length : tie.Need-same-length
-same-length c = search needs
-
 returns : tie.Need-returns
 returns c =
     let e : c .before .args .number / 1 % 256 ≡ c .before .args .number = omega arith in
@@ -24,4 +18,5 @@ returns-2 : tie.Need-returns-2
 returns-2 c = sym (past-kept (bytesOf 1 (c .before .args .number)) (now (c .before .args .s)) _ (c .if1 .left))
 
 pub put-u8-spec : {M : Type 1} → statement M
-put-u8-spec = tie.close (tie.spec slice-write-s same-length returns returns-2)
+put-u8-spec =
+    tie.close (tie.spec (search needs) (search needs) returns returns-2)

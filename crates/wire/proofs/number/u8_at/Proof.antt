@@ -6,14 +6,9 @@ use borrow.Author.Needs.{needs}
 use Rattle.wire.proofs.number.u8_at.Statement.{statement}
 use Rattle.wire.proofs.number.u8_at.Tie as tie
 
-shared-slice-read-result : tie.Need-shared-slice-read-result
-shared-slice-read-result c = search needs
-
-returns : tie.Need-returns
-returns c = search needs
-
 returns-2 : tie.Need-returns-2
 returns-2 c = sym (past-zero 1 (now (c .before .args .s)) _ (c .if1 .left))
 
 pub u8-at-spec : {M : Type 1} → statement M
-u8-at-spec = tie.close (tie.spec shared-slice-read-result returns returns-2)
+u8-at-spec =
+    tie.close (tie.spec (search needs) (λ c. search needs) returns-2)

@@ -1,0 +1,44 @@
+// Numbers in text: a price.
+use crate::Kind;
+use crate::Number;
+use crate::Put;
+use crate::read;
+use crate::write;
+ghost use mathlib.Core.Path.{_≡_};
+ghost use lib.ListN.{length};
+ghost use Rattle.amount.specs.Kinds.{price, readAs, writtenAs};
+ghost use Rattle.amount.specs.Write.{Wrote};
+
+// A count of ten-millionths.
+pub struct Price(pub u64);
+
+impl Price {
+    pub const PLACES: usize = 7;
+
+    pub const MAX: u64 = 999_999_999_999_999_999;
+
+    pub const KIND: Kind = Kind {
+        places: Price::PLACES,
+        most: Price::MAX,
+    };
+
+    pub const ZERO: Price = Price(0);
+
+    pub fn of(units: u64) -> Self
+        ensures { λ r. ⌜ r .0 ≡ units ⌝ }
+    {
+        Price(units)
+    }
+
+    pub fn read(text: &[u8]) -> Number
+        ensures { λ r. ⌜ r ≡ readAs price (now (text .entry)) ⌝ }
+    {
+        read::read(text, Price::KIND)
+    }
+
+    pub fn write(self, field: &mut [u8]) -> Put
+        ensures { λ r. ⌜ Wrote (writtenAs price (length (now (field .entry))) (self .0)) (now (field .entry)) r (now (field .exit)) ⌝ }
+    {
+        write::write(self.0, Price::KIND, field)
+    }
+}

@@ -1,0 +1,44 @@
+// Numbers in text: a quantity.
+use crate::Kind;
+use crate::Number;
+use crate::Put;
+use crate::read;
+use crate::write;
+ghost use mathlib.Core.Path.{_≡_};
+ghost use lib.ListN.{length};
+ghost use Rattle.amount.specs.Kinds.{quantity, readAs, writtenAs};
+ghost use Rattle.amount.specs.Write.{Wrote};
+
+// A count of contracts or units.
+pub struct Quantity(pub u64);
+
+impl Quantity {
+    pub const PLACES: usize = 0;
+
+    pub const MAX: u64 = 999_999_999_999;
+
+    pub const KIND: Kind = Kind {
+        places: Quantity::PLACES,
+        most: Quantity::MAX,
+    };
+
+    pub const ZERO: Quantity = Quantity(0);
+
+    pub fn of(units: u64) -> Self
+        ensures { λ r. ⌜ r .0 ≡ units ⌝ }
+    {
+        Quantity(units)
+    }
+
+    pub fn read(text: &[u8]) -> Number
+        ensures { λ r. ⌜ r ≡ readAs quantity (now (text .entry)) ⌝ }
+    {
+        read::read(text, Quantity::KIND)
+    }
+
+    pub fn write(self, field: &mut [u8]) -> Put
+        ensures { λ r. ⌜ Wrote (writtenAs quantity (length (now (field .entry))) (self .0)) (now (field .entry)) r (now (field .exit)) ⌝ }
+    {
+        write::write(self.0, Quantity::KIND, field)
+    }
+}

@@ -1,0 +1,44 @@
+// Numbers in text: turnover.
+use crate::Kind;
+use crate::Number;
+use crate::Put;
+use crate::read;
+use crate::write;
+ghost use mathlib.Core.Path.{_≡_};
+ghost use lib.ListN.{length};
+ghost use Rattle.amount.specs.Kinds.{turnover, readAs, writtenAs};
+ghost use Rattle.amount.specs.Write.{Wrote};
+
+// A count of hundredths.
+pub struct Turnover(pub u64);
+
+impl Turnover {
+    pub const PLACES: usize = 2;
+
+    pub const MAX: u64 = 999_999_999_999_999_999;
+
+    pub const KIND: Kind = Kind {
+        places: Turnover::PLACES,
+        most: Turnover::MAX,
+    };
+
+    pub const ZERO: Turnover = Turnover(0);
+
+    pub fn of(units: u64) -> Self
+        ensures { λ r. ⌜ r .0 ≡ units ⌝ }
+    {
+        Turnover(units)
+    }
+
+    pub fn read(text: &[u8]) -> Number
+        ensures { λ r. ⌜ r ≡ readAs turnover (now (text .entry)) ⌝ }
+    {
+        read::read(text, Turnover::KIND)
+    }
+
+    pub fn write(self, field: &mut [u8]) -> Put
+        ensures { λ r. ⌜ Wrote (writtenAs turnover (length (now (field .entry))) (self .0)) (now (field .entry)) r (now (field .exit)) ⌝ }
+    {
+        write::write(self.0, Turnover::KIND, field)
+    }
+}

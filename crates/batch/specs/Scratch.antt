@@ -1,0 +1,49 @@
+-- The messages of a batch on a copy of their segment's gap row: the words of the inner contracts.
+use Prim.Native.Nat.{ℕ, _+_, _*_, _≤_, _<_}
+use mathlib.Core.Path.{_≡_}
+use mathlib.Core.Bool.{true}
+use mathlib.Core.List.{List}
+use mathlib.Core.Option.{Option, some}
+use lib.ListN.{length}
+use Rattle.contracts.specs.File.{segmentsOf}
+use Rattle.contracts.specs.Sound.{Header}
+use Rattle.message.specs.Fields.{letterOf}
+use Rattle.sequence.specs.Row.{soundGapRow}
+use Rattle.state.specs.declared.answers.Judged.{Judged}
+use Rattle.state.specs.Answers.{judgedNumbers}
+use Rattle.batch.specs.Batch.{Acted, boxOf, messagesAct, actedNumbers, lentAfter}
+use Rattle.state.specs.Memory.{Lent, lends, gapRowCells, gapRowsWanted, gapRowsSound, gapRowOf}
+
+-- a word of our own: every listed segment has a sound row
+pub record RowsReady (list rows : List ℕ) : Type 0 where
+  pub enough : gapRowsWanted list ≤ length rows
+  pub sound : gapRowsSound (segmentsOf list) rows ≡ true
+
+-- a word of our own: the row of a segment is lent, where there is one, and sound
+abbrev pub RowReady : List ℕ → Option ℕ → Type 0
+RowReady rows segment = (i : ℕ) → segment ≡ some i → (gapRowCells * i + gapRowCells ≤ length rows) × (soundGapRow (gapRowOf rows i) ≡ true)
+
+-- a word of our own: the row of a segment, or a sound row where there is none
+pub record ScratchRow (rows : List ℕ) (segment : Option ℕ) (row : List ℕ) : Type 0 where
+  pub sound : soundGapRow row ≡ true
+  pub is : (i : ℕ) → segment ≡ some i → row ≡ gapRowOf rows i
+
+-- a word of our own: the list and the gap rows were checked, and there are messages
+pub record DataReady (list rows : List ℕ) (count : ℕ) : Type 0 where
+  pub header : Header list
+  pub rows-ready : RowsReady list rows
+  pub some-messages : 0 < count
+  pub few : count < 65536
+
+-- a word of our own: what the messages of a batch do
+abbrev pub dataActs : Lent → List ℕ → ℕ → Acted
+dataActs lent bytes count = messagesAct count (lent .list) (letterOf bytes) 0 (boxOf lent (letterOf bytes)) bytes
+
+-- a word of our own: they are judged, whatever the records are
+pub record JudgedData (list rows bytes : List ℕ) (count : ℕ) (answer : Judged) : Type 0 where
+  pub answers : (records : List ℕ) → judgedNumbers answer ≡ actedNumbers (dataActs (lends list rows records) bytes count)
+
+-- a word of our own: they are taken
+pub record TookData (lent : Lent) (bytes : List ℕ) (count : ℕ) (answer : Judged) (lent′ : Lent) : Type 0 where
+  pub answers : judgedNumbers answer ≡ actedNumbers (dataActs lent bytes count)
+  pub left : lent′ ≡ lentAfter lent (letterOf bytes) (dataActs lent bytes count)

@@ -1,0 +1,131 @@
+-- Laws of scratch rows: what is copied or started is one, and on one the messages of a batch do what they do.
+use Prim.Native.Nat.{ℕ, zero, suc, _+_, _*_, _≤_, _<_}
+use mathlib.Core.Path.{_≡_, refl, ap, ap₂, sym, _∙_}
+use mathlib.Core.Bool.{false≢true}
+use mathlib.Core.List.{List}
+use mathlib.Core.Option.{Option, none, some}
+use native.Mathlib.Omega.{arith}
+use lib.ListN.{length}
+use Rattle.laws.specs.Choice.{never}
+use Rattle.contracts.specs.BelowLaws.{each-passes}
+use Rattle.contracts.specs.File.{segmentsOf}
+use Rattle.contracts.specs.Lookup.{segmentOf}
+use Rattle.contracts.specs.LookupLaws.{segment-has}
+use Rattle.contracts.specs.Sound.{Header}
+use Rattle.message.specs.declared.body.What.{What}
+use Rattle.message.specs.declared.body.What.the-variants as what
+use Rattle.message.specs.declared.head.Head.the-variants.{Good}
+use Rattle.message.specs.Fields.{letterOf}
+use Rattle.message.specs.HeadLaws.{listed-exact}
+use Rattle.message.specs.Message.{messageOf}
+use Rattle.message.specs.Numbers.{verdictOf}
+use Rattle.message.specs.GoodLaws.{good-exact}
+use Rattle.sequence.specs.Promises.{Began}
+use Rattle.sequence.specs.PromisesLaws.{began-row}
+use Rattle.sequence.specs.Row.{soundGapRow}
+use Rattle.batch.specs.declared.act.InTurn.{InTurn}
+use Rattle.state.specs.declared.answers.Judged.{Judged}
+use Rattle.state.specs.declared.answers.Judged.the-variants.{Accepted, Refused}
+use Rattle.state.specs.declared.refusal.Refusal.{Refusal}
+use Rattle.batch.specs.Acts.{boxAt, InFront, Ready, Left, JudgedMessages, none as noCounts}
+use Rattle.batch.specs.ActsLaws.{acts-as}
+use Rattle.state.specs.Answers.{judgedNumbers}
+use Rattle.batch.specs.Batch.{Box, acted, refused, messageActs, messagesAct, actedNumbers, boxOf, lentAfter}
+use Rattle.state.specs.Memory.{lends, withGapRowOfLetter, gapRowIn, gapRowCells, gapRowOf}
+use Rattle.batch.specs.MessagesLaws.{messages-refused, not-both}
+use Rattle.state.specs.Refusals.{ofFault}
+use Rattle.batch.specs.BatchLaws.{accepted-box, refused-is}
+use Rattle.batch.specs.Scratch.{RowsReady, RowReady, ScratchRow, dataActs, JudgedData, TookData}
+use Rattle.stores.specs.Stores.{made, Room}
+
+module _ (list : List ℕ) (letter : ℕ) (unlisted : segmentOf list letter ≡ none) where
+  -- 5 or 6: where no segment has the letter no message is good
+  pub never-good : (bytes : List ℕ) → verdictOf (messageOf list letter bytes .what) ≡ Good → ⊥
+  never-good bytes g =
+      let l = listed-exact list letter .1 (good-exact list letter bytes .0 g .code .listed) in
+      false≢true (rw unlisted at l)
+
+  refuses : (bytes : List ℕ) (i : ℕ) → (refusal : Refusal) × ((box : Box) → messageActs list letter box i bytes ≡ refused refusal)
+  refuses bytes i = go (messageOf list letter bytes .what) refl
+    where
+      go : (w : What) → messageOf list letter bytes .what ≡ w → (refusal : Refusal) × ((box : Box) → messageActs list letter box i bytes ≡ refused refusal)
+      go (what.Bad fault) e = (ofFault fault i, λ box. acts-as list letter bytes (messageOf list letter bytes) refl e box i)
+      go what.Heartbeat e = absurd (never-good bytes (ap verdictOf e))
+      go (what.PassedOver number) e = absurd (never-good bytes (ap verdictOf e))
+      go (what.Update number form place) e = absurd (never-good bytes (ap verdictOf e))
+
+  -- so that the box doesn't matter
+  any-box : (count : ℕ) (bytes : List ℕ) (box box′ : Box) → 0 < count → messagesAct count list letter 0 box bytes ≡ messagesAct count list letter 0 box′ bytes
+  any-box zero bytes box box′ h = absurd (omega arith)
+  any-box (suc more) bytes box box′ h =
+      let r = refuses bytes 0 in
+      messages-refused list letter more 0 box bytes (r .0) (r .1 box) ∙ sym (messages-refused list letter more 0 box′ bytes (r .0) (r .1 box′))
+
+  -- and no batch is accepted
+  pub none-accepted : (count : ℕ) (bytes : List ℕ) (box final : Box) → 0 < count → messagesAct count list letter 0 box bytes ≡ acted final → ⊥
+  none-accepted zero bytes box final h e = omega arith
+  none-accepted (suc more) bytes box final h e =
+      let r = refuses bytes 0 in
+      not-both (sym (messages-refused list letter more 0 box bytes (r .0) (r .1 box)) ∙ e)
+
+pub row-ready : (list rows : List ℕ) (letter : ℕ) → RowsReady list rows → RowReady rows (segmentOf list letter)
+row-ready list rows letter ready i listed =
+    let inside = segment-has list letter i listed .0 in
+    (omega (arith, inside, ready .enough), each-passes (λ i. soundGapRow (gapRowOf rows i)) (segmentsOf list) (ready .sound) i inside)
+
+-- the contracts in front of a segment and its row are what the messages of its letter are judged with
+pub front-ready : (list : List ℕ) (letter before : ℕ) (rows row stores : List ℕ) (segment : Option ℕ) → segment ≡ segmentOf list letter
+    → Header list → InFront list segment before → ScratchRow rows segment row → Ready list letter segment before row stores 0
+front-ready list letter before rows row stores segment is header front scratch =
+    record { header = header; segment-is = is; before-is = rw is at front; sound = scratch .sound; within = omega arith }
+
+module _ (rows : List ℕ) (segment : Option ℕ) where
+  pub row-copied : RowReady rows segment → (i : ℕ) → segment ≡ some i → (row : List ℕ) → row ≡ gapRowOf rows i → ScratchRow rows segment row
+  row-copied ready i listed row e =
+      record { sound = rw e (ready i listed .1); is = λ other f. let same : i ≡ other = cc in e ∙ ap (gapRowOf rows) same }
+
+  pub row-started : segment ≡ none → (row : List ℕ) → Began 1 row → ScratchRow rows segment row
+  row-started unlisted row b = record { sound = began-row (omega arith) b; is = λ i e. absurd (never (sym unlisted ∙ e)) }
+
+module _ (list rows : List ℕ) (letter : ℕ) where
+  -- on scratch the messages do what they do to the box
+  module _ (row bytes : List ℕ) (count : ℕ) (s : ScratchRow rows (segmentOf list letter) row) (h : 0 < count) (e : letter ≡ letterOf bytes) where
+    scratch-acts : (records : List ℕ) → messagesAct count list letter 0 (boxAt row records noCounts) bytes ≡ dataActs (lends list rows records) bytes count
+    scratch-acts records = go (segmentOf list letter) refl ∙ ap (λ (l : ℕ). messagesAct count list l 0 (boxOf (lends list rows records) l) bytes) e
+      where
+        go : (o : Option ℕ) → segmentOf list letter ≡ o → messagesAct count list letter 0 (boxAt row records noCounts) bytes ≡ messagesAct count list letter 0 (boxOf (lends list rows records) letter) bytes
+        go none f = any-box list letter f count bytes (boxAt row records noCounts) (boxOf (lends list rows records) letter) h
+        go (some segment) f = ap (λ (r : List ℕ). messagesAct count list letter 0 (boxAt r records noCounts) bytes) (s .is segment f ∙ sym (ap (gapRowIn rows) f))
+
+    module _ (cells : ℕ) (turn : InTurn) (row′ stores′ : List ℕ) (j : JudgedMessages list letter row cells bytes count turn row′ stores′) where
+      pub scratch-judged : JudgedData list rows bytes count (turn .answer)
+      scratch-judged = record { answers = λ records. j .answers records ∙ ap actedNumbers (scratch-acts records) }
+
+      module _ (records : List ℕ) where
+        answered : {answer : Judged} → turn .answer ≡ answer → judgedNumbers answer ≡ actedNumbers (dataActs (lends list rows records) bytes count)
+        answered f = ap judgedNumbers (sym f) ∙ scratch-judged .answers records
+
+        -- a refusal leaves everything
+        pub scratch-refused : (refusal : Refusal) → turn .answer ≡ Refused refusal → TookData (lends list rows records) bytes count (turn .answer) (lends list rows records)
+        scratch-refused refusal f =
+            let r = refused-is (dataActs (lends list rows records) bytes count) refusal (answered f) in
+            record {
+              answers = scratch-judged .answers records;
+              left = ap (lentAfter (lends list rows records) (letterOf bytes)) (sym (r .1));
+            }
+
+        module _ {taken old heartbeats : ℕ} (f : turn .answer ≡ Accepted taken old heartbeats) where
+          pub scratch-left : (box : Box) × (dataActs (lends list rows records) bytes count ≡ acted box) × Left list (Room cells (length bytes)) records box (turn .kept) row′ stores′
+          scratch-left = let d = accepted-box (dataActs (lends list rows records) bytes count) (answered f) in (d .0, d .1, j .leaves records (d .0) (scratch-acts records ∙ d .1))
+
+          -- the row put back and the stores made are what the messages do
+          pub scratch-taken : Room cells (length bytes)
+              → TookData (lends list rows records) bytes count (turn .answer) (lends list (withGapRowOfLetter list letter rows row′) (made (turn .kept) stores′ records))
+          scratch-taken room =
+              let l = scratch-left in
+              let put : withGapRowOfLetter list letter rows row′ ≡ withGapRowOfLetter list (letterOf bytes) rows (l .0 .row) =
+              ap (withGapRowOfLetter list letter rows) (sym (l .2 .row-is)) ∙ ap (λ (n : ℕ). withGapRowOfLetter list n rows (l .0 .row)) e in
+              record {
+                answers = scratch-judged .answers records;
+                left = ap₂ (lends list) put (sym (l .2 .records-are room)) ∙ ap (lentAfter (lends list rows records) (letterOf bytes)) (sym (l .1));
+              }

@@ -1,0 +1,177 @@
+// A batch: judged whole on scratch memory, and applied only where every message has passed.
+ghost use mathlib.Core.Path.{_≡_};
+ghost use mathlib.Core.List.{_++_};
+ghost use lib.ListN.{length};
+ghost use Rattle.laws.specs.Rules.{firstBroken};
+ghost use Rattle.contracts.specs.Answers.{placeOf};
+ghost use Rattle.state.specs.Memory.{lends};
+ghost use Rattle.state.specs.State.{checkedRefusal, stateRules};
+ghost use Rattle.batch.specs.Batch.{batchRules};
+ghost use Rattle.state.specs.Slots.{recordsWanted};
+ghost use Rattle.batch.specs.Acts.{InFront};
+ghost use Rattle.batch.specs.Promises.{JudgedBatch, TookBatch};
+ghost use Rattle.batch.specs.Scratch.{DataReady, JudgedData, TookData};
+ghost use Rattle.stores.specs.Stores.{Room};
+ghost use Prim.Native.Nat.{_≤_};
+use crate::act;
+use crate::scratch;
+use contracts::Found;
+use state::Checked;
+use state::Judged;
+use state::Refusal;
+
+// The bytes of flag, data size and number of messages.
+const FRONT: usize = 5;
+
+const MOST_DATA: usize = 32767;
+
+// The bytes of a level 1 update, the shortest.
+const LEAST_UPDATE: usize = 249;
+
+// The updates whose stores find room in the scratch memory of a short batch.
+const FEW: usize = 4;
+
+// The updates that the longest data can hold.
+const MOST: usize = MOST_DATA / LEAST_UPDATE;
+
+// Data under so many bytes holds a few updates at most.
+const MANY_DATA: usize = (FEW + 1) * LEAST_UPDATE;
+
+// Under 5 bytes (1), flag (2, 3), the rest of 1, no messages (4).
+fn check(batch: &[u8]) -> Checked
+    ensures { λ r. ⌜ checkedRefusal r ≡ firstBroken (batchRules (now (batch .entry))) ⌝ }
+{
+    if batch.len() < FRONT {
+        return Checked::Refused(Refusal::Size);
+    }
+    let flag = wire::u8_at(batch, 0);
+    if flag == 0 {
+        return Checked::Refused(Refusal::Packed);
+    }
+    if 1 < flag {
+        return Checked::Refused(Refusal::Flag);
+    }
+    let size = wire::u16_at(batch, 1) as usize;
+    if MOST_DATA < size {
+        return Checked::Refused(Refusal::Size);
+    }
+    if batch.len() != size + FRONT {
+        return Checked::Refused(Refusal::Size);
+    }
+    if wire::u16_at(batch, 3) == 0 {
+        return Checked::Refused(Refusal::Count);
+    }
+    Checked::Good
+}
+
+// The state, and then the batch before its messages.
+fn check_all(list: &[u8], rows: &[u32], records: &[u64], batch: &[u8]) -> Checked
+    ensures { λ r. ⌜ checkedRefusal r ≡ firstBroken (stateRules (lends (now (list .entry)) (now (rows .entry)) (now (records .entry))) ++ batchRules (now (batch .entry))) ⌝ }
+{
+    match state::check_state(list, rows, records) {
+        Checked::Refused(refusal) => Checked::Refused(refusal),
+        Checked::Good => check(batch),
+    }
+}
+
+// How many contracts stand in front of a segment.
+fn before(list: &[u8], segment: Found) -> usize
+    ensures { λ r. ⌜ InFront (now (list .entry)) (placeOf segment) r ⌝ }
+{
+    match segment {
+        Found::At(i) => contracts::contracts_before(list, i),
+        Found::Nowhere => 0,
+    }
+}
+
+// The messages, on scratch memory that has no room for a store.
+fn judge_data(list: &[u8], rows: &[u32], data: &[u8], count: usize) -> Judged
+    requires { ⌜ DataReady (now list) (now rows) count ⌝ }
+    ensures { λ r. ⌜ JudgedData (now (list .entry)) (now (rows .entry)) (now («data» .entry)) count r ⌝ }
+{
+    let letter = message::letter_of(data);
+    let segment = contracts::segment_of(list, letter);
+    let before = before(list, segment);
+    let mut row = scratch::row_in(rows, segment);
+    let mut stores = [0u64; 1];
+    let turn = act::judge_messages(
+        list,
+        letter,
+        segment,
+        before,
+        &mut row,
+        &mut stores,
+        data,
+        count,
+    );
+    turn.answer
+}
+
+pub fn judge(list: &[u8], rows: &[u32], records: &[u64], batch: &[u8]) -> Judged
+    ensures { λ r. ⌜ JudgedBatch (lends (now (list .entry)) (now (rows .entry)) (now (records .entry))) (now (batch .entry)) r ⌝ }
+{
+    match check_all(list, rows, records, batch) {
+        Checked::Refused(refusal) => Judged::Refused(refusal),
+        Checked::Good => {
+            let count = wire::u16_at(batch, 3) as usize;
+            judge_data(list, rows, &batch[FRONT..], count)
+        }
+    }
+}
+
+// The messages, on scratch memory with room for their stores. Nothing lent is written before the last message has passed.
+fn take_on(
+    list: &[u8],
+    rows: &mut [u32],
+    records: &mut [u64],
+    stores: &mut [u64],
+    data: &[u8],
+    count: usize,
+) -> Judged
+    requires { ⌜ DataReady (now list) (now rows) count × (recordsWanted (now list) ≤ length (now records)) × Room (length (now stores)) (length (now «data»)) ⌝ }
+    ensures { λ r. ⌜ TookData (lends (now (list .entry)) (now (rows .entry)) (now (records .entry))) (now («data» .entry)) count r (lends (now (list .entry)) (now (rows .exit)) (now (records .exit))) ⌝ }
+{
+    let letter = message::letter_of(data);
+    let segment = contracts::segment_of(list, letter);
+    let before = before(list, segment);
+    let mut row = scratch::row_in(rows, segment);
+    let turn = act::judge_messages(list, letter, segment, before, &mut row, stores, data, count);
+    let answer = turn.answer;
+    let kept = turn.kept;
+    if let Judged::Accepted(_, _, _) = answer {
+        scratch::put_row_in(rows, segment, &row);
+        stores::make_all(records, stores, kept);
+    }
+    answer
+}
+
+// Scratch memory is cleared before it is used, so a short batch gets little.
+fn take_data(
+    list: &[u8],
+    rows: &mut [u32],
+    records: &mut [u64],
+    data: &[u8],
+    count: usize,
+) -> Judged
+    requires { ⌜ DataReady (now list) (now rows) count × (recordsWanted (now list) ≤ length (now records)) × (length (now «data») ≤ 32767) ⌝ }
+    ensures { λ r. ⌜ TookData (lends (now (list .entry)) (now (rows .entry)) (now (records .entry))) (now («data» .entry)) count r (lends (now (list .entry)) (now (rows .exit)) (now (records .exit))) ⌝ }
+{
+    if data.len() < MANY_DATA {
+        let mut few = [0u64; FEW * stores::STORE];
+        return take_on(list, rows, records, &mut few, data, count);
+    }
+    let mut most = [0u64; MOST * stores::STORE];
+    take_on(list, rows, records, &mut most, data, count)
+}
+
+pub fn take(list: &[u8], rows: &mut [u32], records: &mut [u64], batch: &[u8]) -> Judged
+    ensures { λ r. ⌜ TookBatch (lends (now (list .entry)) (now (rows .entry)) (now (records .entry))) (now (batch .entry)) r (lends (now (list .entry)) (now (rows .exit)) (now (records .exit))) ⌝ }
+{
+    match check_all(list, rows, records, batch) {
+        Checked::Refused(refusal) => Judged::Refused(refusal),
+        Checked::Good => {
+            let count = wire::u16_at(batch, 3) as usize;
+            take_data(list, rows, records, &batch[FRONT..], count)
+        }
+    }
+}

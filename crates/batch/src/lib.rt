@@ -1,0 +1,7 @@
+// A batch: judging it, and taking it.
+mod act;
+mod batch;
+mod scratch;
+
+pub use batch::judge;
+pub use batch::take;

@@ -1,0 +1,35 @@
+// The gap row that a batch is judged on: a copy of its segment's, put back once every message has passed. The batch has found
+// its segment, and hands it on.
+ghost use mathlib.Core.Path.{_≡_};
+ghost use lib.ListN.{length};
+ghost use Rattle.contracts.specs.Answers.{placeOf};
+ghost use Rattle.state.specs.Memory.{withGapRowIn, gapRowCells};
+ghost use Rattle.batch.specs.Scratch.{RowReady, ScratchRow};
+use contracts::Found;
+use sequence::CELLS;
+
+// The gap row of a segment; where there is none, a row that nothing was taken in.
+pub(crate) fn row_in(rows: &[u32], segment: Found) -> [u32; CELLS]
+    requires { ⌜ RowReady (now rows) (placeOf segment) ⌝ }
+    ensures { λ r. ⌜ ScratchRow (now (rows .entry)) (placeOf segment) r ⌝ }
+{
+    match segment {
+        Found::At(i) => state::row_of(rows, i),
+        Found::Nowhere => {
+            let mut row = [0u32; CELLS];
+            sequence::start(&mut row, 1);
+            row
+        }
+    }
+}
+
+// The gap row of a segment, put back.
+pub(crate) fn put_row_in(rows: &mut [u32], segment: Found, row: &[u32; CELLS])
+    requires { ⌜ RowReady (now rows) (placeOf segment) × (length (now row) ≡ gapRowCells) ⌝ }
+    ensures { λ _. ⌜ now (rows .exit) ≡ withGapRowIn (now (rows .entry)) (now (row .entry)) (placeOf segment) ⌝ }
+{
+    match segment {
+        Found::At(i) => state::put_row(rows, i, row),
+        Found::Nowhere => {}
+    }
+}

@@ -1,0 +1,13 @@
+-- No level has more rows than level 2.
+use borrow.Author.Needs.{needs}
+use native.Mathlib.Omega.{arith}
+use Rattle.state.specs.SlotsLaws.{rows-few}
+use Rattle.commands.proofs.length.rows_at.Statement.{statement}
+use Rattle.commands.proofs.length.rows_at.Tie as tie
+
+returns : tie.Need-returns
+returns c = omega (arith, rows-few (c .before .args .level))
+
+pub rows-at-spec : {M : Type 1} → statement M
+rows-at-spec =
+    tie.close (tie.spec (search needs) returns)

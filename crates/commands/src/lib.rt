@@ -1,0 +1,18 @@
+// The commands of the test bench: how long each is, reading the next one, and what it tells.
+mod fields;
+mod length;
+mod reading;
+
+pub use fields::batch_in;
+pub use fields::code_in;
+pub use fields::key_at;
+pub use fields::level_of;
+pub use fields::quote_in;
+pub use fields::starts_in;
+pub use length::LENGTH_FRONT;
+pub use length::READ_KEY;
+pub use length::WRITE_KEY;
+pub use length::WRITE_ROOM;
+pub use length::rows_at;
+pub use reading::Command;
+pub use reading::next;

@@ -1,0 +1,21 @@
+-- Each form by computing.
+use Rattle.forms.specs.Forms.{namedRows, rowsOf}
+use borrow.Author.Needs.{needs}
+use Rattle.forms.proofs.forms.data_length.Statement.{statement}
+use Rattle.forms.proofs.forms.data_length.Tie as tie
+
+returns : tie.Need-returns
+unfolding rowsOf namedRows
+returns c = rw (c .enum-told .given .1)
+
+returns-2 : tie.Need-returns-2
+unfolding rowsOf namedRows
+returns-2 c = rw (c .enum-told2 .given .1)
+
+returns-3 : tie.Need-returns-3
+unfolding rowsOf namedRows
+returns-3 c = rw (c .enum-told3 .given .1)
+
+pub data-length-spec : {M : Type 1} → statement M
+data-length-spec =
+    tie.close (tie.spec (search needs) (search needs) (search needs) returns returns-2 returns-3)

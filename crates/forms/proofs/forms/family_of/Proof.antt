@@ -1,0 +1,22 @@
+-- D, T, and every other letter.
+use borrow.Author.Tests.{ne-eqb}
+use Rattle.forms.specs.Forms.{formsOf}
+use borrow.Author.Needs.{needs}
+use Rattle.forms.proofs.forms.family_of.Statement.{statement}
+use Rattle.forms.proofs.forms.family_of.Tie as tie
+
+returns : tie.Need-returns
+unfolding formsOf
+returns c = rw (c .before .match .keys1) (c .family-of-second .ensures)
+
+returns-2 : tie.Need-returns-2
+unfolding formsOf
+returns-2 c = rw (c .before .match .keys2) (c .family-of-second2 .ensures)
+
+returns-3 : tie.Need-returns-3
+unfolding formsOf
+returns-3 c = simp (ne-eqb _ _ (c .match .rest .0 .1), ne-eqb _ _ (c .match .rest .1))
+
+pub family-of-spec : {M : Type 1} → statement M
+family-of-spec =
+    tie.close (tie.spec (search needs) (search needs) returns returns-2 returns-3)

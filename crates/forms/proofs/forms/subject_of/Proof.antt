@@ -1,0 +1,17 @@
+-- Each form by computing.
+use borrow.Author.Needs.{needs}
+use Rattle.forms.proofs.forms.subject_of.Statement.{statement}
+use Rattle.forms.proofs.forms.subject_of.Tie as tie
+
+returns : tie.Need-returns
+returns c = rw (c .enum-told .given .1)
+
+returns-2 : tie.Need-returns-2
+returns-2 c = rw (c .enum-told2 .given .1)
+
+returns-3 : tie.Need-returns-3
+returns-3 c = rw (c .enum-told3 .given .1)
+
+pub subject-of-spec : {M : Type 1} → statement M
+subject-of-spec =
+    tie.close (tie.spec (search needs) (search needs) (search needs) returns returns-2 returns-3)

@@ -1,0 +1,274 @@
+// The forms of messages as data: which code and length name which form, and what a form has.
+ghost use mathlib.Core.Path.{_≡_};
+ghost use lib.ListN.{length};
+ghost use Rattle.forms.specs.Rows.{padded, dataLength};
+ghost use Rattle.forms.specs.Forms.{rowsOf, subjectOf, recordForm, formsOf, formOf, sumRule, writtenForm};
+ghost use Rattle.forms.specs.Inner.{familyForms};
+use crate::rows::Level;
+use crate::rows::Row;
+
+// What the longest form has, and a contract key.
+pub const MOST_ROWS: usize = 37;
+
+pub const MOST_DATA: usize = 494;
+
+pub const KEY_ROWS: usize = 5;
+
+pub const KEY_BYTES: usize = 39;
+
+// What a message has beside its data.
+pub const BARE: usize = 11;
+
+// Level 1 has fewer rows and less data than level 2, which has the most.
+const LEVEL_ONE_ROWS: usize = 19;
+
+const LEVEL_ONE_DATA: usize = 238;
+
+const LEVEL_ONE_LENGTH: usize = LEVEL_ONE_DATA + BARE;
+
+const LEVEL_TWO_LENGTH: usize = MOST_DATA + BARE;
+
+pub enum Form {
+    Heartbeat,
+    LevelOne,
+    LevelTwo,
+}
+
+// What a form tells of.
+pub enum Subject {
+    Nothing,
+    Contract(Level),
+}
+
+// What the two bytes of the sum may be.
+pub enum Sum {
+    Zero,
+    Right,
+    RightOrZero,
+}
+
+// What a code and a length name.
+pub enum Named {
+    Form(Form),
+    // A code of the table with none of its lengths.
+    NoLength,
+    // Framed, checked and counted, with no field looked at.
+    PassedOver,
+}
+
+// The codes of the table that have the same forms.
+enum Family {
+    Heartbeat,
+    Contract,
+    Outside,
+}
+
+// The form that is written for a code and a level.
+pub enum Chosen {
+    Form(Form),
+    NoForm,
+}
+
+// The papers' widths.
+const PRICE: Row = Row::Price(17);
+
+const QUANTITY: Row = Row::Quantity(12);
+
+const TURNOVER: Row = Row::Turnover(25);
+
+// A row behind the last, which is never looked at.
+const NO_ROW: Row = Row::Key(0);
+
+const NO_ROWS: [Row; MOST_ROWS] = [NO_ROW; MOST_ROWS];
+
+// 000 section 4.4 and 003 section 4.5.
+const LEVEL_ONE: [Row; MOST_ROWS] = [
+    Row::Key(6),
+    Row::Key(10),
+    Row::Key(11),
+    Row::Key(10),
+    Row::Key(2),
+    Row::MarketType,
+    PRICE,
+    QUANTITY,
+    PRICE,
+    QUANTITY,
+    PRICE,
+    QUANTITY,
+    Row::Status,
+    PRICE,
+    PRICE,
+    PRICE,
+    PRICE,
+    PRICE,
+    TURNOVER,
+    NO_ROW,
+    NO_ROW,
+    NO_ROW,
+    NO_ROW,
+    NO_ROW,
+    NO_ROW,
+    NO_ROW,
+    NO_ROW,
+    NO_ROW,
+    NO_ROW,
+    NO_ROW,
+    NO_ROW,
+    NO_ROW,
+    NO_ROW,
+    NO_ROW,
+    NO_ROW,
+    NO_ROW,
+    NO_ROW,
+];
+
+// 000 section 4.5 and 003 section 4.6.
+const LEVEL_TWO: [Row; MOST_ROWS] = [
+    Row::Key(6),
+    Row::Key(10),
+    Row::Key(11),
+    Row::Key(10),
+    Row::Key(2),
+    Row::MarketType,
+    PRICE,
+    QUANTITY,
+    PRICE,
+    QUANTITY,
+    PRICE,
+    QUANTITY,
+    PRICE,
+    QUANTITY,
+    PRICE,
+    QUANTITY,
+    PRICE,
+    QUANTITY,
+    PRICE,
+    QUANTITY,
+    PRICE,
+    QUANTITY,
+    PRICE,
+    QUANTITY,
+    PRICE,
+    QUANTITY,
+    PRICE,
+    QUANTITY,
+    Row::Status,
+    PRICE,
+    PRICE,
+    PRICE,
+    PRICE,
+    PRICE,
+    QUANTITY,
+    QUANTITY,
+    TURNOVER,
+];
+
+pub fn rows_of(form: Form) -> [Row; MOST_ROWS]
+    ensures { λ r. ⌜ r ≡ padded (rowsOf form) ⌝ }
+{
+    match form {
+        Form::Heartbeat => NO_ROWS,
+        Form::LevelOne => LEVEL_ONE,
+        Form::LevelTwo => LEVEL_TWO,
+    }
+}
+
+pub fn count_of(form: Form) -> usize
+    ensures { λ r. ⌜ r ≡ length (rowsOf form) ⌝ }
+{
+    match form {
+        Form::Heartbeat => 0,
+        Form::LevelOne => LEVEL_ONE_ROWS,
+        Form::LevelTwo => MOST_ROWS,
+    }
+}
+
+pub fn data_length(form: Form) -> usize
+    ensures { λ r. ⌜ r ≡ dataLength (rowsOf form) ⌝ }
+{
+    match form {
+        Form::Heartbeat => 0,
+        Form::LevelOne => LEVEL_ONE_DATA,
+        Form::LevelTwo => MOST_DATA,
+    }
+}
+
+pub fn subject_of(form: Form) -> Subject
+    ensures { λ r. ⌜ r ≡ subjectOf form ⌝ }
+{
+    match form {
+        Form::Heartbeat => Subject::Nothing,
+        Form::LevelOne => Subject::Contract(Level::One),
+        Form::LevelTwo => Subject::Contract(Level::Two),
+    }
+}
+
+// The form whose rows a contract's record of that level keeps.
+pub fn record_form(level: Level) -> Form
+    ensures { λ r. ⌜ r ≡ recordForm level ⌝ }
+{
+    match level {
+        Level::One => Form::LevelOne,
+        Level::Two => Form::LevelTwo,
+    }
+}
+
+// D and T have the same codes.
+fn family_of_second(second: u8) -> Family
+    ensures { λ r. ⌜ familyForms r ≡ formsOf 0x44 second ⌝ }
+{
+    match second {
+        b'H' => Family::Heartbeat,
+        b'N' => Family::Contract,
+        _ => Family::Outside,
+    }
+}
+
+fn family_of(letter: u8, second: u8) -> Family
+    ensures { λ r. ⌜ familyForms r ≡ formsOf letter second ⌝ }
+{
+    match letter {
+        b'D' => family_of_second(second),
+        b'T' => family_of_second(second),
+        _ => Family::Outside,
+    }
+}
+
+// Where both levels print one code, the length tells them apart.
+pub fn form_of(letter: u8, second: u8, length: usize) -> Named
+    ensures { λ r. ⌜ r ≡ formOf letter second length ⌝ }
+{
+    match family_of(letter, second) {
+        Family::Heartbeat => match length {
+            BARE => Named::Form(Form::Heartbeat),
+            _ => Named::NoLength,
+        },
+        Family::Contract => match length {
+            LEVEL_ONE_LENGTH => Named::Form(Form::LevelOne),
+            LEVEL_TWO_LENGTH => Named::Form(Form::LevelTwo),
+            _ => Named::NoLength,
+        },
+        Family::Outside => Named::PassedOver,
+    }
+}
+
+// The code alone decides, and not the length.
+pub fn sum_rule(letter: u8, second: u8) -> Sum
+    ensures { λ r. ⌜ r ≡ sumRule letter second ⌝ }
+{
+    match family_of(letter, second) {
+        Family::Heartbeat => Sum::Zero,
+        Family::Contract => Sum::Right,
+        Family::Outside => Sum::RightOrZero,
+    }
+}
+
+pub fn written_form(letter: u8, second: u8, level: Level) -> Chosen
+    ensures { λ r. ⌜ r ≡ writtenForm letter second level ⌝ }
+{
+    match family_of(letter, second) {
+        Family::Heartbeat => Chosen::Form(Form::Heartbeat),
+        Family::Contract => Chosen::Form(record_form(level)),
+        Family::Outside => Chosen::NoForm,
+    }
+}

@@ -1,0 +1,25 @@
+// The forms of messages as data: which code and length name which form, and the rows of each.
+mod forms;
+mod rows;
+
+pub use forms::BARE;
+pub use forms::Chosen;
+pub use forms::Form;
+pub use forms::KEY_BYTES;
+pub use forms::KEY_ROWS;
+pub use forms::MOST_DATA;
+pub use forms::MOST_ROWS;
+pub use forms::Named;
+pub use forms::Subject;
+pub use forms::Sum;
+pub use forms::count_of;
+pub use forms::data_length;
+pub use forms::form_of;
+pub use forms::record_form;
+pub use forms::rows_of;
+pub use forms::subject_of;
+pub use forms::sum_rule;
+pub use forms::written_form;
+pub use rows::Level;
+pub use rows::Row;
+pub use rows::width_of;

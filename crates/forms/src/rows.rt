@@ -1,0 +1,30 @@
+ghost use mathlib.Core.Path.{_≡_};
+ghost use Rattle.forms.specs.Rows.{widthOf};
+
+// A row of the data: its kind, and its width where the kind does not fix it.
+pub enum Row {
+    Key(usize),
+    MarketType,
+    Status,
+    Price(usize),
+    Quantity(usize),
+    Turnover(usize),
+}
+
+pub enum Level {
+    One,
+    Two,
+}
+
+pub fn width_of(row: Row) -> usize
+    ensures { λ r. ⌜ r ≡ widthOf row ⌝ }
+{
+    match row {
+        Row::Key(width) => width,
+        Row::MarketType => 1,
+        Row::Status => 1,
+        Row::Price(width) => width,
+        Row::Quantity(width) => width,
+        Row::Turnover(width) => width,
+    }
+}

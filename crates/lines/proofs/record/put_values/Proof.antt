@@ -1,0 +1,17 @@
+-- Each value is read inside; the page keeps its length.
+use borrow.Author.Needs.{needs}
+use Prim.Native.Nat.{_-_, _≤_}
+use mathlib.Core.Path.{_≡_}
+use lib.ListN.{length}
+use Rattle.lines.proofs.record.put_values.Statement.{statement}
+use Rattle.lines.proofs.record.put_values.Tie as tie
+
+abbrev Inv-loop : tie.InvT-loop
+Inv-loop page₀ used values more₀ i₀ page more i = (i ≤ length values) × (more ≤ length page₀) × (length page ≡ length page₀)
+
+abbrev μ-loop : tie.MeasureT-loop
+μ-loop page₀ used values more₀ i₀ page more i = length values - i
+
+pub put-values-spec : {M : Type 1} → statement M
+put-values-spec =
+    tie.close (tie.spec Inv-loop μ-loop (search needs) (search needs) (search needs) (search needs) (search needs) (search needs) (search needs) (search needs) (search needs))

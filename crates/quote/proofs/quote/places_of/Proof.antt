@@ -1,0 +1,19 @@
+-- Each form by computing.
+use Rattle.quote.specs.SideLaws.{places-fit}
+use Rattle.forms.specs.declared.forms.Form.the-variants.{Heartbeat, LevelOne, LevelTwo}
+use borrow.Author.Needs.{needs}
+use Rattle.quote.proofs.quote.places_of.Statement.{statement}
+use Rattle.quote.proofs.quote.places_of.Tie as tie
+
+returns : tie.Need-returns
+returns c = (rw (c .enum-told .given .1), places-fit Heartbeat)
+
+returns-2 : tie.Need-returns-2
+returns-2 c = (rw (c .enum-told2 .given .1), places-fit LevelOne)
+
+returns-3 : tie.Need-returns-3
+returns-3 c = (rw (c .enum-told3 .given .1), places-fit LevelTwo)
+
+pub places-of-spec : {M : Type 1} → statement M
+places-of-spec =
+    tie.close (tie.spec (search needs) (search needs) (search needs) returns returns-2 returns-3)

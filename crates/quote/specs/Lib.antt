@@ -1,0 +1,5 @@
+pub mod Quote
+pub mod Inner
+pub mod QuoteLaws
+pub mod QuoteTrip
+pub mod SideLaws

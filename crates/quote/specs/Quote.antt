@@ -1,0 +1,221 @@
+-- The quote that cells hold, and its cells, each row by its name.
+use Prim.Native.Nat.{ℕ, suc}
+use mathlib.Core.Bool.{cond}
+use mathlib.Core.List.{List, [], _∷_, map}
+use mathlib.Core.Option.{Option, none, some}
+use lib.ListN.{getD}
+use Rattle.quote.specs.declared.quote.PriceCell.{PriceCell}
+use Rattle.quote.specs.declared.quote.PriceCell.the-variants as price
+use Rattle.quote.specs.declared.quote.QuantityCell.{QuantityCell}
+use Rattle.quote.specs.declared.quote.QuantityCell.the-variants as quantity
+use Rattle.quote.specs.declared.quote.TurnoverCell.{TurnoverCell}
+use Rattle.quote.specs.declared.quote.TurnoverCell.the-variants as turnover
+use Rattle.quote.specs.declared.quote.Order.{Order}
+use Rattle.quote.specs.declared.quote.Quote.{Quote}
+use Rattle.layout.specs.declared.cells.Held.{Held}
+use Rattle.layout.specs.declared.cells.Held.the-variants.{Nothing, Units}
+use Rattle.forms.specs.declared.forms.Form.{Form}
+use Rattle.forms.specs.Names.{Name, NamedRow, sameName, instrument, symbol, expiry, strike, optionType, marketType, buyPrice, buyQuantity, sellPrice, sellQuantity, lastPrice, tradedQuantity, status, openingPrice, highPrice, lowPrice, closePrice, averagePrice, allBuyers, allSellers, turnover as turnoverName}
+use Rattle.forms.specs.Forms.{namedRows}
+use Rattle.layout.specs.Cells.{none as noCell, heldIn, cellOf, byteIn, zerosBehind}
+
+-- ---- a number, by its kind
+
+-- 01 "Numbers in text": a price, or "none"
+abbrev pub priceOf : Held → PriceCell
+priceOf Nothing = price.None
+priceOf (Units n) = price.Amount (record { 0 = n })
+
+-- 01 "Numbers in text": the same back: the number of a price, or none
+abbrev pub heldPrice : PriceCell → Held
+heldPrice price.None = Nothing
+heldPrice (price.Amount amount) = Units (amount .0)
+
+-- lent memory: the price that a cell holds
+abbrev pub priceIn : ℕ → PriceCell
+priceIn cell = priceOf (heldIn cell)
+
+-- lent memory: the cell that holds a price
+abbrev pub cellOfPrice : PriceCell → ℕ
+cellOfPrice p = cellOf (heldPrice p)
+
+-- 01 "Numbers in text": a quantity, or "none"
+abbrev pub quantityOf : Held → QuantityCell
+quantityOf Nothing = quantity.None
+quantityOf (Units n) = quantity.Amount (record { 0 = n })
+
+-- 01 "Numbers in text": the same back: the number of a quantity, or none
+abbrev pub heldQuantity : QuantityCell → Held
+heldQuantity quantity.None = Nothing
+heldQuantity (quantity.Amount amount) = Units (amount .0)
+
+-- lent memory: the quantity that a cell holds
+abbrev pub quantityIn : ℕ → QuantityCell
+quantityIn cell = quantityOf (heldIn cell)
+
+-- lent memory: the cell that holds a quantity
+abbrev pub cellOfQuantity : QuantityCell → ℕ
+cellOfQuantity q = cellOf (heldQuantity q)
+
+-- 01 "Numbers in text": a turnover, or "none"
+abbrev pub turnoverOf : Held → TurnoverCell
+turnoverOf Nothing = turnover.None
+turnoverOf (Units n) = turnover.Amount (record { 0 = n })
+
+-- 01 "Numbers in text": the same back: the number of a turnover, or none
+abbrev pub heldTurnover : TurnoverCell → Held
+heldTurnover turnover.None = Nothing
+heldTurnover (turnover.Amount amount) = Units (amount .0)
+
+-- lent memory: the turnover that a cell holds
+abbrev pub turnoverIn : ℕ → TurnoverCell
+turnoverIn cell = turnoverOf (heldIn cell)
+
+-- lent memory: the cell that holds a turnover
+abbrev pub cellOfTurnover : TurnoverCell → ℕ
+cellOfTurnover t = cellOf (heldTurnover t)
+
+-- ---- rows by their names
+
+-- a word of our own: where among rows the one with a name stands
+abbrev pub next : Option ℕ → Option ℕ
+next none = none
+next (some k) = some (suc k)
+
+-- a word of our own: the row with a name, counted from 0
+abbrev pub rowNamed : List NamedRow → Name → Option ℕ
+rowNamed [] name = none
+rowNamed (row ∷ rows) name = cond (sameName (row .name) name) (some 0) (next (rowNamed rows name))
+
+-- lent memory: a row's cell; what a form has no row for is "none"
+abbrev pub cellAt : Option ℕ → List ℕ → ℕ
+cellAt none cells = noCell
+cellAt (some k) cells = getD cells k 0
+
+-- lent memory: the cell of the row with a name
+abbrev pub cellNamed : List NamedRow → Name → List ℕ → ℕ
+cellNamed rows name cells = cellAt (rowNamed rows name) cells
+
+-- ---- the orders of a side
+
+-- 01 "Numbers in text": an order whose price and quantity are none
+abbrev pub noOrder : Order
+noOrder = record { price = price.None; quantity = quantity.None }
+
+-- 01 "The message": an order is a price and a quantity, a cell each
+abbrev pub orderIn : ℕ → ℕ → Order
+orderIn p q = record { price = priceIn p; quantity = quantityIn q }
+
+-- 000 section 4.5, 003 section 4.6: the most orders of a side
+abbrev pub mostOrders : ℕ
+mostOrders = 5
+
+-- 01 "The message": the levels of a side are 0 to 4
+abbrev pub orderLevels : List ℕ
+orderLevels = 0 ∷ 1 ∷ 2 ∷ 3 ∷ 4 ∷ []
+
+-- 01 "The message": the orders of a side, price and quantity by their names
+abbrev pub sideIn : (ℕ → Name) → (ℕ → Name) → List NamedRow → List ℕ → List Order
+sideIn priceName quantityName rows cells =
+    map (λ k. orderIn (cellNamed rows (priceName k) cells) (cellNamed rows (quantityName k) cells)) orderLevels
+
+-- ---- the quote
+
+-- 000 sections 4.4 and 4.5, 003 sections 4.5 and 4.6: the fields of an update, each picked by its name
+abbrev pub quoteBy : List NamedRow → List ℕ → Quote
+quoteBy rows cells =
+    record {
+      «market_type» = byteIn (cellNamed rows marketType cells);
+      buy = sideIn buyPrice buyQuantity rows cells;
+      sell = sideIn sellPrice sellQuantity rows cells;
+      last = priceIn (cellNamed rows lastPrice cells);
+      traded = quantityIn (cellNamed rows tradedQuantity cells);
+      status = byteIn (cellNamed rows status cells);
+      opening = priceIn (cellNamed rows openingPrice cells);
+      high = priceIn (cellNamed rows highPrice cells);
+      low = priceIn (cellNamed rows lowPrice cells);
+      close = priceIn (cellNamed rows closePrice cells);
+      average = priceIn (cellNamed rows averagePrice cells);
+      buyers = quantityIn (cellNamed rows allBuyers cells);
+      sellers = quantityIn (cellNamed rows allSellers cells);
+      turnover = turnoverIn (cellNamed rows turnoverName cells);
+    }
+
+-- 01 "The message": the quote that a form's cells hold
+unfoldable pub quoteOf : Form → List ℕ → Quote
+quoteOf form cells = quoteBy (namedRows form) cells
+
+-- 01 "The message": the cell of each field of a quote; the key is none of it
+abbrev pub fieldCell : Quote → Name → ℕ
+fieldCell quote instrument = 0
+fieldCell quote symbol = 0
+fieldCell quote expiry = 0
+fieldCell quote strike = 0
+fieldCell quote optionType = 0
+fieldCell quote marketType = quote .«market_type»
+fieldCell quote (buyPrice k) = cellOfPrice (getD (quote .buy) k noOrder .price)
+fieldCell quote (buyQuantity k) = cellOfQuantity (getD (quote .buy) k noOrder .quantity)
+fieldCell quote (sellPrice k) = cellOfPrice (getD (quote .sell) k noOrder .price)
+fieldCell quote (sellQuantity k) = cellOfQuantity (getD (quote .sell) k noOrder .quantity)
+fieldCell quote lastPrice = cellOfPrice (quote .last)
+fieldCell quote tradedQuantity = cellOfQuantity (quote .traded)
+fieldCell quote status = quote .status
+fieldCell quote openingPrice = cellOfPrice (quote .opening)
+fieldCell quote highPrice = cellOfPrice (quote .high)
+fieldCell quote lowPrice = cellOfPrice (quote .low)
+fieldCell quote closePrice = cellOfPrice (quote .close)
+fieldCell quote averagePrice = cellOfPrice (quote .average)
+fieldCell quote allBuyers = cellOfQuantity (quote .buyers)
+fieldCell quote allSellers = cellOfQuantity (quote .sellers)
+fieldCell quote turnoverName = cellOfTurnover (quote .turnover)
+
+-- lent memory: a quote's cells, one a row
+abbrev pub cellsBy : List NamedRow → Quote → List ℕ
+cellsBy rows quote = map (λ row. fieldCell quote (row .name)) rows
+
+-- lent memory: a quote's cells in a form, with zeros behind them
+unfoldable pub cellsOf : Form → Quote → List ℕ
+cellsOf form quote = zerosBehind (cellsBy (namedRows form) quote)
+
+-- ---- the quote as a form sees it: what it has no row for is none
+
+-- a word of our own: a value where there is one
+abbrev pub whereSome : {A : Type 0} → Option ℕ → A → A → A
+whereSome none value other = other
+whereSome (some k) value other = value
+
+-- 01 "The message": a field, where the form has its row
+abbrev pub whereNamed : {A : Type 0} → List NamedRow → Name → A → A → A
+whereNamed rows name value other = whereSome (rowNamed rows name) value other
+
+-- 01 "The message": the orders of a side, where the form has their rows
+abbrev pub seenSide : (ℕ → Name) → (ℕ → Name) → List NamedRow → List Order → List Order
+seenSide priceName quantityName rows orders =
+    map (λ k. record {
+      price = whereNamed rows (priceName k) (getD orders k noOrder .price) price.None;
+      quantity = whereNamed rows (quantityName k) (getD orders k noOrder .quantity) quantity.None;
+    }) orderLevels
+
+-- 01 "The message": what rows hold of a quote
+abbrev pub seenBy : List NamedRow → Quote → Quote
+seenBy rows quote =
+    record {
+      «market_type» = whereNamed rows marketType (quote .«market_type») 0;
+      buy = seenSide buyPrice buyQuantity rows (quote .buy);
+      sell = seenSide sellPrice sellQuantity rows (quote .sell);
+      last = whereNamed rows lastPrice (quote .last) price.None;
+      traded = whereNamed rows tradedQuantity (quote .traded) quantity.None;
+      status = whereNamed rows status (quote .status) 0;
+      opening = whereNamed rows openingPrice (quote .opening) price.None;
+      high = whereNamed rows highPrice (quote .high) price.None;
+      low = whereNamed rows lowPrice (quote .low) price.None;
+      close = whereNamed rows closePrice (quote .close) price.None;
+      average = whereNamed rows averagePrice (quote .average) price.None;
+      buyers = whereNamed rows allBuyers (quote .buyers) quantity.None;
+      sellers = whereNamed rows allSellers (quote .sellers) quantity.None;
+      turnover = whereNamed rows turnoverName (quote .turnover) turnover.None;
+    }
+
+-- 01 "The message": what a quote's message of that form holds of it
+unfoldable pub seenQuote : Form → Quote → Quote
+seenQuote form quote = seenBy (namedRows form) quote

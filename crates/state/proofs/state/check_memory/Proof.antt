@@ -1,0 +1,44 @@
+-- Gap rows first, then records.
+use Prim.Native.Nat.{ℕ, _<_}
+use native.Mathlib.Omega.{arith}
+use borrow.Author.Needs.{needs}
+use borrow.Author.Tests.{le-leb, lt-leb}
+use lib.ListN.{getD}
+use Rattle.contracts.specs.File.{segmentsOf}
+use Rattle.contracts.specs.FileLaws.{segments-under, before-under}
+use Rattle.state.specs.Memory.{gapRowsWanted}
+use Rattle.state.specs.Slots.{recordsWanted}
+use Rattle.state.proofs.state.check_memory.Statement.{statement}
+use Rattle.state.proofs.state.check_memory.Tie as tie
+
+bytes : (c : tie.After-shared-slice-known) (j : ℕ) → getD (c .before .args .list .now) j 0 < 256
+bytes c j = c .shared-slice-known .given j .fits
+
+mul-rows-wanted : tie.Need-mul-rows-wanted
+mul-rows-wanted c = omega (arith, segments-under (c .before .before .args .list .now) (bytes (c .before)))
+
+returns : tie.Need-returns
+returns c =
+    let a = c .before .before .before .args in
+    rw (c .before .segments .ensures) (simp (lt-leb (gapRowsWanted (a .list .now)) (a .rows) (omega arith)))
+
+mul-records-wanted : tie.Need-mul-records-wanted
+mul-records-wanted c =
+    let d = c .before .before .before in
+    let list = d .before .args .list .now in
+    omega (arith, before-under list (bytes d) (segmentsOf list))
+
+returns-2 : tie.Need-returns-2
+returns-2 c =
+    let a = c .before .before .before .before .before .args in
+    rw (c .before .all-contracts .ensures)
+    (simp (le-leb (gapRowsWanted (a .list .now)) (a .rows) (omega arith), lt-leb (recordsWanted (a .list .now)) (a .records) (omega arith)))
+
+returns-3 : tie.Need-returns-3
+returns-3 c =
+    let a = c .before .before .before .before .before .args in
+    simp (le-leb (gapRowsWanted (a .list .now)) (a .rows) (omega arith), le-leb (recordsWanted (a .list .now)) (a .records) (omega arith))
+
+pub check-memory-spec : {M : Type 1} → statement M
+check-memory-spec =
+    tie.close (tie.spec (search needs) mul-rows-wanted returns (search needs) mul-records-wanted returns-2 returns-3)

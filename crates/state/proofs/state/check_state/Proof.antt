@@ -1,0 +1,57 @@
+-- Check by check, each answer is the first broken rule's.
+use mathlib.Core.Path.{_≡_, sym, ap, _∙_}
+use mathlib.Core.Bool.{true}
+use mathlib.Core.Option.{none}
+use borrow.Author.Needs.{needs}
+use borrow.Author.Tests.{not-true, not-false}
+use lib.ListN.{length}
+use Rattle.laws.specs.RulesLaws.{none-hold}
+use Rattle.laws.specs.Rules.{firstBroken}
+use Rattle.contracts.specs.Sound.{headerSound}
+use Rattle.state.specs.Memory.{lends, gapRowsSound}
+use Rattle.state.specs.State.{memoryRules, checkedRefusal}
+use Rattle.state.specs.StateLaws.{list-broken, memory-lent, memory-broken, row-broken, state-holds}
+use Rattle.state.proofs.state.check_state.Statement.{statement}
+use Rattle.state.proofs.state.check_state.Tie as tie
+
+held : (c : tie.Else1) → headerSound (c .before .before .before .before .before .args .list .now) ≡ true
+held c = sym (c .before .header-sound .ensures) ∙ not-false (c .before .header-sound .result) (c .if1 .left)
+
+lent : (c : tie.After-enum-told) → let a = c .before .before .before .before .before .before .before .before .args in
+    firstBroken (memoryRules (a .list .now) (length (a .rows .now)) (length (a .records .now))) ≡ none
+lent c = sym (c .before .before .check-memory .ensures) ∙ ap checkedRefusal (c .enum-told .given .1)
+
+returns : tie.Need-returns
+returns c =
+    let a = c .before .before .before .before .before .args in
+    let fails = not-true (c .before .header-sound .result) (c .if1 .taken) in
+    sym (list-broken (lends (a .list .now) (a .rows .now) (a .records .now)) (sym (c .before .header-sound .ensures) ∙ fails))
+
+rows-sound-requires : tie.Need-rows-sound-requires
+rows-sound-requires c κs =
+    let a = c .before .before .before .before .before .before .before .before .before .args in
+    rw (c .segments .ensures) (memory-lent (a .list .now) (length (a .rows .now)) (length (a .records .now)) (none-hold (memoryRules (a .list .now) (length (a .rows .now)) (length (a .records .now))) (lent (c .before))) .0)
+
+returns-2 : tie.Need-returns-2
+returns-2 c =
+    let told = c .before .before .before in
+    let a = told .before .before .before .before .before .before .before .before .args in
+    let passes = ap (λ n. gapRowsSound n (a .rows .now)) (sym (c .before .before .segments .ensures)) ∙ sym (c .before .rows-sound .ensures) ∙ c .if2 .taken in
+    sym (state-holds (lends (a .list .now) (a .rows .now) (a .records .now)) (held (told .before .before .before)) (lent told) passes)
+
+returns-3 : tie.Need-returns-3
+returns-3 c =
+    let told = c .before .before .before in
+    let a = told .before .before .before .before .before .before .before .before .args in
+    let fails = ap (λ n. gapRowsSound n (a .rows .now)) (sym (c .before .before .segments .ensures)) ∙ sym (c .before .rows-sound .ensures) ∙ c .if2 .left in
+    sym (row-broken (lends (a .list .now) (a .rows .now) (a .records .now)) (held (told .before .before .before)) (lent told) fails)
+
+returns-4 : tie.Need-returns-4
+returns-4 c =
+    let d = c .before .before .before in
+    let a = d .before .before .before .before .before .before .args in
+    sym (memory-broken (lends (a .list .now) (a .rows .now) (a .records .now)) (held (d .before)) _ (sym (d .check-memory .ensures) ∙ ap checkedRefusal (c .before .refusal .given .1)))
+
+pub check-state-spec : {M : Type 1} → statement M
+check-state-spec =
+    tie.close (tie.spec (search needs) returns (search needs) (search needs) (search needs) rows-sound-requires returns-2 (search needs) returns-3 returns-4)

@@ -1,0 +1,21 @@
+-- A good state, rule by rule: the table's rows 15, 16 and 18.
+use Prim.Native.Nat.{ℕ, _≤_, _<_}
+use mathlib.Core.Path.{_≡_}
+use mathlib.Core.Bool.{true}
+use mathlib.Core.List.{List}
+use lib.ListN.{length}
+use Rattle.contracts.specs.File.{segmentsOf}
+use Rattle.contracts.specs.Sound.{Header}
+use Rattle.sequence.specs.Row.{soundGapRow}
+use Rattle.state.specs.Memory.{Lent, gapRowsWanted, gapRowOf}
+use Rattle.state.specs.Slots.{recordsWanted}
+
+-- 01, the table's rows 16, 15 and 18: what calls after start are handed is such that none of the three is given
+pub record GoodState (lent : Lent) : Type 0 where
+  -- 16
+  pub header : Header (lent .list)
+  -- 15
+  pub rows-lent : gapRowsWanted (lent .list) ≤ length (lent .rows)
+  pub records-lent : recordsWanted (lent .list) ≤ length (lent .records)
+  -- 18
+  pub rows-sound : (i : ℕ) → i < segmentsOf (lent .list) → soundGapRow (gapRowOf (lent .rows) i) ≡ true

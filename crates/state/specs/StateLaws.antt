@@ -1,0 +1,148 @@
+-- Laws of the state: the cells wanted, when its checks refuse nothing, and what a good state gives.
+use Prim.Native.Nat.{ℕ, _+_, _*_, _≤_, _<_}
+use mathlib.Core.Path.{_≡_, refl, ap, sym, _∙_}
+use mathlib.Core.Bool.{true, false, true≢false}
+use mathlib.Core.Logic.{_↔_}
+use mathlib.Core.List.{List, [], _∷_, _++_}
+use mathlib.Core.Option.{Option, none, some}
+use native.Mathlib.Omega.{arith}
+use borrow.Author.Tests.{le-leb, leb-true}
+use lib.ListN.{length}
+use Rattle.laws.specs.Rules.{firstBroken, Hold}
+use Rattle.laws.specs.RulesLaws.{none-hold, hold-none, front-broken, last-holds, last-broken, last-held}
+use Rattle.contracts.specs.Below.{sumBelow}
+use Rattle.contracts.specs.BelowLaws.{each-passes, all-pass, sum-same}
+use Rattle.contracts.specs.File.{segmentsOf, countAt, contractsOf}
+use Rattle.contracts.specs.FileLaws.{before-sum}
+use Rattle.contracts.specs.HeaderLaws.{header-exact}
+use Rattle.contracts.specs.Lookup.{segmentOf}
+use Rattle.contracts.specs.LookupLaws.{segment-has}
+use Rattle.contracts.specs.Sound.{headerSound}
+use Rattle.sequence.specs.Row.{soundGapRow}
+use Rattle.message.specs.Head.{isSome}
+use Rattle.state.specs.declared.refusal.Refusal.{Refusal}
+use Rattle.state.specs.declared.refusal.Refusal.the-variants.{Code, List as ListOf, State}
+use Rattle.state.specs.Refusals.{Rule}
+use Rattle.state.specs.Memory.{Lent, gapRowCells, gapRowsWanted, gapRowOf, gapRowsSound}
+use Rattle.state.specs.State.{stateRules, memoryRules, segmentRules}
+use Rattle.state.specs.Slots.{recordsWanted, contractCells}
+use Rattle.state.specs.GoodState.{GoodState}
+
+-- ---- the cells wanted
+
+-- 01 "What may be asked": "at most 1,024 a gap row and 2,048 a record": a contract's two records together have no more
+pub cells-few : (gapRowCells ≤ 1024) × (contractCells ≤ 2048)
+cells-few = (omega arith, omega arith)
+
+module _ (list other : List ℕ) (segments : segmentsOf list ≡ segmentsOf other) (counts : (i : ℕ) → i < segmentsOf list → countAt list i ≡ countAt other i) where
+  same-contracts : contractsOf list ≡ contractsOf other
+  same-contracts =
+      before-sum list (segmentsOf list) (omega arith)
+      ∙ sum-same (countAt list) (countAt other) (segmentsOf list) counts
+      ∙ ap (λ (n : ℕ). sumBelow n (countAt other)) segments
+      ∙ sym (before-sum other (segmentsOf other) (omega arith))
+
+  -- 01 "What may be asked": "a number that the lists' counts alone fix": lists of the same counts want the same
+  pub counts-fix : (gapRowsWanted list ≡ gapRowsWanted other) × (recordsWanted list ≡ recordsWanted other)
+  counts-fix = (ap (λ (n : ℕ). gapRowCells * n) segments, ap (λ (n : ℕ). contractCells * n) same-contracts)
+
+-- 15 in its two places
+pub memory-lent : (list : List ℕ) (rows records : ℕ) → Hold (memoryRules list rows records) → (gapRowsWanted list ≤ rows) × (recordsWanted list ≤ records)
+memory-lent list rows records h = (leb-true (gapRowsWanted list) rows (h .0), leb-true (recordsWanted list) records (h .1 .0))
+
+pub is-some : (o : Option ℕ) → isSome o ≡ true → (i : ℕ) × (o ≡ some i)
+is-some none e = absurd (true≢false (sym e))
+is-some (some i) e = (i, refl)
+
+module _ (lent : Lent) where
+  abbrev soundness : Rule
+  soundness = record { holds = gapRowsSound (segmentsOf (lent .list)) (lent .rows); refusal = State }
+
+  abbrev memory : List Rule
+  memory = memoryRules (lent .list) (length (lent .rows)) (length (lent .records))
+
+  abbrev behind : List Rule
+  behind = memory ++ (soundness ∷ [])
+
+  -- ---- the first broken rule, check by check
+
+  pub list-broken : headerSound (lent .list) ≡ false → firstBroken (stateRules lent) ≡ some ListOf
+  list-broken h = rw h
+
+  module _ (h : headerSound (lent .list) ≡ true) where
+    header-holds : firstBroken (stateRules lent) ≡ firstBroken behind
+    header-holds = rw h
+
+    pub memory-broken : (r : Refusal) → firstBroken memory ≡ some r → firstBroken (stateRules lent) ≡ some r
+    memory-broken r e = header-holds ∙ front-broken memory (soundness ∷ []) r e
+
+    pub row-broken : firstBroken memory ≡ none → gapRowsSound (segmentsOf (lent .list)) (lent .rows) ≡ false → firstBroken (stateRules lent) ≡ some State
+    row-broken e s = header-holds ∙ last-broken memory soundness e s
+
+    pub state-holds : firstBroken memory ≡ none → gapRowsSound (segmentsOf (lent .list)) (lent .rows) ≡ true → firstBroken (stateRules lent) ≡ none
+    state-holds e s = header-holds ∙ last-holds memory soundness e s
+
+  -- ---- 16, 15 and 18 are not given exactly where the state is good
+
+  pub state-exact : Hold (stateRules lent) ↔ GoodState lent
+  state-exact = (
+    (λ h. record {
+      header = header-exact (lent .list) .0 (h .0);
+      rows-lent = leb-true (gapRowsWanted (lent .list)) (length (lent .rows)) (h .1 .0);
+      records-lent = leb-true (recordsWanted (lent .list)) (length (lent .records)) (h .1 .1 .0);
+      rows-sound = each-passes (λ i. soundGapRow (gapRowOf (lent .rows) i)) (segmentsOf (lent .list)) (h .1 .1 .1 .0);
+    }),
+    (λ g. (
+      header-exact (lent .list) .1 (g .header),
+      (
+        le-leb (gapRowsWanted (lent .list)) (length (lent .rows)) (g .rows-lent),
+        (
+          le-leb (recordsWanted (lent .list)) (length (lent .records)) (g .records-lent),
+          (all-pass (λ i. soundGapRow (gapRowOf (lent .rows) i)) (segmentsOf (lent .list)) (g .rows-sound), tt),
+        ),
+      ),
+    )),
+  )
+
+  is-good : firstBroken (stateRules lent) ≡ none → GoodState lent
+  is-good e = state-exact .0 (none-hold (stateRules lent) e)
+
+  pub good-unrefused : GoodState lent → firstBroken (stateRules lent) ≡ none
+  good-unrefused good = hold-none (stateRules lent) (state-exact .1 good)
+
+  -- ---- the segment that is asked for
+
+  module _ (letter : ℕ) where
+    abbrev listed : Rule
+    listed = record { holds = isSome (segmentOf (lent .list) letter); refusal = Code 0 }
+
+    pub state-broken : (r : Refusal) → firstBroken (stateRules lent) ≡ some r → firstBroken (segmentRules lent letter) ≡ some r
+    unfolding segmentRules
+    state-broken r e = front-broken (stateRules lent) (listed ∷ []) r e
+
+    pub letter-broken : firstBroken (stateRules lent) ≡ none → segmentOf (lent .list) letter ≡ none → firstBroken (segmentRules lent letter) ≡ some (Code 0)
+    unfolding segmentRules
+    letter-broken e n = last-broken (stateRules lent) listed e (rw n)
+
+    pub segment-holds : firstBroken (stateRules lent) ≡ none → (i : ℕ) → segmentOf (lent .list) letter ≡ some i → firstBroken (segmentRules lent letter) ≡ none
+    unfolding segmentRules
+    segment-holds e i s = last-holds (stateRules lent) listed e (rw s)
+
+    pub state-held : firstBroken (segmentRules lent letter) ≡ none → GoodState lent
+    unfolding segmentRules
+    state-held e = is-good (last-held (stateRules lent) listed e .0)
+
+    pub letter-listed : firstBroken (segmentRules lent letter) ≡ none → isSome (segmentOf (lent .list) letter) ≡ true
+    unfolding segmentRules
+    letter-listed e = last-held (stateRules lent) listed e .1
+
+    -- the row of a segment that is asked for is there, and sound
+    module _ (e : firstBroken (segmentRules lent letter) ≡ none) (i : ℕ) (s : segmentOf (lent .list) letter ≡ some i) where
+      inside : i < segmentsOf (lent .list)
+      inside = segment-has (lent .list) letter i s .0
+
+      pub row-there : gapRowCells * i + gapRowCells ≤ length (lent .rows)
+      row-there = let room = state-held e .rows-lent in let h = inside in omega arith
+
+      pub row-sound : soundGapRow (gapRowOf (lent .rows) i) ≡ true
+      row-sound = state-held e .rows-sound i inside

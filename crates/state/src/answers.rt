@@ -1,0 +1,38 @@
+// What each public call answers.
+use crate::refusal::Refusal;
+
+pub enum Started {
+    Started,
+    Refused(Refusal),
+}
+
+// Of a batch: how many messages were taken, old and heartbeats.
+pub enum Judged {
+    Accepted(usize, usize, usize),
+    Refused(Refusal),
+}
+
+// Highest, and the number of runs put into the lent cells.
+pub enum Listed {
+    Runs(u32, usize),
+    Refused(Refusal),
+}
+
+// The run that was removed.
+pub enum WrittenOff {
+    Removed(u32, u32),
+    Refused(Refusal),
+}
+
+// A record's number, which is its update's.
+pub enum Recorded {
+    Record(u64),
+    NoRecord,
+    Refused(Refusal),
+}
+
+// The length of the message that was written.
+pub enum Written {
+    Message(usize),
+    Refused(Refusal),
+}

@@ -1,0 +1,32 @@
+// A segment's gap row, copied out of the lent gap rows and back.
+ghost use mathlib.Core.Path.{_≡_};
+ghost use Prim.Native.Nat.{_+_, _*_, _≤_};
+ghost use lib.ListN.{length};
+ghost use Rattle.state.specs.Memory.{gapRowCells, gapRowOf, withGapRow};
+use sequence::CELLS;
+
+pub fn row_of(rows: &[u32], segment: usize) -> [u32; CELLS]
+    requires { ⌜ gapRowCells * segment + gapRowCells ≤ length (now rows) ⌝ }
+    ensures { λ r. ⌜ r ≡ gapRowOf (now (rows .entry)) segment ⌝ }
+{
+    let at = CELLS * segment;
+    let mut row = [0u32; CELLS];
+    let mut j = 0;
+    while j < CELLS {
+        row[j] = rows[at + j];
+        j += 1;
+    }
+    row
+}
+
+pub fn put_row(rows: &mut [u32], segment: usize, row: &[u32; CELLS])
+    requires { ⌜ (gapRowCells * segment + gapRowCells ≤ length (now rows)) × (length (now row) ≡ gapRowCells) ⌝ }
+    ensures { λ _. ⌜ now (rows .exit) ≡ withGapRow (now (rows .entry)) segment (now (row .entry)) ⌝ }
+{
+    let at = CELLS * segment;
+    let mut j = 0;
+    while j < CELLS {
+        rows[at + j] = row[j];
+        j += 1;
+    }
+}

@@ -1,0 +1,83 @@
+// The checks of the state that is handed back: of every call after start but the writer.
+ghost use mathlib.Core.Path.{_≡_};
+ghost use Prim.Native.Nat.{_*_, _≤_};
+ghost use lib.ListN.{length};
+ghost use Rattle.laws.specs.Rules.{firstBroken};
+ghost use Rattle.state.specs.Memory.{lends, gapRowCells, gapRowsSound};
+ghost use Rattle.state.specs.State.{stateRules, memoryRules, checkedRefusal, Asks};
+use crate::records;
+use crate::refusal::Refusal;
+use contracts::Found;
+
+pub enum Checked {
+    Good,
+    Refused(Refusal),
+}
+
+// The segment that is asked for.
+pub enum Asked {
+    Segment(usize),
+    Refused(Refusal),
+}
+
+// 15 for gap rows and then for records, by the numbers of cells lent.
+pub fn check_memory(list: &[u8], rows: usize, records: usize) -> Checked
+    ensures { λ r. ⌜ checkedRefusal r ≡ firstBroken (memoryRules (now (list .entry)) rows records) ⌝ }
+{
+    let rows_wanted = sequence::CELLS * contracts::segments(list);
+    if rows < rows_wanted {
+        return Checked::Refused(Refusal::Memory(rows_wanted));
+    }
+    let records_wanted = records::RECORD * contracts::all_contracts(list);
+    if records < records_wanted {
+        return Checked::Refused(Refusal::Memory(records_wanted));
+    }
+    Checked::Good
+}
+
+// The test behind 18, for the rows of so many segments.
+fn rows_sound(rows: &[u32], segments: usize) -> bool
+    requires { ⌜ gapRowCells * segments ≤ length (now rows) ⌝ }
+    ensures { λ r. ⌜ r ≡ gapRowsSound segments (now (rows .entry)) ⌝ }
+{
+    let mut i = 0;
+    while i < segments {
+        let at = sequence::CELLS * i;
+        let end = at + sequence::CELLS;
+        if !sequence::sound(&rows[at..end]) {
+            return false;
+        }
+        i += 1;
+    }
+    true
+}
+
+pub fn check_state(list: &[u8], rows: &[u32], records: &[u64]) -> Checked
+    ensures { λ r. ⌜ checkedRefusal r ≡ firstBroken (stateRules (lends (now (list .entry)) (now (rows .entry)) (now (records .entry)))) ⌝ }
+{
+    if !contracts::header_sound(list) {
+        return Checked::Refused(Refusal::List);
+    }
+    match check_memory(list, rows.len(), records.len()) {
+        Checked::Good => {
+            if rows_sound(rows, contracts::segments(list)) {
+                return Checked::Good;
+            }
+            Checked::Refused(Refusal::State)
+        }
+        Checked::Refused(refusal) => Checked::Refused(refusal),
+    }
+}
+
+// The state, and then the segment of a letter: 6 where it isn't listed.
+pub fn check_segment(list: &[u8], rows: &[u32], records: &[u64], letter: u8) -> Asked
+    ensures { λ r. ⌜ Asks (lends (now (list .entry)) (now (rows .entry)) (now (records .entry))) letter r ⌝ }
+{
+    match check_state(list, rows, records) {
+        Checked::Good => match contracts::segment_of(list, letter) {
+            Found::At(segment) => Asked::Segment(segment),
+            Found::Nowhere => Asked::Refused(Refusal::Code(0)),
+        },
+        Checked::Refused(refusal) => Asked::Refused(refusal),
+    }
+}

@@ -1,0 +1,71 @@
+-- The stores of a batch's updates on scratch memory: the words of the inner contracts.
+use Prim.Native.Nat.{ℕ, zero, suc, _+_, _*_, _≤_, _<_}
+use mathlib.Core.Path.{_≡_}
+use mathlib.Core.List.{List, _∷_}
+use mathlib.Core.Logic.{_⊎_}
+use lib.ListN.{length, getD, take, drop}
+use lib.Seq.{sets}
+use Rattle.forms.specs.declared.rows.Level.the-variants.{Two}
+use Rattle.forms.specs.declared.forms.Subject.{Subject}
+use Rattle.forms.specs.declared.forms.Subject.the-variants.{Nothing, Contract}
+use Rattle.state.specs.Slots.{levelCells, recordAt, recordOf}
+use Rattle.stores.specs.Stored.{stored}
+
+-- a word of our own: the cells of a store: its record's place, how many cells the record has, and those of a level 2 record, which
+-- has the most
+abbrev pub storeCells : ℕ
+storeCells = 2 + levelCells Two
+
+-- a word of our own: store i
+abbrev pub storeOf : List ℕ → ℕ → List ℕ
+storeOf stores i = take storeCells (drop (storeCells * i) stores)
+
+-- a word of our own: a record stored at its place: its number, then its rows
+abbrev pub storedAt : ℕ → List ℕ → List ℕ → List ℕ
+storedAt at update records = stored at (getD update 0 0) (drop 1 update) records
+
+-- a word of our own: what making a store does to the records
+abbrev pub madeOf : List ℕ → List ℕ → List ℕ
+madeOf kept records = storedAt (getD kept 0 0) (take (getD kept 1 0) (drop 2 kept)) records
+
+-- a word of our own: the first so many stores made in turn
+abbrev pub made : ℕ → List ℕ → List ℕ → List ℕ
+made zero stores records = records
+made (suc n) stores records = madeOf (storeOf stores n) (made n stores records)
+
+-- a word of our own: a store's record lies within so many cells
+abbrev pub Fits : ℕ → List ℕ → Type 0
+Fits cells kept = (0 < getD kept 1 0) × (getD kept 1 0 ≤ levelCells Two) × (getD kept 0 0 + getD kept 1 0 ≤ cells)
+
+-- a word of our own: the records of the first so many stores do
+abbrev pub AllFit : ℕ → ℕ → List ℕ → Type 0
+AllFit cells n stores = (i : ℕ) → i < n → Fits cells (storeOf stores i)
+
+-- 01 "The message": the bytes of the shortest update
+abbrev pub leastUpdate : ℕ
+leastUpdate = 249
+
+-- a word of our own: so many cells have room for every update that so many bytes can hold
+pub record Room (cells long : ℕ) : Type 0 where
+  pub slots : ℕ
+  pub there : storeCells * slots ≤ cells
+  pub enough : long < leastUpdate * slots + leastUpdate
+
+-- a word of our own: a store was kept behind the others, or there is no room for it
+abbrev pub StoreKept : List ℕ → ℕ → ℕ → ℕ → List ℕ → ℕ → List ℕ → Type 0
+StoreKept stores kept at number cells kept′ stores′ =
+    ((length stores < storeCells * kept + storeCells) × (kept′ ≡ kept) × (stores′ ≡ stores))
+    ⊎ ((storeCells * kept + storeCells ≤ length stores) × (kept′ ≡ suc kept) × (stores′ ≡ sets stores (storeCells * kept) (at ∷ suc (length cells) ∷ number ∷ cells)))
+
+-- a word of our own: the store of an update of the contract at a place among all, by what it tells of
+abbrev pub KeptFor : Subject → List ℕ → ℕ → ℕ → ℕ → List ℕ → ℕ → List ℕ → Type 0
+KeptFor Nothing stores kept n number cells kept′ stores′ = (kept′ ≡ kept) × (stores′ ≡ stores)
+KeptFor (Contract level) stores kept n number cells kept′ stores′ = StoreKept stores kept (recordAt n level) number (recordOf level cells) kept′ stores′
+
+-- a word of our own: what a message of so many bytes changes of the records, the stores kept after it make, where an update has
+-- room
+pub record Keeps (cells long : ℕ) (stores : List ℕ) (kept : ℕ) (changes : List ℕ → List ℕ) (kept′ : ℕ) (stores′ : List ℕ) : Type 0 where
+  pub makes : (leastUpdate ≤ long → storeCells * kept + storeCells ≤ length stores) → (records : List ℕ) → made kept′ stores′ records ≡ changes (made kept stores records)
+  pub fit : AllFit cells kept stores → AllFit cells kept′ stores′
+  pub few : leastUpdate * kept′ ≤ leastUpdate * kept + long
+  pub within : storeCells * kept′ ≤ length stores

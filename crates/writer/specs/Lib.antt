@@ -1,0 +1,4 @@
+pub mod Writer
+pub mod WriterLaws
+pub mod WriterPromises
+pub mod WriterPromisesLaws

@@ -1,0 +1,95 @@
+-- What a batch that holds just a written update does, and what stands in its record then.
+use Prim.Native.Nat.{ℕ, suc, _+_, _≤_, _<_}
+use mathlib.Core.Path.{_≡_, refl, ap, sym, _∙_}
+use mathlib.Core.List.{List, [], _∷_, _++_, append-assoc}
+use native.Mathlib.Nat.{mod-eq-of-lt}
+use native.Mathlib.Omega.{arith}
+use borrow.Author.Tests.{lt-ltb}
+use lib.ListN.{length, getD, take, drop, replicate, length-append, length-drop}
+use lib.Seq.{sets-eq, getD-at, take-at, drop-at, length-take-le, append-snoc}
+use Rattle.wire.specs.NumberLaws.{read-back}
+use Rattle.forms.specs.declared.rows.Level.{Level}
+use Rattle.forms.specs.declared.rows.Level.the-variants.{One, Two}
+use Rattle.layout.specs.Cells.{zerosBehind, seenCells}
+use Rattle.forms.specs.declared.rows.Row.{Row}
+use Rattle.forms.specs.Forms.{namedRows, rowsOf, recordForm}
+use Rattle.forms.specs.Sizes.{keyRowCount}
+use Rattle.batch.specs.Batch.{flagOf, sizeOf, countOf, batchData}
+use Rattle.stores.specs.Stored.{stored}
+use Rattle.state.specs.Slots.{recordOf, recordRows}
+use Rattle.state.specs.SlotsLaws.{rows-kept}
+use Rattle.batch.specs.Good.{GoodFront}
+use Rattle.quotebox.specs.Record.{recordNumber, cellsAt}
+use Rattle.written.specs.ReadBack.{batchOf}
+
+-- ---- the batch
+
+module _ (message : List ℕ) (short : length message ≤ 32767) where
+  size-is : sizeOf (batchOf message) ≡ length message
+  unfolding batchOf sizeOf
+  size-is = read-back 2 (length message) (batchOf message) 1 (omega arith) ∙ mod-eq-of-lt (omega arith)
+
+  pub count-one : countOf (batchOf message) ≡ 1
+  unfolding batchOf countOf
+  count-one = refl
+
+  pub data-is : batchData (batchOf message) ≡ message
+  unfolding batchOf
+  data-is = refl
+
+  pub batch-front : GoodFront (batchOf message)
+  unfolding batchOf flagOf
+  batch-front =
+      let n = size-is in
+      record { begun = omega arith; small = omega arith; whole = omega arith; plain = omega arith; some-messages = omega (arith, count-one) }
+
+-- ---- the record
+
+abbrev rowsKept : Level → List Row
+rowsKept level = rowsOf (recordForm level)
+
+-- an update's cells behind those of its key
+seen-long : (rows : List Row) (cells : List ℕ) → length (seenCells rows cells) ≡ length rows
+seen-long [] cells = refl
+seen-long (row ∷ rows) cells = ap suc (seen-long rows (drop 1 cells))
+
+key-zeros : (level : Level) (cells : List ℕ) → replicate keyRowCount 0 ++ drop keyRowCount (seenCells (rowsKept level) cells) ≡ seenCells (rowsKept level) cells
+unfolding rowsOf namedRows
+key-zeros One cells = refl
+key-zeros Two cells = refl
+
+kept-is : (level : Level) (cells : List ℕ) → recordOf level (zerosBehind (seenCells (rowsKept level) cells)) ≡ drop keyRowCount (seenCells (rowsKept level) cells)
+kept-is level cells = ap (drop keyRowCount) (take-at (seenCells (rowsKept level) cells) _ (length (rowsKept level)) (seen-long (rowsKept level) cells))
+
+module _ (level : Level) (cells records : List ℕ) (at number : ℕ) (lent : at + recordRows level < length records) (newer : getD records at 0 < number) where
+  abbrev kept : List ℕ
+  kept = recordOf level (zerosBehind (seenCells (rowsKept level) cells))
+
+  long : length kept ≡ recordRows level
+  long =
+      ap length (kept-is level cells) ∙ length-drop keyRowCount (seenCells (rowsKept level) cells)
+      ∙ omega (arith, seen-long (rowsKept level) cells, rows-kept level)
+
+  is : stored at number kept records ≡ take at records ++ (number ∷ (kept ++ drop (at + suc (length kept)) records))
+  is =
+      rw (lt-ltb (getD records at 0) number newer)
+      (sets-eq (number ∷ kept) records at (omega (arith, long)) ∙ append-assoc (take at records) (number ∷ kept) (drop (at + suc (length kept)) records))
+
+  front : length (take at records) ≡ at
+  front = length-take-le at records (omega arith)
+
+  -- its number is the update's
+  pub number-stored : recordNumber (stored at number kept records) at ≡ number
+  number-stored = ap (λ (r : List ℕ). getD r at 0) is ∙ getD-at (take at records) number _ 0 at front
+
+  -- and its cells are the update's
+  pub cells-stored : cellsAt (stored at number kept records) at level ≡ zerosBehind (seenCells (rowsKept level) cells)
+  unfolding cellsAt
+  cells-stored =
+      let more : length (take at records ++ (number ∷ [])) ≡ at + 1 = length-append (take at records) (number ∷ []) ∙ ap (λ (n : ℕ). n + 1) front in
+      let rest : List ℕ = kept ++ drop (at + suc (length kept)) records in
+      let behind : drop (at + 1) (stored at number kept records) ≡ rest =
+      ap (drop (at + 1)) (is ∙ sym (append-snoc (take at records) number rest)) ∙ drop-at (take at records ++ (number ∷ [])) rest (at + 1) more in
+      ap (λ (r : List ℕ). zerosBehind (replicate keyRowCount 0 ++ take (recordRows level) r)) behind
+      ∙ ap (λ (r : List ℕ). zerosBehind (replicate keyRowCount 0 ++ r)) (take-at kept _ (recordRows level) long ∙ kept-is level cells)
+      ∙ ap zerosBehind (key-zeros level cells)

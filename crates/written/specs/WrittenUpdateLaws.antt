@@ -1,0 +1,128 @@
+-- A message that was written: its rows are good, it stands in front of the lent bytes, and an update, where its contract is listed,
+-- is what it was written from.
+use Prim.Native.Nat.{ℕ, _+_, _^_, _≤_, _<_}
+use mathlib.Core.Path.{_≡_, refl, ap, sym, _∙_}
+use mathlib.Core.Bool.{true}
+use mathlib.Core.List.{List}
+use mathlib.Core.Option.{some}
+use native.Mathlib.Omega.{arith}
+use borrow.Author.Tests.{eq-eqb}
+use lib.ListN.{length, take}
+use lib.Seq.{take-all}
+use Rattle.contracts.specs.Lookup.{segmentOf}
+use Rattle.quote.specs.declared.quote.Quote.{Quote}
+use Rattle.quote.specs.Quote.{cellsOf}
+use Rattle.layout.specs.declared.read.Verdict.the-variants.{Good}
+use Rattle.forms.specs.declared.rows.Level.{Level}
+use Rattle.forms.specs.declared.forms.Form.{Form}
+use Rattle.forms.specs.declared.forms.Named.the-variants as is
+use Rattle.forms.specs.declared.forms.Chosen.{Chosen}
+use Rattle.forms.specs.declared.forms.Chosen.the-variants as chosen
+use Rattle.layout.specs.Cells.{zerosBehind, seenCells}
+use Rattle.forms.specs.Forms.{rowsOf, formOf}
+use Rattle.forms.specs.FormsLaws.{fits, contract-key}
+use Rattle.layout.specs.RoundTrip.{KeyInFront, key-in-front, rows-back}
+use Rattle.forms.specs.Rows.{dataLength, messageLength}
+use Rattle.forms.specs.Sizes.{mostData, keyBytes, bareLength}
+use Rattle.layout.specs.Write.{Laid, writeRows}
+use Rattle.layout.specs.WriteLaws.{good-length}
+use Rattle.message.specs.declared.body.What.the-variants as what
+use Rattle.message.specs.declared.head.Head.the-variants as head
+use Rattle.message.specs.Fields.{lengthOf, numberOf, dataOf, formIn}
+use Rattle.message.specs.Head.{coded, takesNumber, takesLength, headRules, headOf}
+use Rattle.message.specs.HeadLaws.{framed-exact, trailed-exact, summed-exact}
+use Rattle.message.specs.Message.{Message, TellsOfContract, messageKey, keyPlace, messageOf}
+use Rattle.message.specs.MessageLaws.{key-found, good-head, update-is}
+use Rattle.message.specs.RulesLaws.{hold-good}
+use Rattle.state.specs.declared.answers.Written.{Written}
+use Rattle.writer.specs.declared.writing.Code.{Code}
+use Rattle.writer.specs.Writer.{formWritten, numbered, rowsWritten, cellsWritten, dataWritten, messageBytes}
+use Rattle.writer.specs.WriterLaws.{message-long}
+use Rattle.writer.specs.WriterPromises.{WroteMessage}
+use Rattle.writer.specs.WriterPromisesLaws.{written-good, message-in-front}
+use Rattle.written.specs.WrittenFieldsLaws.{letter-written, second-written, number-written, length-written, data-written, form-written, sum-written, end-written}
+use Rattle.written.specs.WrittenFormLaws.{form-told, second-capital}
+
+module _ (code : Code) (level : Level) (number : ℕ) (key : List ℕ) (quote : Quote) (out out′ : List ℕ) (n : ℕ)
+    (form : Form) (chose : formWritten code level ≡ chosen.Form form) (wrote : WroteMessage code level number key quote out (Written.Message n) out′)
+  where
+    abbrev rows : Laid
+    rows = writeRows 0 (rowsOf form) key (cellsOf form quote)
+
+    abbrev pub written : List ℕ
+    written = messageBytes code number (rows .bytes)
+
+    data-laid : dataWritten (formWritten code level) key quote ≡ rows
+    unfolding dataWritten
+    data-laid = ap (λ (c : Chosen). writeRows 0 (rowsWritten c) key (cellsWritten c quote)) chose
+
+    pub rows-good : rows .verdict ≡ Good
+    rows-good = ap (λ (l : Laid). l .verdict) (sym data-laid) ∙ written-good code level number key quote out n wrote .rows-good
+
+    pub number-fits : takesNumber (is.Form form) number ≡ true
+    number-fits = ap (λ (c : Chosen). numbered c number) (sym chose) ∙ written-good code level number key quote out n wrote .has-number
+
+    pub message-there : take n out′ ≡ written
+    message-there = message-in-front code level number key quote out n wrote ∙ ap (λ (l : Laid). messageBytes code number (l .bytes)) data-laid
+
+    long : length (rows .bytes) ≡ dataLength (rowsOf form)
+    long = good-length 0 (rowsOf form) key (cellsOf form quote) rows-good
+
+    short : length (rows .bytes) + bareLength < 2 ^ 16
+    short = omega (arith, long, fits form .data-fits)
+
+    length-is : lengthOf written ≡ messageLength (rowsOf form)
+    length-is = length-written code number (rows .bytes) short ∙ ap (λ (n : ℕ). n + bareLength) long
+
+    pub all-of-it : length written ≡ lengthOf written
+    all-of-it = message-long code number (rows .bytes) ∙ sym (length-written code number (rows .bytes) short)
+
+    pub written-short : length written ≤ mostData + bareLength
+    written-short = omega (arith, message-long code number (rows .bytes), long, fits form .data-fits)
+
+    data-is : dataOf written ≡ rows .bytes
+    data-is = data-written code number (rows .bytes) short
+
+    pub data-there : dataOf (take n out′) ≡ rows .bytes
+    data-there = ap dataOf message-there ∙ data-is
+
+    form-is : formIn written ≡ is.Form form
+    form-is =
+        form-written code number (rows .bytes) short form
+        (ap (λ (n : ℕ). formOf (code .0) (code .1) (n + bareLength)) long ∙ form-told (code .0) (code .1) level form chose)
+
+    -- an update whose contract is listed
+    module _ (tells : TellsOfContract form) (few : number < 2 ^ 32) (key-long : length key ≡ keyBytes)
+        (list : List ℕ) (place : ℕ) (listed : keyPlace list (code .0) key ≡ some place)
+      where
+        number-is : numberOf written ≡ number
+        number-is = number-written code number (rows .bytes) few
+
+        key-is : messageKey written ≡ key
+        unfolding messageKey
+        key-is =
+            let front : KeyInFront keyBytes key (rows .bytes) = rw (contract-key form (tells .0) (tells .1)) at (key-in-front 0 (rowsOf form) key (cellsOf form quote) rows-good) in
+            ap (take keyBytes) data-is ∙ front .stands ∙ take-all keyBytes key (omega arith)
+
+        -- it breaks no rule before those of its rows and its key
+        head-good : headOf (code .0) (segmentOf list (code .0)) written ≡ head.Good
+        unfolding headOf coded
+        head-good =
+            let all = all-of-it in
+            let n = length-is in
+            let five = framed-exact written .1 (record { begun = omega arith; least = omega arith; within = omega arith }) in
+            let six : coded (code .0) (segmentOf list (code .0)) written ≡ true =
+            rw (letter-written code number (rows .bytes), second-written code number (rows .bytes), eq-eqb (code .0) (code .0) refl, second-capital (code .0) (code .1) level form chose, key-found list (code .0) key place listed .1) in
+            let seven = trailed-exact written .1 (end-written code number (rows .bytes) short) in
+            let nine = summed-exact written .1 (sum-written code number (rows .bytes) short) in
+            hold-good (headRules (code .0) (segmentOf list (code .0)) written) (five, (six, (seven, (ap takesLength form-is, (nine, (rw (form-is, number-is) number-fits, tt))))))
+
+        abbrev message : Message
+        message =
+            record { what = what.Update number form place; length = messageLength (rowsOf form); cells = zerosBehind (seenCells (rowsOf form) (cellsOf form quote)) }
+
+        pub message-is : messageOf list (code .0) written ≡ message
+        message-is =
+            good-head list (code .0) written head-good
+            ∙ update-is (keyPlace list (code .0) (messageKey written)) written (messageLength (rowsOf form)) (sym length-is) (what.Update number form place) form form-is tells (record { cells = seenCells (rowsOf form) (cellsOf form quote); verdict = Good })
+            (rw data-is (rows-back 0 (rowsOf form) key (cellsOf form quote) rows-good)) (rw (key-is, listed, number-is))

@@ -2,12 +2,12 @@
 use Prim.Native.Nat.{ℕ}
 use mathlib.Core.Path.{_≡_}
 use mathlib.Core.List.{List}
-use Rattle.amount.specs.Kinds.{readAs, writtenAs}
-use Rattle.amount.specs.ReadLaws.{reads-exactly}
-use Rattle.amount.specs.Write.{filled, blankText}
-use Rattle.amount.specs.WriteLaws.{fills-right, none-spaces}
-use Rattle.amount.specs.declared.Kind.{Kind}
-use Rattle.amount.specs.declared.Number.the-variants.{None, Amount}
+use Rattle.scan.specs.Read.{readAs}
+use Rattle.print.specs.Write.{writtenAs, filled, blankText}
+use Rattle.scan.specs.ReadLaws.{reads-exactly}
+use Rattle.print.specs.WriteLaws.{fills-right, none-spaces}
+use Rattle.decimal.specs.declared.Kind.{Kind}
+use Rattle.scan.specs.declared.Number.the-variants.{None, Amount}
 
 pub reads-back : (kind : Kind) (width n : ℕ) (text : List ℕ) → writtenAs kind width n ≡ filled text → readAs kind text ≡ Amount n
 reads-back kind width n text e =

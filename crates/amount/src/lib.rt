@@ -1,27 +1,11 @@
-// Numbers in text: what a kind of number is, and how each is read and written.
+// Numbers in text: the three kinds, each of them read and written as its own type.
 mod price;
 mod quantity;
-mod read;
 mod turnover;
-mod write;
 
 pub use price::Price;
+pub use print::Put;
+pub use print::blank;
 pub use quantity::Quantity;
+pub use scan::Number;
 pub use turnover::Turnover;
-pub use write::Put;
-pub use write::blank;
-
-// What a text is as a number of a kind. "None" differs from zero.
-pub enum Number {
-    None,
-    Amount(u64),
-    Malformed,
-    OutOfRange,
-}
-
-// A kind of number: how many digits may stand behind the point, of which the last counts the kind's unit, and the largest amount
-// of that unit.
-pub struct Kind {
-    pub places: usize,
-    pub most: u64,
-}

@@ -1,13 +1,12 @@
 // Numbers in text: a price.
-use crate::Kind;
-use crate::Number;
-use crate::Put;
-use crate::read;
-use crate::write;
+use decimal::Kind;
+use print::Put;
+use scan::Number;
 ghost use mathlib.Core.Path.{_≡_};
 ghost use lib.ListN.{length};
-ghost use Rattle.amount.specs.Kinds.{price, readAs, writtenAs};
-ghost use Rattle.amount.specs.Write.{Wrote};
+ghost use Rattle.decimal.specs.Kinds.{price};
+ghost use Rattle.scan.specs.Read.{readAs};
+ghost use Rattle.print.specs.Write.{writtenAs, Wrote};
 
 // A count of ten-millionths.
 pub struct Price(pub u64);
@@ -33,12 +32,12 @@ impl Price {
     pub fn read(text: &[u8]) -> Number
         ensures { λ r. ⌜ r ≡ readAs price (now (text .entry)) ⌝ }
     {
-        read::read(text, Price::KIND)
+        scan::read(text, Price::KIND)
     }
 
     pub fn write(self, field: &mut [u8]) -> Put
         ensures { λ r. ⌜ Wrote (writtenAs price (length (now (field .entry))) (self .0)) (now (field .entry)) r (now (field .exit)) ⌝ }
     {
-        write::write(self.0, Price::KIND, field)
+        print::write(self.0, Price::KIND, field)
     }
 }

@@ -1,13 +1,12 @@
 // Numbers in text: a quantity.
-use crate::Kind;
-use crate::Number;
-use crate::Put;
-use crate::read;
-use crate::write;
+use decimal::Kind;
+use print::Put;
+use scan::Number;
 ghost use mathlib.Core.Path.{_≡_};
 ghost use lib.ListN.{length};
-ghost use Rattle.amount.specs.Kinds.{quantity, readAs, writtenAs};
-ghost use Rattle.amount.specs.Write.{Wrote};
+ghost use Rattle.decimal.specs.Kinds.{quantity};
+ghost use Rattle.scan.specs.Read.{readAs};
+ghost use Rattle.print.specs.Write.{writtenAs, Wrote};
 
 // A count of contracts or units.
 pub struct Quantity(pub u64);
@@ -33,12 +32,12 @@ impl Quantity {
     pub fn read(text: &[u8]) -> Number
         ensures { λ r. ⌜ r ≡ readAs quantity (now (text .entry)) ⌝ }
     {
-        read::read(text, Quantity::KIND)
+        scan::read(text, Quantity::KIND)
     }
 
     pub fn write(self, field: &mut [u8]) -> Put
         ensures { λ r. ⌜ Wrote (writtenAs quantity (length (now (field .entry))) (self .0)) (now (field .entry)) r (now (field .exit)) ⌝ }
     {
-        write::write(self.0, Quantity::KIND, field)
+        print::write(self.0, Quantity::KIND, field)
     }
 }

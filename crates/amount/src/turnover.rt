@@ -1,13 +1,12 @@
 // Numbers in text: turnover.
-use crate::Kind;
-use crate::Number;
-use crate::Put;
-use crate::read;
-use crate::write;
+use decimal::Kind;
+use print::Put;
+use scan::Number;
 ghost use mathlib.Core.Path.{_≡_};
 ghost use lib.ListN.{length};
-ghost use Rattle.amount.specs.Kinds.{turnover, readAs, writtenAs};
-ghost use Rattle.amount.specs.Write.{Wrote};
+ghost use Rattle.decimal.specs.Kinds.{turnover};
+ghost use Rattle.scan.specs.Read.{readAs};
+ghost use Rattle.print.specs.Write.{writtenAs, Wrote};
 
 // A count of hundredths.
 pub struct Turnover(pub u64);
@@ -33,12 +32,12 @@ impl Turnover {
     pub fn read(text: &[u8]) -> Number
         ensures { λ r. ⌜ r ≡ readAs turnover (now (text .entry)) ⌝ }
     {
-        read::read(text, Turnover::KIND)
+        scan::read(text, Turnover::KIND)
     }
 
     pub fn write(self, field: &mut [u8]) -> Put
         ensures { λ r. ⌜ Wrote (writtenAs turnover (length (now (field .entry))) (self .0)) (now (field .entry)) r (now (field .exit)) ⌝ }
     {
-        write::write(self.0, Turnover::KIND, field)
+        print::write(self.0, Turnover::KIND, field)
     }
 }

@@ -1,32 +1,21 @@
 -- Taking a batch: 01 "The batch", "Sequence and gaps", and the order of its checks.
-use Prim.Native.Nat.{ℕ, zero, suc, _+_}
-use mathlib.Core.Bool.{cond, _&&_}
+use Prim.Native.Nat.{ℕ, _+_}
+use mathlib.Core.Bool.{_&&_}
 use mathlib.Core.List.{List, [], _∷_, _++_}
 use mathlib.Core.Option.{Option, none, some}
 use lib.Dec.{leb, ltb, eqb}
-use lib.ListN.{length, take, drop}
+use lib.ListN.{length, drop}
 use Rattle.laws.specs.Rules.{firstBroken}
 use Rattle.wire.specs.Number.{numberAt}
-use Rattle.forms.specs.declared.forms.Subject.{Subject}
-use Rattle.forms.specs.declared.forms.Subject.the-variants.{Nothing, Contract}
-use Rattle.forms.specs.Forms.{subjectOf}
-use Rattle.contracts.specs.File.{contractsBefore}
-use Rattle.contracts.specs.Lookup.{segmentOf}
-use Rattle.sequence.specs.Gaps.{takes, full, after}
-use Rattle.sequence.specs.Row.{gapsOf, laid}
-use Rattle.message.specs.declared.body.What.{What}
-use Rattle.message.specs.declared.body.What.the-variants.{Heartbeat, PassedOver, Update, Bad}
-use Rattle.message.specs.Fields.{letterOf, lengthOf}
-use Rattle.message.specs.Message.{messageOf}
+use Rattle.message.specs.Fields.{letterOf}
 use Rattle.state.specs.declared.answers.Judged.{Judged}
 use Rattle.state.specs.declared.answers.Judged.the-variants.{Accepted, Refused}
 use Rattle.state.specs.declared.refusal.Refusal.{Refusal}
-use Rattle.state.specs.declared.refusal.Refusal.the-variants.{Size, Packed, Flag, Count, Gaps}
-use Rattle.state.specs.Refusals.{Rule, refusalNumbers, ofFault}
+use Rattle.state.specs.declared.refusal.Refusal.the-variants.{Size, Packed, Flag, Count}
+use Rattle.state.specs.Refusals.{Rule}
 use Rattle.state.specs.Memory.{Lent, lends, gapRowOfLetter, withGapRowOfLetter}
 use Rattle.state.specs.State.{stateRules}
-use Rattle.state.specs.Slots.{slotAt, slotIn, recordOf}
-use Rattle.stores.specs.Stored.{stored}
+use Rattle.turns.specs.Turns.{Box, Acted, acted, refused, messagesAct}
 
 -- 01 "The batch": flag (1 byte)
 unfoldable pub flagOf : List ℕ → ℕ
@@ -55,78 +44,6 @@ batchRules batch =
     ∷ record { holds = ltb 0 (countOf batch); refusal = Count }
     ∷ []
 
--- 01 "Sequence and gaps": what a batch changes as its messages act in turn: its segment's gap row and the records; and the
--- counts that it answers
-pub record Box : Type 0 where
-  pub row : List ℕ
-  pub records : List ℕ
-  pub taken : ℕ
-  pub old : ℕ
-  pub heartbeats : ℕ
-
--- 01 "Sequence and gaps": a box after messages, or the refusal of one
-pub data Acted : Type 0 where
-  acted : Box → Acted
-  refused : Refusal → Acted
-
--- 01 "Sequence and gaps": a number above highest, or missing, is taken, and what its message changes is done; 14 where more
--- than 64 runs would stand; all others are old
-abbrev pub numberActs : Box → ℕ → ℕ → (List ℕ → List ℕ) → Acted
-numberActs box i number changed =
-    cond (takes (gapsOf (box .row)) number)
-    (cond (full (gapsOf (box .row)) number) (refused (Gaps i))
-    (acted (record {
-      row = laid (box .row) (after (gapsOf (box .row)) number);
-      records = changed (box .records);
-      taken = suc (box .taken);
-      old = box .old;
-      heartbeats = box .heartbeats;
-    })))
-    (acted (record {
-      row = box .row;
-      records = box .records;
-      taken = box .taken;
-      old = suc (box .old);
-      heartbeats = box .heartbeats;
-    }))
-
--- 01 "Sequence and gaps": what an update taken changes of the records, by what it tells of
-abbrev pub updated : List ℕ → Option ℕ → ℕ → Subject → ℕ → List ℕ → List ℕ → List ℕ
-updated list segment place Nothing number cells = λ records. records
-updated list segment place (Contract level) number cells = stored (slotAt list (slotIn segment place level)) number (recordOf level cells)
-
--- 01 "Sequence and gaps": message i acts: a heartbeat changes nothing
-abbrev pub whatActs : List ℕ → ℕ → Box → ℕ → What → List ℕ → Acted
-whatActs list letter box i (Bad fault) cells = refused (ofFault fault i)
-whatActs list letter box i Heartbeat cells =
-    acted (record {
-      row = box .row;
-      records = box .records;
-      taken = box .taken;
-      old = box .old;
-      heartbeats = suc (box .heartbeats);
-    })
-whatActs list letter box i (PassedOver number) cells = numberActs box i number (λ records. records)
-whatActs list letter box i (Update number form place) cells =
-    numberActs box i number (updated list (segmentOf list letter) place (subjectOf form) number cells)
-
--- 01 "The message": what acts is what the bytes are read as
-unfoldable pub messageActs : List ℕ → ℕ → Box → ℕ → List ℕ → Acted
-messageActs list letter box i bytes =
-    whatActs list letter box i (messageOf list letter bytes .what) (messageOf list letter bytes .cells)
-
--- 01, the order of checks: what comes next acts on the box, unless a refusal has come
-abbrev pub next : Acted → (Box → Acted) → Acted
-next (refused refusal) more = refused refusal
-next (acted box) more = more box
-
--- 01 "Sequence and gaps": "Messages of one batch act in turn": so many messages act in turn from message i on, each where the
--- one before it ends; last, bytes left over (4)
-unfoldable pub messagesAct : ℕ → List ℕ → ℕ → ℕ → Box → List ℕ → Acted
-messagesAct zero list letter i box bytes = cond (eqb (length bytes) 0) (acted box) (refused Count)
-messagesAct (suc more) list letter i box bytes =
-    next (messageActs list letter box i bytes) (λ box′. messagesAct more list letter (suc i) box′ (drop (lengthOf bytes) bytes))
-
 -- 01, the table's row 6: the first message's letter is the batch's
 abbrev pub batchLetter : List ℕ → ℕ
 batchLetter batch = letterOf (batchData batch)
@@ -150,11 +67,6 @@ batchActs lent batch =
 abbrev pub answerOf : Acted → Judged
 answerOf (acted box) = Accepted (box .taken) (box .old) (box .heartbeats)
 answerOf (refused refusal) = Refused refusal
-
--- 01 "What may be asked": an accepted batch answers how many messages were taken, old and heartbeats
-abbrev pub actedNumbers : Acted → List ℕ
-actedNumbers (acted box) = 0 ∷ box .taken ∷ box .old ∷ box .heartbeats ∷ []
-actedNumbers (refused refusal) = refusalNumbers refusal
 
 -- 01 "What may be asked": what a batch leaves: "A refusal leaves all lent memory as before"
 abbrev pub lentAfter : Lent → ℕ → Acted → Lent

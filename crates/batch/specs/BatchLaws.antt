@@ -9,13 +9,14 @@ use Rattle.state.specs.declared.answers.Judged.the-variants.{Accepted, Refused}
 use Rattle.state.specs.declared.refusal.Refusal.{Refusal}
 use Rattle.state.specs.Answers.{judgedNumbers}
 use Rattle.state.specs.Memory.{Lent}
-use Rattle.batch.specs.Batch.{Box, Acted, acted, refused, actedNumbers, unlessBroken, batchActs, batchRules, batchLetter, boxOf, countOf, batchData, messagesAct}
+use Rattle.turns.specs.Turns.{Box, Acted, acted, refused, actedNumbers, messagesAct}
+use Rattle.batch.specs.Batch.{unlessBroken, batchActs, batchRules, batchLetter, boxOf, countOf, batchData}
 use Rattle.batch.specs.Good.{GoodFront}
 use Rattle.state.specs.GoodState.{GoodState}
 use Rattle.batch.specs.GoodLaws.{front-exact}
 use Rattle.state.specs.StateLaws.{state-exact}
 use Rattle.state.specs.State.{stateRules}
-use Rattle.batch.specs.MessagesLaws.{not-both}
+use Rattle.turns.specs.MessagesLaws.{not-both}
 use Rattle.state.specs.RefusalsLaws.{never}
 
 module _ (lent : Lent) (batch : List ℕ) where

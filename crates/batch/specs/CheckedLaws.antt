@@ -14,13 +14,14 @@ use Rattle.state.specs.declared.refusal.Refusal.{Refusal}
 use Rattle.state.specs.declared.state.Checked.{Checked}
 use Rattle.state.specs.declared.state.Checked.the-variants as checks
 use Rattle.state.specs.Memory.{Lent}
-use Rattle.batch.specs.Batch.{Acted, refused, batchActs, batchRules, batchLetter, countOf, batchData, actedNumbers, lentAfter}
+use Rattle.turns.specs.Turns.{Acted, refused, actedNumbers}
+use Rattle.batch.specs.Batch.{batchActs, batchRules, batchLetter, countOf, batchData, lentAfter}
 use Rattle.batch.specs.BatchLaws.{rule-refuses, messages-decide}
 use Rattle.batch.specs.Good.{GoodFront}
 use Rattle.state.specs.GoodState.{GoodState}
 use Rattle.batch.specs.GoodLaws.{front-exact, rows-ready}
 use Rattle.state.specs.State.{stateRules, checkedRefusal}
-use Rattle.batch.specs.MessagesLaws.{rest-is}
+use Rattle.turns.specs.MessagesLaws.{rest-is}
 use Rattle.batch.specs.Promises.{JudgedBatch, TookBatch}
 use Rattle.batch.specs.Scratch.{DataReady, dataActs, JudgedData, TookData}
 use Rattle.state.specs.StateLaws.{state-exact}

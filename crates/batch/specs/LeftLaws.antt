@@ -19,15 +19,16 @@ use Rattle.message.specs.Message.{messageOf}
 use Rattle.message.specs.Numbers.{verdictOf}
 use Rattle.sequence.specs.Row.{gapsOf, soundGapRow}
 use Rattle.sequence.specs.RowLaws.{sound-row-exactly}
-use Rattle.batch.specs.ActsLaws.{acts-as}
-use Rattle.batch.specs.Batch.{Box, acted, messageActs, messagesAct, batchActs, batchLetter, boxOf, countOf, batchData, lentAfter}
+use Rattle.turns.specs.ActsLaws.{acts-as}
+use Rattle.turns.specs.Turns.{Box, acted, messageActs, messagesAct}
+use Rattle.batch.specs.Batch.{batchActs, batchLetter, boxOf, countOf, batchData, lentAfter}
 use Rattle.state.specs.Memory.{Lent, withGapRowIn, gapRowIn, gapRowCells, gapRowsWanted}
 use Rattle.state.specs.Slots.{recordsWanted, SameBehind}
 use Rattle.batch.specs.BatchLaws.{good-state, good-front, messages-accepted}
 use Rattle.batch.specs.Good.{gapsAfter}
 use Rattle.state.specs.GoodState.{GoodState}
 use Rattle.state.specs.RowsLaws.{length-with, behind-kept, sound-with}
-use Rattle.batch.specs.MessagesLaws.{not-both, messages-next, messages-refused, messages-end, messages-over}
+use Rattle.turns.specs.MessagesLaws.{not-both, messages-next, messages-refused, messages-end, messages-over}
 use Rattle.batch.specs.ScratchLaws.{none-accepted}
 use Rattle.batch.specs.StepLaws.{messagesIn, KeptBehind, all-kept, Went, Fell, good-goes}
 

@@ -1,12 +1,9 @@
-pub mod Acts
-pub mod ActsLaws
 pub mod Batch
 pub mod BatchLaws
 pub mod CheckedLaws
 pub mod Good
 pub mod GoodLaws
 pub mod LeftLaws
-pub mod MessagesLaws
 pub mod Order
 pub mod OrderLaws
 pub mod Promises
@@ -14,4 +11,3 @@ pub mod Scratch
 pub mod ScratchLaws
 pub mod StepLaws
 pub mod TookLaws
-pub mod UpdateLaws

@@ -12,7 +12,8 @@ use Rattle.message.specs.Fields.{lengthOf}
 use Rattle.message.specs.Order.{messageRules}
 use Rattle.state.specs.declared.refusal.Refusal.{Refusal}
 use Rattle.state.specs.declared.refusal.Refusal.the-variants.{Count, Gaps as GapsOver}
-use Rattle.batch.specs.Batch.{Acted, acted, refused, countOf, batchData, batchLetter, batchRules}
+use Rattle.turns.specs.Turns.{Acted, acted, refused}
+use Rattle.batch.specs.Batch.{countOf, batchData, batchLetter, batchRules}
 use Rattle.state.specs.Memory.{Lent, gapRowOfLetter}
 use Rattle.state.specs.State.{stateRules}
 use Rattle.batch.specs.Good.{gapsAfter}

@@ -29,8 +29,9 @@ use Rattle.message.specs.OrderLaws.{message-first}
 use Rattle.message.specs.Rules.{firstFault}
 use Rattle.state.specs.declared.refusal.Refusal.{Refusal}
 use Rattle.state.specs.declared.refusal.Refusal.the-variants.{Count, Gaps as GapsOver}
-use Rattle.batch.specs.ActsLaws.{acts-as}
-use Rattle.batch.specs.Batch.{Box, Acted, acted, refused, unlessBroken, messageActs, messagesAct, batchActs, batchRules, batchLetter, boxOf, countOf, batchData}
+use Rattle.turns.specs.ActsLaws.{acts-as}
+use Rattle.turns.specs.Turns.{Box, Acted, acted, refused, messageActs, messagesAct}
+use Rattle.batch.specs.Batch.{unlessBroken, batchActs, batchRules, batchLetter, boxOf, countOf, batchData}
 use Rattle.state.specs.Memory.{Lent, gapRowOfLetter, gapRowIn}
 use Rattle.state.specs.State.{stateRules}
 use Rattle.state.specs.Slots.{recordsWanted}
@@ -38,7 +39,7 @@ use Rattle.batch.specs.BatchLaws.{inTurn}
 use Rattle.batch.specs.Good.{gapsAfter, GoodMessages, GoodBatch}
 use Rattle.batch.specs.GoodLaws.{front-exact}
 use Rattle.state.specs.StateLaws.{state-exact}
-use Rattle.batch.specs.MessagesLaws.{messages-next, messages-refused}
+use Rattle.turns.specs.MessagesLaws.{messages-next, messages-refused}
 use Rattle.batch.specs.Order.{asRules, messagesRules, allRules, refusalOf}
 use Rattle.state.specs.Refusals.{Rule, ofFault}
 use Rattle.batch.specs.ScratchLaws.{never-good}

@@ -11,7 +11,8 @@ use Rattle.message.specs.Fields.{letterOf}
 use Rattle.sequence.specs.Row.{soundGapRow}
 use Rattle.state.specs.declared.answers.Judged.{Judged}
 use Rattle.state.specs.Answers.{judgedNumbers}
-use Rattle.batch.specs.Batch.{Acted, boxOf, messagesAct, actedNumbers, lentAfter}
+use Rattle.turns.specs.Turns.{Acted, messagesAct, actedNumbers}
+use Rattle.batch.specs.Batch.{boxOf, lentAfter}
 use Rattle.state.specs.Memory.{Lent, lends, gapRowCells, gapRowsWanted, gapRowsSound, gapRowOf}
 
 -- a word of our own: every listed segment has a sound row

@@ -23,16 +23,17 @@ use Rattle.message.specs.GoodLaws.{good-exact}
 use Rattle.sequence.specs.Promises.{Began}
 use Rattle.sequence.specs.PromisesLaws.{began-row}
 use Rattle.sequence.specs.Row.{soundGapRow}
-use Rattle.batch.specs.declared.act.InTurn.{InTurn}
+use Rattle.turns.specs.declared.act.InTurn.{InTurn}
 use Rattle.state.specs.declared.answers.Judged.{Judged}
 use Rattle.state.specs.declared.answers.Judged.the-variants.{Accepted, Refused}
 use Rattle.state.specs.declared.refusal.Refusal.{Refusal}
-use Rattle.batch.specs.Acts.{boxAt, InFront, Ready, Left, JudgedMessages, none as noCounts}
-use Rattle.batch.specs.ActsLaws.{acts-as}
+use Rattle.turns.specs.Acts.{boxAt, InFront, Ready, Left, JudgedMessages, none as noCounts}
+use Rattle.turns.specs.ActsLaws.{acts-as}
 use Rattle.state.specs.Answers.{judgedNumbers}
-use Rattle.batch.specs.Batch.{Box, acted, refused, messageActs, messagesAct, actedNumbers, boxOf, lentAfter}
+use Rattle.turns.specs.Turns.{Box, acted, refused, messageActs, messagesAct, actedNumbers}
+use Rattle.batch.specs.Batch.{boxOf, lentAfter}
 use Rattle.state.specs.Memory.{lends, withGapRowOfLetter, gapRowIn, gapRowCells, gapRowOf}
-use Rattle.batch.specs.MessagesLaws.{messages-refused, not-both}
+use Rattle.turns.specs.MessagesLaws.{messages-refused, not-both}
 use Rattle.state.specs.Refusals.{ofFault}
 use Rattle.batch.specs.BatchLaws.{accepted-box, refused-is}
 use Rattle.batch.specs.Scratch.{RowsReady, RowReady, ScratchRow, dataActs, JudgedData, TookData}

@@ -34,12 +34,12 @@ use Rattle.message.specs.Message.{messageKey, keyPlace, rowsRead, ofSubject, of
 use Rattle.message.specs.Numbers.{verdictOf}
 use Rattle.message.specs.RulesLaws.{unlike}
 use Rattle.state.specs.declared.refusal.Refusal.the-variants.{Gaps as GapsOver}
-use Rattle.batch.specs.ActsLaws.{acts-as}
-use Rattle.batch.specs.Batch.{Box, Acted, acted, refused, numberActs, messageActs, updated}
+use Rattle.turns.specs.ActsLaws.{acts-as}
+use Rattle.turns.specs.Turns.{Box, Acted, acted, refused, numberActs, messageActs, updated}
 use Rattle.stores.specs.Stored.{stored}
 use Rattle.state.specs.Slots.{slotAt, slotIn, recordOf, recordsWanted}
 use Rattle.batch.specs.Good.{arrived, arrivedFor, arrivedAs, gapsAfter}
-use Rattle.batch.specs.UpdateLaws.{level-of, record-wanted}
+use Rattle.turns.specs.UpdateLaws.{level-of, record-wanted}
 
 -- the messages that a box has counted
 abbrev pub messagesIn : Box → ℕ

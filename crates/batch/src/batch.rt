@@ -8,12 +8,11 @@ ghost use Rattle.state.specs.Memory.{lends};
 ghost use Rattle.state.specs.State.{checkedRefusal, stateRules};
 ghost use Rattle.batch.specs.Batch.{batchRules};
 ghost use Rattle.state.specs.Slots.{recordsWanted};
-ghost use Rattle.batch.specs.Acts.{InFront};
+ghost use Rattle.turns.specs.Acts.{InFront};
 ghost use Rattle.batch.specs.Promises.{JudgedBatch, TookBatch};
 ghost use Rattle.batch.specs.Scratch.{DataReady, JudgedData, TookData};
 ghost use Rattle.stores.specs.Stores.{Room};
 ghost use Prim.Native.Nat.{_≤_};
-use crate::act;
 use crate::scratch;
 use contracts::Found;
 use state::Checked;
@@ -94,7 +93,7 @@ fn judge_data(list: &[u8], rows: &[u32], data: &[u8], count: usize) -> Judged
     let before = before(list, segment);
     let mut row = scratch::row_in(rows, segment);
     let mut stores = [0u64; 1];
-    let turn = act::judge_messages(
+    let turn = turns::judge_messages(
         list,
         letter,
         segment,
@@ -135,7 +134,7 @@ fn take_on(
     let segment = contracts::segment_of(list, letter);
     let before = before(list, segment);
     let mut row = scratch::row_in(rows, segment);
-    let turn = act::judge_messages(list, letter, segment, before, &mut row, stores, data, count);
+    let turn = turns::judge_messages(list, letter, segment, before, &mut row, stores, data, count);
     let answer = turn.answer;
     let kept = turn.kept;
     if let Judged::Accepted(_, _, _) = answer {
@@ -145,7 +144,8 @@ fn take_on(
     answer
 }
 
-// Scratch memory is cleared before it is used, so a short batch gets little.
+// Scratch memory is cleared before it is used, so a short batch gets little, and one too short for an update, as heartbeats are
+// sent, has no room for a store.
 fn take_data(
     list: &[u8],
     rows: &mut [u32],
@@ -156,6 +156,10 @@ fn take_data(
     requires { ⌜ DataReady (now list) (now rows) count × (recordsWanted (now list) ≤ length (now records)) × (length (now «data») ≤ 32767) ⌝ }
     ensures { λ r. ⌜ TookData (lends (now (list .entry)) (now (rows .entry)) (now (records .entry))) (now («data» .entry)) count r (lends (now (list .entry)) (now (rows .exit)) (now (records .exit))) ⌝ }
 {
+    if data.len() < LEAST_UPDATE {
+        let mut none = [0u64; 1];
+        return take_on(list, rows, records, &mut none, data, count);
+    }
     if data.len() < MANY_DATA {
         let mut few = [0u64; FEW * stores::STORE];
         return take_on(list, rows, records, &mut few, data, count);

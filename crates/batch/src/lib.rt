@@ -1,5 +1,4 @@
 // A batch: judging it, and taking it.
-mod act;
 mod batch;
 mod scratch;
 

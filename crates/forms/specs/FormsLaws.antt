@@ -1,6 +1,6 @@
 -- The forms, computed, and the papers' numbers.
 use Prim.Native.Nat.{ℕ, _+_, _*_, _≤_, max}
-use mathlib.Core.Bool.{Bool, true, false}
+use mathlib.Core.Bool.{Bool, true, false, cond}
 use mathlib.Core.List.{List, [], _∷_, _++_, map, List·Memᴰ, List·Memᴰ·head, List·Memᴰ·tail}
 use mathlib.Core.Path.{_≡_, refl}
 use native.Mathlib.Omega.{arith}
@@ -21,9 +21,10 @@ use Rattle.forms.specs.declared.forms.Family.the-variants as family
 use Rattle.forms.specs.declared.forms.Chosen.the-variants as chosen
 use Rattle.forms.specs.Sizes.{mostRows, mostData, keyRowCount, keyBytes}
 use Rattle.forms.specs.Names.{Name, NamedRow, named, instrument, symbol, expiry, strike, optionType, marketType, buyPrice, buyQuantity, sellPrice, sellQuantity, lastPrice, tradedQuantity, status, openingPrice, highPrice, lowPrice, closePrice, averagePrice, allBuyers, allSellers, turnover}
+use Rattle.forms.specs.declared.forms.Sum.the-variants.{Zero, Right}
 use Rattle.forms.specs.Rows.{widthOf, dataLength, messageLength, offsetOf, keyInFront, padded}
 use Rattle.forms.specs.Forms.{keyRows, sides, traded, dayPrices, sideTotals, contractRows, namedRows, rowsOf, subjectOf, sumOf, recordForm, table, formsIn, formsOf, ofLength, namedBy, formOf, sumBy, sumRule, writtenBy, writtenForm}
-use Rattle.forms.specs.Inner.{familyForms}
+use Rattle.forms.specs.Inner.{familyForms, sumNamed}
 
 -- ---- the sizes
 
@@ -221,3 +222,23 @@ counts = refl
 status-rows : getD (rowsOf LevelOne) 12 (row.Key 0) ∷ getD (rowsOf LevelTwo) 28 (row.Key 0) ∷ [] ≡ row.Status ∷ row.Status ∷ []
 unfolding rowsOf namedRows
 status-rows = refl
+
+-- once a code's length is one of its own, the form alone tells what the sum may be
+pub sum-by-form : (letter second n : ℕ) → (formOf letter second n ≡ is.NoLength → ⊥) → sumRule letter second ≡ sumNamed (formOf letter second n)
+unfolding formOf sumRule
+sum-by-form letter second n some = let f = family-is letter second in rw (f .1) (go (f .0) (rw (f .1) at some))
+  where
+    one : (t : Bool) → (cond t (is.Form Heartbeat) is.NoLength ≡ is.NoLength → ⊥) → Zero ≡ sumNamed (cond t (is.Form Heartbeat) is.NoLength)
+    one true h = refl
+    one false h = absurd (h refl)
+
+    either : (s t : Bool) → (cond s (is.Form LevelOne) (cond t (is.Form LevelTwo) is.NoLength) ≡ is.NoLength → ⊥)
+        → Right ≡ sumNamed (cond s (is.Form LevelOne) (cond t (is.Form LevelTwo) is.NoLength))
+    either true t h = refl
+    either false true h = refl
+    either false false h = absurd (h refl)
+
+    go : (family : Family) → (namedBy (familyForms family) n ≡ is.NoLength → ⊥) → sumBy (familyForms family) ≡ sumNamed (namedBy (familyForms family) n)
+    go family.Heartbeat h = one (eqb n (messageLength (rowsOf Heartbeat))) h
+    go family.Contract h = either (eqb n (messageLength (rowsOf LevelOne))) (eqb n (messageLength (rowsOf LevelTwo))) h
+    go family.Outside h = refl

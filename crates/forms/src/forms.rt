@@ -2,8 +2,8 @@
 ghost use mathlib.Core.Path.{_≡_};
 ghost use lib.ListN.{length};
 ghost use Rattle.forms.specs.Rows.{padded, dataLength};
-ghost use Rattle.forms.specs.Forms.{rowsOf, subjectOf, recordForm, formsOf, formOf, sumRule, writtenForm};
-ghost use Rattle.forms.specs.Inner.{familyForms};
+ghost use Rattle.forms.specs.Forms.{rowsOf, subjectOf, recordForm, formsOf, formOf, sumOf, sumRule, writtenForm};
+ghost use Rattle.forms.specs.Inner.{familyForms, sumNamed};
 use crate::rows::Level;
 use crate::rows::Row;
 
@@ -260,6 +260,28 @@ pub fn sum_rule(letter: u8, second: u8) -> Sum
         Family::Heartbeat => Sum::Zero,
         Family::Contract => Sum::Right,
         Family::Outside => Sum::RightOrZero,
+    }
+}
+
+// Heartbeats carry zero, an update its sum.
+fn sum_of(form: Form) -> Sum
+    ensures { λ r. ⌜ r ≡ sumOf form ⌝ }
+{
+    match form {
+        Form::Heartbeat => Sum::Zero,
+        Form::LevelOne => Sum::Right,
+        Form::LevelTwo => Sum::Right,
+    }
+}
+
+// The same rule, once the form is known. What has none of its code's lengths is refused before its sum is looked at.
+pub fn sum_named(named: Named) -> Sum
+    ensures { λ r. ⌜ r ≡ sumNamed named ⌝ }
+{
+    match named {
+        Named::Form(form) => sum_of(form),
+        Named::NoLength => Sum::RightOrZero,
+        Named::PassedOver => Sum::RightOrZero,
     }
 }
 

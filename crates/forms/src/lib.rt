@@ -18,6 +18,7 @@ pub use forms::form_of;
 pub use forms::record_form;
 pub use forms::rows_of;
 pub use forms::subject_of;
+pub use forms::sum_named;
 pub use forms::sum_rule;
 pub use forms::written_form;
 pub use rows::Level;

@@ -1,5 +1,4 @@
 // Document 01's program: starts at 1 with the file `contracts`, takes batches from standard input, and lists the gaps.
-mod report;
 mod take;
 
 ghost use Prim.Native.Nat.{_≤_};

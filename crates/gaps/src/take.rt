@@ -2,7 +2,6 @@
 ghost use Prim.Native.Nat.{_+_, _≤_};
 ghost use lib.ListN.{length};
 ghost use Rattle.console.specs.Desk.{Fits};
-use crate::report;
 use console::Desk;
 use quotebox::Judged;
 use runs::Run;

@@ -9,7 +9,8 @@ use lib.Dec.{ltb}
 use lib.ListN.{getD}
 use Rattle.state.specs.declared.refusal.Refusal.the-variants.{Gaps}
 use Rattle.state.specs.declared.answers.Judged.{Judged}
-use Rattle.batch.specs.Batch.{batchActs, actedNumbers}
+use Rattle.turns.specs.Turns.{actedNumbers}
+use Rattle.batch.specs.Batch.{batchActs}
 use Rattle.batch.specs.BatchLaws.{accepted-box}
 use Rattle.batch.specs.LeftLaws.{is-listed}
 use Rattle.state.specs.Memory.{Lent, lends}

@@ -29,8 +29,8 @@ use Rattle.message.specs.MessageLaws.{key-in}
 use Rattle.message.specs.Numbers.{verdictOf, numberIn}
 use Rattle.state.specs.Slots.{Slot, contract, SlotListed, slotAt, slotFor, formFor, recordOf}
 use Rattle.state.specs.SlotsLaws.{contract-form}
-use Rattle.batch.specs.ActsLaws.{acts-as}
-use Rattle.batch.specs.Batch.{Box, numberActs, updated, messageActs}
+use Rattle.turns.specs.ActsLaws.{acts-as}
+use Rattle.turns.specs.Turns.{Box, numberActs, updated, messageActs}
 use Rattle.stores.specs.Stored.{stored}
 use Rattle.history.specs.Exactly.{UpdateSays}
 use Rattle.history.specs.Past.{isNumbered, sequenceNumber}

@@ -15,7 +15,8 @@ use Rattle.forms.specs.Forms.{namedRows, rowsOf, formsOf, formOf, sumRule}
 use Rattle.message.specs.Fields.{letterOf, secondOf, lengthOf, numberOf, sumSent, endByte, formIn, sumIn, rightSum, dataOf as dataIn}
 use Rattle.message.specs.Head.{framed, coded, trailed, summed, headOf}
 use Rattle.message.specs.Message.{messageKey, keyPlace, contentsBy, messageOf}
-use Rattle.batch.specs.Batch.{flagOf, sizeOf, countOf, messageActs, messagesAct, batchActs}
+use Rattle.turns.specs.Turns.{messageActs, messagesAct}
+use Rattle.batch.specs.Batch.{flagOf, sizeOf, countOf, batchActs}
 use Rattle.state.specs.Memory.{lends, Lent}
 use Rattle.state.specs.declared.answers.Listed.{Listed}
 use Rattle.quotebox.specs.CallPromises.{ListedRuns}

@@ -46,12 +46,13 @@ use Rattle.state.specs.Slots.{Slot, contract, SlotListed, slotAt, slotIn, recor
 use Rattle.state.specs.SlotsLaws.{cells-by-rows, slot-inside}
 use Rattle.state.specs.State.{memoryRules, stateRules, segmentRules}
 use Rattle.state.specs.StateLaws.{is-some, letter-listed, row-sound}
-use Rattle.batch.specs.ActsLaws.{acts-as}
-use Rattle.batch.specs.Batch.{Box, Acted, acted, refused, numberActs, updated, messageActs, messagesAct, next, batchActs, batchRules, batchLetter, boxOf, countOf, batchData, unlessBroken, answerOf, lentAfter}
+use Rattle.turns.specs.ActsLaws.{acts-as}
+use Rattle.turns.specs.Turns.{Box, Acted, acted, refused, numberActs, updated, messageActs, messagesAct, next}
+use Rattle.batch.specs.Batch.{batchActs, batchRules, batchLetter, boxOf, countOf, batchData, unlessBroken, answerOf, lentAfter}
 use Rattle.stores.specs.Stored.{stored}
 use Rattle.batch.specs.BatchLaws.{good-state, messages-accepted}
 use Rattle.batch.specs.LeftLaws.{is-listed, messages-leave}
-use Rattle.batch.specs.UpdateLaws.{level-of, record-wanted}
+use Rattle.turns.specs.UpdateLaws.{level-of, record-wanted}
 use Rattle.quotebox.specs.Calls.{gapsOfLetter, listRules, runsPut, writeOffRules, lowestRun, lentWrittenOff}
 use Rattle.quotebox.specs.CallsLaws.{off-left}
 use Rattle.quotebox.specs.Record.{recordRules, recordOfKey, recordNumber, cellsAt, blank, quoteAt, quoteBeside}

@@ -28,15 +28,16 @@ use Rattle.message.specs.Numbers.{verdictOf}
 use Rattle.message.specs.RulesLaws.{unlike}
 use Rattle.state.specs.declared.refusal.Refusal.{Refusal}
 use Rattle.state.specs.declared.refusal.Refusal.the-variants.{Size, Packed, Flag, Count, Gaps as GapsOver}
-use Rattle.batch.specs.ActsLaws.{acts-as}
-use Rattle.batch.specs.Batch.{Box, Acted, acted, refused, numberActs, messageActs, messagesAct, batchActs, batchRules, batchLetter, boxOf, flagOf, sizeOf, countOf, batchData}
+use Rattle.turns.specs.ActsLaws.{acts-as}
+use Rattle.turns.specs.Turns.{Box, Acted, acted, refused, numberActs, messageActs, messagesAct}
+use Rattle.batch.specs.Batch.{batchActs, batchRules, batchLetter, boxOf, flagOf, sizeOf, countOf, batchData}
 use Rattle.state.specs.Memory.{Lent}
 use Rattle.state.specs.State.{stateRules}
 use Rattle.batch.specs.BatchLaws.{front-refuses, messages-decide}
 use Rattle.batch.specs.GoodLaws.{front-exact}
 use Rattle.batch.specs.ScratchLaws.{never-good}
 use Rattle.state.specs.StateLaws.{state-exact}
-use Rattle.batch.specs.MessagesLaws.{not-both, messages-next, messages-refused}
+use Rattle.turns.specs.MessagesLaws.{not-both, messages-next, messages-refused}
 use Rattle.state.specs.Refusals.{ofFault}
 use Rattle.quotebox.specs.Start.{startOf}
 use Rattle.history.specs.Past.{Event, came, isNumbered, wroteOffIn, takenOf, comesNew, standingBy, runsStanding, sequenceNumber}

@@ -26,7 +26,8 @@ use Rattle.state.specs.declared.answers.Judged.{Judged}
 use Rattle.state.specs.declared.answers.Judged.the-variants as judged
 use Rattle.state.specs.declared.answers.WrittenOff.{WrittenOff}
 use Rattle.state.specs.declared.answers.WrittenOff.the-variants as answer
-use Rattle.batch.specs.Batch.{Box, acted, batchActs, batchLetter, boxOf, countOf, batchData, lentAfter}
+use Rattle.turns.specs.Turns.{Box, acted}
+use Rattle.batch.specs.Batch.{batchActs, batchLetter, boxOf, countOf, batchData, lentAfter}
 use Rattle.state.specs.Memory.{Lent, lends, withGapRowIn, gapRowIn, gapRowCells, gapRowOf, withGapRow}
 use Rattle.batch.specs.BatchLaws.{accepted-box, messages-accepted}
 use Rattle.batch.specs.LeftLaws.{is-listed}

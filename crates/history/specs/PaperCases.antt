@@ -9,10 +9,10 @@ use mathlib.Core.Option.{some}
 use lib.ListN.{length, replicate, drop, set}
 use Rattle.laws.specs.Texts.{codes}
 use Rattle.wire.specs.Checksum.{bitStep, byteStep, sumOf, checksumOf}
-use Rattle.amount.specs.Answers.{numberNumbers}
-use Rattle.amount.specs.Kinds.{price, readAs}
-use Rattle.amount.specs.Read.{step, walk}
-use Rattle.amount.specs.Write.{size, sizeIn, textOf}
+use Rattle.scan.specs.Answers.{numberNumbers}
+use Rattle.decimal.specs.Kinds.{price}
+use Rattle.scan.specs.Read.{readAs, step, walk}
+use Rattle.print.specs.Write.{size, sizeIn, textOf}
 use Rattle.forms.specs.declared.rows.Level.the-variants.{One, Two}
 use Rattle.quote.specs.Quote.{quoteOf, cellsOf}
 use Rattle.layout.specs.Read.{readRow}
@@ -27,7 +27,8 @@ use Rattle.forms.specs.Forms.{namedRows, rowsOf, formsOf, formOf, sumRule, writ
 use Rattle.message.specs.Fields.{letterOf, secondOf, lengthOf, numberOf, sumSent, endByte, formIn, sumIn, rightSum, dataOf as dataIn}
 use Rattle.message.specs.Head.{framed, coded, trailed, summed, headOf}
 use Rattle.message.specs.Message.{messageKey, keyPlace, contentsBy, messageOf}
-use Rattle.batch.specs.Batch.{flagOf, sizeOf, countOf, messageActs, messagesAct, batchActs}
+use Rattle.turns.specs.Turns.{messageActs, messagesAct}
+use Rattle.batch.specs.Batch.{flagOf, sizeOf, countOf, batchActs}
 use Rattle.state.specs.Memory.{Lent, lends}
 use Rattle.quotebox.specs.Calls.{gapsOfLetter, listRules, runsPut, writeOffRules, lentWrittenOff}
 use Rattle.quotebox.specs.Record.{recordRules}

@@ -6,7 +6,7 @@ use mathlib.Core.List.{List}
 use lib.ListN.{length}
 use Rattle.sequence.specs.Row.{gapsOf, soundGapRow}
 use Rattle.message.specs.Message.{Message}
-use Rattle.batch.specs.Batch.{Box}
+use Rattle.turns.specs.Turns.{Box}
 use Rattle.state.specs.Slots.{recordsWanted}
 use Rattle.quotebox.specs.Start.{startOf}
 use Rattle.history.specs.Past.{Event, wroteOffIn, takenOf, isTaken, isOld, isHeartbeat, howMany, allCame}

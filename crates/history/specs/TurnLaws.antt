@@ -21,12 +21,12 @@ use Rattle.message.specs.declared.body.What.{What}
 use Rattle.message.specs.declared.body.What.the-variants as what
 use Rattle.message.specs.Fields.{lengthOf}
 use Rattle.message.specs.Message.{Message, messageOf}
-use Rattle.batch.specs.ActsLaws.{acts-as}
-use Rattle.batch.specs.Batch.{Box, Acted, acted, refused, numberActs, messageActs, messagesAct}
+use Rattle.turns.specs.ActsLaws.{acts-as}
+use Rattle.turns.specs.Turns.{Box, Acted, acted, refused, numberActs, messageActs, messagesAct}
 use Rattle.stores.specs.Stored.{stored}
 use Rattle.state.specs.Slots.{Slot, SlotListed, slotAt, recordOf}
 use Rattle.batch.specs.LeftLaws.{last-box}
-use Rattle.batch.specs.MessagesLaws.{not-both, messages-next, messages-refused}
+use Rattle.turns.specs.MessagesLaws.{not-both, messages-next, messages-refused}
 use Rattle.quotebox.specs.Start.{startOf}
 use Rattle.history.specs.Past.{Event, came, isNumbered, wroteOffIn, comesNew, taking, takenOf, isHeartbeat, messagesOf, sequenceNumber}
 use Rattle.history.specs.Updates.{takenFor, slotOf, isSlot, segmentIn, levelIn}

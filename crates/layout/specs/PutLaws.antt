@@ -7,15 +7,14 @@ use native.Mathlib.Omega.{arith}
 use borrow.Author.Tests.{le-leb, lt-leb}
 use lib.ListN.{length, take, set, drop-of-length-le}
 use lib.Seq.{take-all}
-use Rattle.amount.specs.declared.write.Put.{Put}
-use Rattle.amount.specs.declared.write.Put.the-variants as amount
-use Rattle.amount.specs.Write.{Written, filled, refused, Wrote, blankText}
+use Rattle.print.specs.declared.text.Put.{Put}
+use Rattle.print.specs.declared.text.Put.the-variants as amount
+use Rattle.print.specs.Write.{Written, filled, refused, Wrote, blankText, writtenAs}
 use Rattle.layout.specs.declared.cells.Held.the-variants.{Nothing, Units}
 use Rattle.forms.specs.declared.rows.Row.{Row}
 use Rattle.layout.specs.declared.write.RowPut.{RowPut}
 use Rattle.layout.specs.declared.write.RowPut.the-variants.{Fits, Field, Range}
-use Rattle.amount.specs.declared.Kind.{Kind}
-use Rattle.amount.specs.Kinds.{writtenAs}
+use Rattle.decimal.specs.declared.Kind.{Kind}
 use Rattle.forms.specs.Rows.{widthOf}
 use Rattle.layout.specs.Cells.{heldIn}
 use Rattle.layout.specs.Write.{PutsRow, putOf, rowText, heldText, ofWritten, ofPut, RowText, text, malformed, out-of-range, keyText, letterText, overFront}

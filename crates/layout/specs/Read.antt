@@ -7,8 +7,8 @@ use lib.Dec.{eqb}
 use lib.ListN.{take, drop}
 use lib.Seq.{sets}
 use Rattle.wire.specs.Number.{numberAt}
-use Rattle.amount.specs.declared.Number.{Number}
-use Rattle.amount.specs.declared.Number.the-variants.{None, Amount, Malformed, OutOfRange}
+use Rattle.scan.specs.declared.Number.{Number}
+use Rattle.scan.specs.declared.Number.the-variants.{None, Amount, Malformed, OutOfRange}
 use Rattle.layout.specs.declared.cells.Held.the-variants.{Nothing, Units}
 use Rattle.forms.specs.declared.rows.Row.{Row}
 use Rattle.forms.specs.declared.rows.Row.the-variants.{Key, MarketType, Status, Price, Quantity, Turnover}
@@ -16,8 +16,9 @@ use Rattle.layout.specs.declared.read.RowRead.{RowRead}
 use Rattle.layout.specs.declared.read.RowRead.the-variants.{Cell, Field, Range}
 use Rattle.layout.specs.declared.read.Verdict.{Verdict}
 use Rattle.layout.specs.declared.read.Verdict.the-variants.{Good, Field as FieldAt, Range as RangeAt}
-use Rattle.amount.specs.declared.Kind.{Kind}
-use Rattle.amount.specs.Kinds.{price, quantity, turnover, readAs}
+use Rattle.decimal.specs.declared.Kind.{Kind}
+use Rattle.decimal.specs.Kinds.{price, quantity, turnover}
+use Rattle.scan.specs.Read.{readAs}
 use Rattle.forms.specs.Rows.{widthOf}
 use Rattle.layout.specs.Cells.{cellOf}
 

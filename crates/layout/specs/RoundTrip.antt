@@ -8,15 +8,15 @@ use lib.ListN.{length, getD, take, drop, length-drop}
 use lib.Seq.{take-at, drop-at, take-add, take-append-add, length-take-le}
 use Rattle.wire.specs.Number.{numberAt}
 use Rattle.amount.specs.ReadBack.{reads-back, none-reads-back}
-use Rattle.amount.specs.Write.{blankText}
+use Rattle.print.specs.Write.{blankText}
 use Rattle.layout.specs.declared.cells.Held.{Held}
 use Rattle.layout.specs.declared.cells.Held.the-variants.{Nothing, Units}
 use Rattle.forms.specs.declared.rows.Row.{Row}
 use Rattle.forms.specs.declared.rows.Row.the-variants.{Key, MarketType, Status, Price, Quantity, Turnover}
 use Rattle.layout.specs.declared.read.RowRead.the-variants.{Cell}
 use Rattle.layout.specs.declared.read.Verdict.the-variants.{Good}
-use Rattle.amount.specs.declared.Kind.{Kind}
-use Rattle.amount.specs.Kinds.{price, quantity, turnover}
+use Rattle.decimal.specs.declared.Kind.{Kind}
+use Rattle.decimal.specs.Kinds.{price, quantity, turnover}
 use Rattle.forms.specs.declared.rows.Level.{Level}
 use Rattle.forms.specs.declared.forms.Form.{Form}
 use Rattle.forms.specs.declared.forms.Subject.the-variants.{Contract}

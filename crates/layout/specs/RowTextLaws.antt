@@ -9,15 +9,15 @@ use lib.Dec.{leb, eqb}
 use lib.ListN.{length, take, length-replicate}
 use lib.Seq.{length-take-le}
 use Rattle.laws.specs.Order.{same}
-use Rattle.amount.specs.Denotes.{space}
-use Rattle.amount.specs.Write.{Written, filled, refused, blankText}
-use Rattle.amount.specs.WriteLaws.{fills-right}
+use Rattle.decimal.specs.Denotes.{space}
+use Rattle.print.specs.Write.{Written, filled, refused, blankText}
+use Rattle.print.specs.WriteLaws.{fills-right}
 use Rattle.layout.specs.declared.cells.Held.{Held}
 use Rattle.layout.specs.declared.cells.Held.the-variants.{Nothing, Units}
 use Rattle.forms.specs.declared.rows.Row.{Row}
 use Rattle.forms.specs.declared.rows.Row.the-variants.{Key, MarketType, Status, Price, Quantity, Turnover}
-use Rattle.amount.specs.declared.Kind.{Kind}
-use Rattle.amount.specs.Kinds.{price, quantity, turnover}
+use Rattle.decimal.specs.declared.Kind.{Kind}
+use Rattle.decimal.specs.Kinds.{price, quantity, turnover}
 use Rattle.forms.specs.Rows.{widthOf}
 use Rattle.layout.specs.Cells.{none, byteIn, heldIn, cellOf, seenCell}
 use Rattle.layout.specs.CellsLaws.{byte-back, cell-back, amount-cell}

@@ -6,9 +6,9 @@ use mathlib.Core.List.{List, [], _∷_, _++_}
 use lib.Dec.{leb}
 use lib.ListN.{length, getD, take, drop}
 use Rattle.wire.specs.Bytes.{allPrintable}
-use Rattle.amount.specs.declared.write.Put.{Put}
-use Rattle.amount.specs.declared.write.Put.the-variants as amount
-use Rattle.amount.specs.Write.{blankText, Written, filled, refused}
+use Rattle.print.specs.declared.text.Put.{Put}
+use Rattle.print.specs.declared.text.Put.the-variants as amount
+use Rattle.print.specs.Write.{blankText, Written, filled, refused, writtenAs}
 use Rattle.layout.specs.declared.cells.Held.{Held}
 use Rattle.layout.specs.declared.cells.Held.the-variants.{Nothing, Units}
 use Rattle.forms.specs.declared.rows.Row.{Row}
@@ -18,8 +18,8 @@ use Rattle.layout.specs.declared.read.Verdict.the-variants.{Good, Field 
 use Rattle.layout.specs.declared.write.RowsWritten.{RowsWritten}
 use Rattle.layout.specs.declared.write.RowPut.{RowPut}
 use Rattle.layout.specs.declared.write.RowPut.the-variants.{Fits, Field, Range}
-use Rattle.amount.specs.declared.Kind.{Kind}
-use Rattle.amount.specs.Kinds.{price, quantity, turnover, writtenAs}
+use Rattle.decimal.specs.declared.Kind.{Kind}
+use Rattle.decimal.specs.Kinds.{price, quantity, turnover}
 use Rattle.layout.specs.Cells.{heldIn}
 use Rattle.layout.specs.Read.{isMarketType, isStatus}
 

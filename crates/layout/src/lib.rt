@@ -25,6 +25,7 @@ pub use forms::data_length;
 pub use forms::form_of;
 pub use forms::record_form;
 pub use forms::subject_of;
+pub use forms::sum_named;
 pub use forms::sum_rule;
 pub use forms::written_form;
 pub use read::Verdict;

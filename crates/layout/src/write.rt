@@ -2,7 +2,7 @@ ghost use mathlib.Core.Path.{_≡_};
 ghost use mathlib.Core.List.{[], _∷_};
 ghost use Prim.Native.Nat.{_≤_};
 ghost use lib.ListN.{length, take};
-ghost use Rattle.amount.specs.Write.{blankText};
+ghost use Rattle.print.specs.Write.{blankText};
 ghost use Rattle.forms.specs.Forms.{rowsOf};
 ghost use Rattle.forms.specs.Rows.{widthOf, dataLength};
 ghost use Rattle.forms.specs.Sizes.{mostRows, mostData};

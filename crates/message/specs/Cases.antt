@@ -4,8 +4,7 @@ use mathlib.Core.Path.{_≡_, refl}
 use mathlib.Core.List.{List, [], _∷_, _++_, map}
 use lib.ListN.{replicate}
 use Rattle.wire.specs.Checksum.{bitStep, byteStep}
-use Rattle.amount.specs.Kinds.{readAs}
-use Rattle.amount.specs.Read.{step, walk}
+use Rattle.scan.specs.Read.{readAs, step, walk}
 use Rattle.contracts.specs.File.{segmentsOf, letterAt, countAt, offsetAt, keyFrom}
 use Rattle.contracts.specs.Halving.{halvedIn}
 use Rattle.contracts.specs.Lookup.{segmentOf, lookup}

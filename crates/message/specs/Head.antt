@@ -1,7 +1,7 @@
 -- The checks of a message before its data: 01 "The message", "The checksum", and the table's rows 5 to 10.
 use Prim.Native.Nat.{ℕ}
 use mathlib.Core.Bool.{Bool, true, false, _&&_, _||_}
-use mathlib.Core.List.{List, [], _∷_}
+use mathlib.Core.List.{List, [], _∷_, _++_}
 use mathlib.Core.Option.{Option, none, some}
 use lib.Dec.{leb, eqb}
 use lib.ListN.{length}
@@ -76,16 +76,25 @@ takesNumber (is.Form form) number = numbersSubject (subjectOf form) number
 takesNumber is.NoLength number = leb 1 number
 takesNumber is.PassedOver number = leb 1 number
 
--- 01, the order of checks: the rules 5 to 10
-abbrev pub headRules : ℕ → Option ℕ → List ℕ → List (Rule Fault)
-headRules letter segment bytes =
+-- 01, the order of checks: the rules 5 to 7
+abbrev pub frameRules : ℕ → Option ℕ → List ℕ → List (Rule Fault)
+frameRules letter segment bytes =
     record { holds = framed bytes; refusal = Frame }
     ∷ record { holds = coded letter segment bytes; refusal = Code }
     ∷ record { holds = trailed bytes; refusal = Trailer }
-    ∷ record { holds = takesLength (formIn bytes); refusal = Length }
+    ∷ []
+
+-- 01, the order of checks: the rules 8 to 10
+abbrev pub formRules : List ℕ → List (Rule Fault)
+formRules bytes =
+    record { holds = takesLength (formIn bytes); refusal = Length }
     ∷ record { holds = summed bytes; refusal = Checksum }
     ∷ record { holds = takesNumber (formIn bytes) (numberOf bytes); refusal = Numbering }
     ∷ []
+
+-- 01, the order of checks: the rules 5 to 10
+abbrev pub headRules : ℕ → Option ℕ → List ℕ → List (Rule Fault)
+headRules letter segment bytes = frameRules letter segment bytes ++ formRules bytes
 
 -- 01, the order of checks: the first broken one decides
 unfoldable pub headOf : ℕ → Option ℕ → List ℕ → Head

@@ -24,12 +24,16 @@ use Rattle.forms.specs.declared.forms.Sum.the-variants.{Zero, Right, RightOrZer
 use Rattle.forms.specs.Sizes.{bareLength}
 use Rattle.forms.specs.Rows.{messageLength}
 use Rattle.forms.specs.Forms.{rowsOf, subjectOf, formsOf, ofLength, namedBy, formOf}
-use Rattle.forms.specs.FormsLaws.{told-form}
-use Rattle.message.specs.declared.head.Head.the-variants.{Good}
+use Rattle.forms.specs.FormsLaws.{told-form, sum-by-form}
+use Rattle.forms.specs.Inner.{sumNamed}
+use Rattle.message.specs.declared.head.Fault.{Fault}
+use Rattle.message.specs.declared.head.Head.{Head}
+use Rattle.message.specs.declared.head.Head.the-variants.{Good, Bad}
+use Rattle.message.specs.Rules.{firstFault}
+use Rattle.message.specs.RulesLaws.{good-hold, andThen, first-append}
 use Rattle.message.specs.Good.{Framed, Coded, LetterListed, HasLength, HasSum, NumberFor, HasNumber}
 use Rattle.message.specs.Fields.{dataAt, letterOf, secondOf, lengthOf, sumSent, endByte, formIn, sumIn, rightSum, zeroSum}
-use Rattle.message.specs.Head.{framed, isCapital, coded, trailed, takesLength, summed, takesSum, numbersSubject, takesNumber, isSome, sameBytes, headRules, headOf}
-use Rattle.message.specs.RulesLaws.{good-hold}
+use Rattle.message.specs.Head.{framed, isCapital, coded, trailed, takesLength, summed, takesSum, numbersSubject, takesNumber, isSome, sameBytes, frameRules, formRules, headOf}
 
 -- 5
 pub framed-exact : (bytes : List ℕ) → framed bytes ≡ true ↔ Framed bytes
@@ -163,7 +167,23 @@ pub sum-bytes : (bytes : List ℕ) (whole first second : ℕ) → whole ≡ leng
 unfolding sumSent
 sum-bytes bytes whole first second e = rw (e, and-true)
 
--- a good head is framed
-pub good-framed : (letter : ℕ) (segment : Option ℕ) (bytes : List ℕ) → headOf letter segment bytes ≡ Good → framed bytes ≡ true
-unfolding headOf
-good-framed letter segment bytes e = good-hold (headRules letter segment bytes) e .0
+-- 5 to 7 are judged before 8 to 10
+module _ (letter : ℕ) (segment : Option ℕ) (bytes : List ℕ) where
+  abbrev frameHere : Head
+  frameHere = firstFault (frameRules letter segment bytes)
+
+  in-turn : (frame : Head) → frameHere ≡ frame → headOf letter segment bytes ≡ andThen frame (firstFault (formRules bytes))
+  unfolding headOf
+  in-turn frame e = first-append (frameRules letter segment bytes) (formRules bytes) ∙ ap (λ (h : Head). andThen h (firstFault (formRules bytes))) e
+
+  pub good-frame : frameHere ≡ Good → (framed bytes ≡ true) × (headOf letter segment bytes ≡ firstFault (formRules bytes))
+  good-frame e = (good-hold (frameRules letter segment bytes) e .0, in-turn Good e)
+
+  pub bad-frame : (fault : Fault) → frameHere ≡ Bad fault → headOf letter segment bytes ≡ Bad fault
+  bad-frame fault e = in-turn (Bad fault) e
+
+-- once 8 holds, the form tells what the sum may be
+pub sum-of-form : (bytes : List ℕ) (named : Named) → named ≡ formIn bytes → takesLength named ≡ true → sumIn bytes ≡ sumNamed named
+unfolding sumIn formIn
+sum-of-form bytes named e t =
+    rw e (sum-by-form (letterOf bytes) (secondOf bytes) (lengthOf bytes) (λ none. false≢true (ap takesLength (sym (e ∙ none)) ∙ t)))

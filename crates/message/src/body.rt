@@ -7,8 +7,9 @@ ghost use Rattle.contracts.specs.Lookup.{segmentOf};
 ghost use Rattle.forms.specs.Sizes.{keyBytes};
 ghost use Rattle.message.specs.Good.{Framed};
 ghost use Rattle.message.specs.Fields.{lengthOf, formIn};
-ghost use Rattle.message.specs.Head.{framed};
-ghost use Rattle.message.specs.Message.{TellsOfContract, messageKey, placeThere, ofPlace, rowsRead, cellsRead, contentsBy, messageOf, ReadsMessage};
+ghost use Rattle.message.specs.Head.{framed, formRules};
+ghost use Rattle.message.specs.Message.{TellsOfContract, messageKey, placeThere, ofPlace, rowsRead, cellsBy, cellsRead, contentsBy, bare, ofHead, messageOf, outlineOf, ReadsMessage};
+ghost use Rattle.message.specs.Rules.{firstFault};
 use crate::fields;
 use crate::head;
 use crate::head::Fault;
@@ -124,7 +125,34 @@ fn contents(
     }
 }
 
-// The message that begins here; `letter` is the letter of its batch's first message, and `segment` where that is listed.
+fn bad(fault: Fault, bytes: &[u8]) -> Outline
+    ensures { λ r. ⌜ r ≡ outlineOf (bare (What.Bad fault) (lengthOf (now (bytes .entry)))) ⌝ }
+{
+    Outline {
+        what: What::Bad(fault),
+        length: fields::length_of(bytes),
+    }
+}
+
+// A message with a good frame, code and trailer, by its form.
+fn formed(
+    list: &[u8],
+    segment: Found,
+    bytes: &[u8],
+    named: Named,
+    cells: &mut [u64; MOST_ROWS],
+) -> Outline
+    requires { ⌜ (framed (now bytes) ≡ true) × (named ≡ formIn (now bytes)) ⌝ }
+    ensures { λ r. ⌜ ReadsMessage (ofHead (firstFault (formRules (now (bytes .entry)))) (lengthOf (now (bytes .entry))) (contentsBy (placeThere (now (list .entry)) (messageKey (now (bytes .entry))) (placeOf segment)) (now (bytes .entry)))) (cellsBy (firstFault (formRules (now (bytes .entry)))) (now (bytes .entry))) (now (cells .entry)) r (now (cells .exit)) ⌝ }
+{
+    match head::judge_form(bytes, named) {
+        Head::Good => contents(list, segment, bytes, named, cells),
+        Head::Bad(fault) => bad(fault, bytes),
+    }
+}
+
+// The message that begins here; `letter` is the letter of its batch's first message, and `segment` where that is listed. The
+// table of forms is asked once the frame is known: no field is held against the end again, and what follows hangs on the form alone.
 pub fn read(
     list: &[u8],
     letter: u8,
@@ -135,12 +163,8 @@ pub fn read(
     requires { ⌜ placeOf segment ≡ segmentOf (now list) letter ⌝ }
     ensures { λ r. ⌜ ReadsMessage (messageOf (now (list .entry)) letter (now (bytes .entry))) (cellsRead (now (list .entry)) letter (now (bytes .entry))) (now (cells .entry)) r (now (cells .exit)) ⌝ }
 {
-    let named = fields::form_in(bytes);
-    match head::judge_head(letter, segment, bytes, named) {
-        Head::Good => contents(list, segment, bytes, named, cells),
-        Head::Bad(fault) => Outline {
-            what: What::Bad(fault),
-            length: fields::length_of(bytes),
-        },
+    match head::judge_frame(letter, segment, bytes) {
+        Head::Good => formed(list, segment, bytes, fields::form_in(bytes), cells),
+        Head::Bad(fault) => bad(fault, bytes),
     }
 }

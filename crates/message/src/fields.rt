@@ -1,8 +1,7 @@
 // The fields of a message, each at its place. What stands past the end reads as zero, so that no caller checks first.
 ghost use mathlib.Core.Path.{_≡_};
-ghost use Rattle.message.specs.Fields.{letterOf, secondOf, lengthOf, numberOf, formIn, sumIn};
+ghost use Rattle.message.specs.Fields.{letterOf, secondOf, lengthOf, numberOf, formIn};
 use layout::Named;
-use layout::Sum;
 
 // Code (2), length (2), number (4), data, sum (2), end byte.
 const SECOND: usize = 1;
@@ -43,10 +42,4 @@ pub(crate) fn form_in(bytes: &[u8]) -> Named
     ensures { λ r. ⌜ r ≡ formIn (now (bytes .entry)) ⌝ }
 {
     layout::form_of(letter_of(bytes), second_of(bytes), length_of(bytes))
-}
-
-pub(crate) fn sum_in(bytes: &[u8]) -> Sum
-    ensures { λ r. ⌜ r ≡ sumIn (now (bytes .entry)) ⌝ }
-{
-    layout::sum_rule(letter_of(bytes), second_of(bytes))
 }

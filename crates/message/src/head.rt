@@ -1,10 +1,12 @@
 // The checks 5 to 10: all of a message but its data.
 ghost use mathlib.Core.Path.{_≡_};
+ghost use mathlib.Core.Bool.{true};
 ghost use mathlib.Core.List.{[], _∷_};
 ghost use Rattle.contracts.specs.Answers.{placeOf};
 ghost use Rattle.message.specs.Good.{Framed};
 ghost use Rattle.message.specs.Fields.{lengthOf, formIn, sumSent, rightSum};
-ghost use Rattle.message.specs.Head.{framed, isCapital, coded, trailed, takesLength, summed, numbersSubject, takesNumber, headOf, sameBytes};
+ghost use Rattle.message.specs.Head.{framed, isCapital, coded, trailed, takesLength, summed, numbersSubject, takesNumber, frameRules, formRules, sameBytes};
+ghost use Rattle.message.specs.Rules.{firstFault};
 use crate::fields;
 use contracts::Found;
 use layout::Named;
@@ -105,11 +107,11 @@ fn takes_length(named: Named) -> bool
 }
 
 // The sum is worked out only where zero doesn't settle it.
-fn summed(bytes: &[u8], whole: usize) -> bool
-    requires { ⌜ Framed (now bytes) × (whole ≡ lengthOf (now bytes)) ⌝ }
+fn summed(bytes: &[u8], whole: usize, named: Named) -> bool
+    requires { ⌜ Framed (now bytes) × (whole ≡ lengthOf (now bytes)) × (named ≡ formIn (now bytes)) × (takesLength named ≡ true) ⌝ }
     ensures { λ r. ⌜ r ≡ summed (now (bytes .entry)) ⌝ }
 {
-    match fields::sum_in(bytes) {
+    match layout::sum_named(named) {
         Sum::Zero => carries(bytes, whole, 0, 0),
         Sum::Right => carries_right(bytes, whole),
         Sum::RightOrZero => {
@@ -141,25 +143,31 @@ pub fn takes_number(named: Named, number: u32) -> bool
     }
 }
 
-// The rules 5 to 10 in turn: the first broken one decides.
-pub(crate) fn judge_head(letter: u8, segment: Found, bytes: &[u8], named: Named) -> Head
-    requires { ⌜ named ≡ formIn (now bytes) ⌝ }
-    ensures { λ r. ⌜ r ≡ headOf letter (placeOf segment) (now (bytes .entry)) ⌝ }
+// The rules 5 to 7 in turn: the first broken one decides.
+pub(crate) fn judge_frame(letter: u8, segment: Found, bytes: &[u8]) -> Head
+    ensures { λ r. ⌜ r ≡ firstFault (frameRules letter (placeOf segment) (now (bytes .entry))) ⌝ }
 {
     if !framed(bytes) {
         return Head::Bad(Fault::Frame);
     }
-    let whole = fields::length_of(bytes);
     if !coded(letter, segment, bytes) {
         return Head::Bad(Fault::Code);
     }
-    if !trailed(bytes, whole) {
+    if !trailed(bytes, fields::length_of(bytes)) {
         return Head::Bad(Fault::Trailer);
     }
+    Head::Good
+}
+
+// Where these hold, the rules 8 to 10 in turn.
+pub(crate) fn judge_form(bytes: &[u8], named: Named) -> Head
+    requires { ⌜ (framed (now bytes) ≡ true) × (named ≡ formIn (now bytes)) ⌝ }
+    ensures { λ r. ⌜ r ≡ firstFault (formRules (now (bytes .entry))) ⌝ }
+{
     if !takes_length(named) {
         return Head::Bad(Fault::Length);
     }
-    if !summed(bytes, whole) {
+    if !summed(bytes, fields::length_of(bytes), named) {
         return Head::Bad(Fault::Checksum);
     }
     if !takes_number(named, fields::number_of(bytes)) {

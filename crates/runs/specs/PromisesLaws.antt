@@ -22,7 +22,8 @@ use Rattle.quotebox.specs.declared.record.Reading.{Reading}
 use Rattle.state.specs.declared.refusal.Refusal.{Refusal}
 use Rattle.state.specs.declared.refusal.Refusal.the-variants.{Memory}
 use Rattle.state.specs.Answers.{startedNumbers, judgedNumbers, listedNumbers, writtenOffNumbers, answered}
-use Rattle.batch.specs.Batch.{batchRules, batchActs, actedNumbers}
+use Rattle.turns.specs.Turns.{actedNumbers}
+use Rattle.batch.specs.Batch.{batchRules, batchActs}
 use Rattle.state.specs.AnswersLaws.{started-told, judged-told, listed-told, written-off-told, recorded-told, refused-by}
 use Rattle.quotebox.specs.Calls.{listRules, writeOffRules}
 use Rattle.quotebox.specs.CallPromises.{StartedBox, ListedRuns, WroteOffRun, ReadRecord}

@@ -29,7 +29,8 @@ use Rattle.quotebox.specs.declared.record.Reading.{Reading}
 use Rattle.state.specs.declared.refusal.Refusal.{Refusal}
 use Rattle.state.specs.declared.refusal.Refusal.the-variants.{Code, Contract, Memory, NoGap, List as ListOf}
 use Rattle.state.specs.Answers.{startedNumbers, judgedNumbers, listedNumbers, writtenOffNumbers, answered, leftBy}
-use Rattle.batch.specs.Batch.{Acted, acted, refused, unlessBroken, batchRules, batchActs, batchLetter, countOf, batchData, messagesAct, lentAfter, actedNumbers}
+use Rattle.turns.specs.Turns.{Acted, acted, refused, messagesAct, actedNumbers}
+use Rattle.batch.specs.Batch.{unlessBroken, batchRules, batchActs, batchLetter, countOf, batchData, lentAfter}
 use Rattle.state.specs.Memory.{Lent, lends, withGapRowOfLetter, gapRowOfLetter, gapRowsWanted}
 use Rattle.quotebox.specs.Calls.{gapsOfLetter, listRules, listValues, runsPut, writeOffRules, runValues, lowestRun, lentWrittenOff}
 use Rattle.quotebox.specs.CallPromises.{StartedBox, ListedRuns, WroteOffRun, ReadRecord}

@@ -40,7 +40,8 @@ use Rattle.state.specs.declared.answers.Recorded.{Recorded}
 use Rattle.state.specs.declared.answers.Written.{Written}
 use Rattle.writer.specs.declared.writing.Code.{Code}
 use Rattle.state.specs.Answers.{judgedNumbers}
-use Rattle.batch.specs.Batch.{Box, acted, messageActs, batchActs, actedNumbers, numberActs, boxOf, batchLetter, lentAfter}
+use Rattle.turns.specs.Turns.{Box, acted, messageActs, actedNumbers, numberActs}
+use Rattle.batch.specs.Batch.{batchActs, boxOf, batchLetter, lentAfter}
 use Rattle.stores.specs.Stored.{stored}
 use Rattle.state.specs.Memory.{Lent}
 use Rattle.state.specs.Slots.{slotAt, slotIn, recordOf, recordRows}
@@ -51,7 +52,7 @@ use Rattle.quotebox.specs.Calls.{gapsOfLetter}
 use Rattle.state.specs.GoodState.{GoodState}
 use Rattle.batch.specs.GoodLaws.{front-exact}
 use Rattle.state.specs.StateLaws.{state-exact, good-unrefused, segment-holds}
-use Rattle.batch.specs.MessagesLaws.{messages-next, messages-end}
+use Rattle.turns.specs.MessagesLaws.{messages-next, messages-end}
 use Rattle.batch.specs.Promises.{JudgedBatch, TookBatch}
 use Rattle.quotebox.specs.Record.{recordRules, slotThere, recordOfKey, recordNumber, cellsAt}
 use Rattle.quotebox.specs.RecordLaws.{key-holds, record-found, record-lent}

@@ -4,7 +4,7 @@ use mathlib.Core.Path.{_≡_, refl}
 use mathlib.Core.List.{List, [], _∷_, map}
 use lib.ListN.{replicate, set}
 use Rattle.laws.specs.Rules.{firstBroken}
-use Rattle.amount.specs.Write.{size, sizeIn, textOf}
+use Rattle.print.specs.Write.{size, sizeIn, textOf}
 use Rattle.quote.specs.declared.quote.Quote.{Quote}
 use Rattle.forms.specs.declared.rows.Level.{Level}
 use Rattle.forms.specs.declared.rows.Level.the-variants.{One, Two}

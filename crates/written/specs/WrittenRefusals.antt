@@ -4,9 +4,9 @@ use mathlib.Core.Path.{_≡_}
 use mathlib.Core.Logic.{_⊎_}
 use mathlib.Core.List.{List}
 use lib.ListN.{length, getD, take, drop}
-use Rattle.amount.specs.declared.Kind.{Kind}
-use Rattle.amount.specs.Kinds as kind
-use Rattle.amount.specs.Write.{NoText}
+use Rattle.decimal.specs.declared.Kind.{Kind}
+use Rattle.decimal.specs.Kinds as kind
+use Rattle.print.specs.Write.{NoText}
 use Rattle.layout.specs.declared.cells.Held.{Held}
 use Rattle.layout.specs.declared.cells.Held.the-variants.{Nothing, Units}
 use Rattle.quote.specs.declared.quote.Quote.{Quote}

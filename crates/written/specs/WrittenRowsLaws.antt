@@ -11,10 +11,10 @@ use lib.ListN.{length, getD, take, length-drop, length-map, List·getD-map, List
 use lib.Seq.{getD-take, length-take-le}
 use Rattle.laws.specs.Tests.{and-false, conj, or-none}
 use Rattle.laws.specs.Order.{order, same}
-use Rattle.amount.specs.declared.Kind.{Kind}
-use Rattle.amount.specs.Kinds.{price, quantity, turnover, writtenAs}
-use Rattle.amount.specs.Write.{Written, filled, refused}
-use Rattle.amount.specs.WriteLaws.{refuses}
+use Rattle.decimal.specs.declared.Kind.{Kind}
+use Rattle.decimal.specs.Kinds.{price, quantity, turnover}
+use Rattle.print.specs.Write.{writtenAs, Written, filled, refused}
+use Rattle.print.specs.WriteLaws.{refuses}
 use Rattle.layout.specs.declared.cells.Held.{Held}
 use Rattle.layout.specs.declared.cells.Held.the-variants.{Nothing, Units}
 use Rattle.quote.specs.declared.quote.Quote.{Quote}

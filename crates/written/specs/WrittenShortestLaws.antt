@@ -7,10 +7,10 @@ use native.Mathlib.Omega.{arith}
 use lib.ListN.{length, getD, take, drop}
 use lib.Seq.{take-at, drop-append-add, drop-drop, getD-drop}
 use Rattle.laws.specs.Order.{order}
-use Rattle.amount.specs.declared.Kind.{Kind}
-use Rattle.amount.specs.Kinds.{price, quantity, turnover, writtenAs}
-use Rattle.amount.specs.Write.{filled, refused, textOf, blankText, spaced}
-use Rattle.amount.specs.WriteLaws.{none-spaces, fills-right, shortest, within, fitting, narrow}
+use Rattle.decimal.specs.declared.Kind.{Kind}
+use Rattle.decimal.specs.Kinds.{price, quantity, turnover}
+use Rattle.print.specs.Write.{writtenAs, filled, refused, textOf, blankText, spaced}
+use Rattle.print.specs.WriteLaws.{none-spaces, fills-right, shortest, within, fitting, narrow}
 use Rattle.layout.specs.declared.read.Verdict.the-variants.{Good}
 use Rattle.layout.specs.declared.cells.Held.{Held}
 use Rattle.layout.specs.declared.cells.Held.the-variants.{Nothing, Units}

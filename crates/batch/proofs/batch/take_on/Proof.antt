@@ -6,8 +6,8 @@ use lib.ListN.{length}
 use Rattle.contracts.specs.Answers.{placeOf}
 use Rattle.contracts.specs.Lookup.{segmentOf}
 use Rattle.sequence.specs.RowLaws.{sound-row-exactly}
-use Rattle.batch.specs.Acts.{Left}
-use Rattle.batch.specs.Batch.{Box, acted}
+use Rattle.turns.specs.Acts.{Left}
+use Rattle.turns.specs.Turns.{Box, acted}
 use Rattle.batch.specs.Scratch.{RowReady, ScratchRow, dataActs}
 use Rattle.batch.specs.ScratchLaws.{row-ready, front-ready, scratch-left, scratch-taken, scratch-refused}
 use Rattle.stores.specs.Stores.{Room}

@@ -1,6 +1,6 @@
 -- Each kind of row goes to its own writer.
 use mathlib.Core.Path.{ap, sym, _∙_}
-use Rattle.amount.specs.Kinds.{price, quantity, turnover}
+use Rattle.decimal.specs.Kinds.{price, quantity, turnover}
 use Rattle.forms.specs.Rows.{widthOf}
 use Rattle.layout.specs.Write.{rowText}
 use Rattle.layout.specs.PutLaws.{puts-none, puts-amount}

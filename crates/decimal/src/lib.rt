@@ -1,0 +1,8 @@
+// What a number in text is: its kind here, and in specs/ what a text of it means.
+
+// A kind of number: how many digits may stand behind the point, of which the last counts the kind's unit, and the largest amount
+// of that unit.
+pub struct Kind {
+    pub places: usize,
+    pub most: u64,
+}

@@ -1,0 +1,38 @@
+-- The text as the writer's steps lay it out.
+use Prim.Native.Nat.{ℕ, zero, suc, _/_, _%_, _^_, _<_, _≤_}
+use mathlib.Core.Path.{_≡_}
+use mathlib.Core.List.{List, _∷_, _++_, map, append-nil}
+use native.Mathlib.Omega.{arith}
+use lib.ListN.{length}
+use Rattle.decimal.specs.Denotes.{point, digitChar, pointed}
+use Rattle.laws.specs.Powers.{tenth-first}
+use Rattle.print.specs.Write.{lastDigits, size, digits, textOf}
+use Rattle.print.specs.WriteDigitLaws.{last-zero, last-digit}
+use Rattle.print.specs.WriteLaws.{text-length}
+
+with-fraction : {fraction fraction′ : List ℕ} (whole : ℕ) → fraction ≡ fraction′ →
+    map digitChar (digits whole) ++ pointed fraction ≡ map digitChar (digits whole) ++ pointed fraction′
+with-fraction whole e = rw e
+
+-- a zero at the last place behind the point is needless
+pub text-tens : (places n : ℕ) → n % 10 ≡ 0 → textOf (suc places) n ≡ textOf places (n / 10)
+unfolding textOf
+text-tens places n h =
+    rw tenth-first (with-fraction (n / 10 ^ suc places) (last-zero places n h))
+
+-- with no places there is no point
+pub text-unpointed : (places n : ℕ) → places ≡ 0 → textOf places n ≡ map digitChar (digits (n / 10 ^ places))
+unfolding textOf
+text-unpointed zero n p = append-nil _
+text-unpointed (suc places) n p = absurd (omega arith)
+
+-- and where the last place has a digit other than zero, all of them stand behind it
+pub text-pointed : (places n : ℕ) → 0 < places → 0 < n % 10 →
+    textOf places n ≡ map digitChar (digits (n / 10 ^ places)) ++ (point ∷ map digitChar (lastDigits places n))
+unfolding textOf
+text-pointed zero n p h = absurd (omega arith)
+text-pointed (suc places) n p h = with-fraction (n / 10 ^ suc places) (last-digit places n h)
+
+-- a text is at least as long as its whole part
+pub text-longer : (places n : ℕ) → size (n / 10 ^ places) ≤ length (textOf places n)
+text-longer places n = omega (arith, text-length places n)

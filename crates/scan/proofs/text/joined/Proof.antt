@@ -1,0 +1,20 @@
+-- `joined` puts the numbers to the phase: each arm rewrites by the phase that it matched.
+use borrow.Author.Needs.{needs}
+use Rattle.scan.proofs.text.joined.Statement.{statement}
+use Rattle.scan.proofs.text.joined.Tie as tie
+
+returns-2 : tie.Need-returns-2
+returns-2 c = rw (c .enum-told2 .given .1)
+
+returns-3 : tie.Need-returns-3
+returns-3 c = rw (c .enum-told3 .given .1)
+
+returns-4 : tie.Need-returns-4
+returns-4 c = rw (c .enum-told4 .given .1)
+
+returns-5 : tie.Need-returns-5
+returns-5 c = rw (c .enum-told5 .given .1)
+
+pub joined-spec : {M : Type 1} → statement M
+joined-spec =
+    tie.close (tie.spec (λ c. search needs) (λ c. search needs) (λ c. search needs) (λ c. search needs) (λ c. search needs) (λ c. search needs) (λ c. search needs) returns-2 returns-3 returns-4 returns-5 (λ c. search needs))

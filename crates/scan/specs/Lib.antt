@@ -1,0 +1,9 @@
+pub mod Answers
+pub mod CapLaws
+pub mod DigitLaws
+pub mod EndsLaws
+pub mod Kept
+pub mod KeptLaws
+pub mod Read
+pub mod ReadLaws
+pub mod WalkLaws

@@ -1,0 +1,12 @@
+// How a number in text is read: one reader for every kind.
+mod text;
+
+pub use text::read;
+
+// What a text is as a number of a kind. "None" differs from zero.
+pub enum Number {
+    None,
+    Amount(u64),
+    Malformed,
+    OutOfRange,
+}

@@ -1,0 +1,112 @@
+-- Laws of acting: what a number and a message do, by what was answered of them.
+use Prim.Native.Nat.{ℕ, _*_, _≤_}
+use mathlib.Core.Path.{_≡_, refl, ap, sym, _∙_}
+use mathlib.Core.Bool.{true, false≢true}
+use mathlib.Core.List.{List}
+use lib.ListN.{length}
+use Rattle.sequence.specs.declared.Taken.{Taken}
+use Rattle.sequence.specs.Gaps.{after}
+use Rattle.sequence.specs.GapsLaws.{took-taken, took-old, taken-exactly, old-exactly, full-exactly}
+use Rattle.sequence.specs.Promises.{Took}
+use Rattle.sequence.specs.PromisesLaws.{took-row}
+use Rattle.sequence.specs.Row.{gapsOf, laid, soundGapRow}
+use Rattle.sequence.specs.RowLaws.{laid-self, sound-row-exactly}
+use Rattle.turns.specs.declared.act.Act.{Act}
+use Rattle.turns.specs.declared.act.Act.the-variants as act
+use Rattle.message.specs.declared.body.What.{What}
+use Rattle.message.specs.declared.body.What.the-variants as what
+use Rattle.message.specs.declared.head.Fault.{Fault}
+use Rattle.message.specs.declared.head.Head.the-variants.{Good}
+use Rattle.message.specs.CallerLaws.{all-there}
+use Rattle.message.specs.Fields.{lengthOf}
+use Rattle.message.specs.Message.{Message, messageOf}
+use Rattle.message.specs.MessageLaws.{length-is}
+use Rattle.message.specs.Numbers.{verdictOf}
+use Rattle.state.specs.declared.refusal.Refusal.{Refusal}
+use Rattle.state.specs.declared.refusal.Refusal.the-variants.{Gaps}
+use Rattle.turns.specs.Acts.{boxAt, changedBy, NumberActs, MessageActs}
+use Rattle.turns.specs.Turns.{Box, numberActs, whatActs, messageActs}
+use Rattle.state.specs.Slots.{recordsWanted}
+use Rattle.state.specs.Refusals.{ofFault}
+use Rattle.stores.specs.Stores.{storeCells, Keeps}
+use Rattle.stores.specs.StoresLaws.{none-kept}
+
+-- what becomes of message i by what became of its number
+abbrev pub actOf : ℕ → Taken → Act
+actOf i Taken.Taken = act.Taken
+actOf i Taken.Old = act.Old
+actOf i Taken.Full = act.Refused (Gaps i)
+
+module _ (row row′ : List ℕ) (i number : ℕ) (sound : soundGapRow row ≡ true) where
+  pub number-acts : (answer : Taken) → Took row number answer row′ → NumberActs row i number (actOf i answer) row′
+  number-acts Taken.Taken t =
+      let e = taken-exactly (gapsOf row) number .0 (sym (t .says)) in
+      let left : row′ ≡ laid row (after (gapsOf row) number) = t .left ∙ ap (laid row) (took-taken (gapsOf row) number (e .0) (e .1) .1) in
+      record { acts = λ changed records counts. simp (e .0, e .1, left); sound = took-row sound t }
+  number-acts Taken.Old t =
+      let e = old-exactly (gapsOf row) number .0 (sym (t .says)) in
+      let all = sound-row-exactly row .0 sound in
+      let left : row′ ≡ row = t .left ∙ ap (laid row) (took-old (gapsOf row) number e .1) ∙ laid-self row (all .0) (all .1) in
+      record { acts = λ changed records counts. simp (e, left); sound = took-row sound t }
+  number-acts Taken.Full t =
+      let e = full-exactly (gapsOf row) number .0 (sym (t .says)) in
+      record { acts = λ changed records counts. simp (e .0, e .1); sound = took-row sound t }
+
+-- what a message is decides what it does
+module _ (list : List ℕ) (letter : ℕ) (bytes : List ℕ) (message : Message) (is : message ≡ messageOf list letter bytes) {w : What} (e : message .what ≡ w) where
+  what-is : messageOf list letter bytes .what ≡ w
+  what-is = ap (λ (m : Message). m .what) (sym is) ∙ e
+
+  pub acts-as : (box : Box) (i : ℕ) → messageActs list letter box i bytes ≡ whatActs list letter box i w (message .cells)
+  unfolding messageActs
+  acts-as box i = rw (what-is, is)
+
+  whole : message .length ≡ lengthOf bytes
+  whole = ap (λ (m : Message). m .length) is ∙ length-is list letter bytes
+
+  inside : verdictOf w ≡ Good → message .length ≤ length bytes
+  inside g = rw is (all-there list letter bytes (ap verdictOf what-is ∙ g))
+
+  module _ (row stores : List ℕ) (kept i : ℕ) where
+    -- a message that is numbered
+    pub numbered : (a : Act) (number : ℕ) (changed : List ℕ → List ℕ) → verdictOf w ≡ Good
+        → ((box : Box) → whatActs list letter box i w (message .cells) ≡ numberActs box i number changed)
+        → (row′ : List ℕ) → NumberActs row i number a row′
+        → (kept′ : ℕ) (stores′ : List ℕ) → Keeps (recordsWanted list) (message .length) stores kept (changedBy a changed) kept′ stores′
+        → MessageActs list letter row stores kept i bytes (record { act = a; length = message .length; kept = kept′ }) row′ stores′
+    numbered a number changed g by row′ n kept′ stores′ k =
+        record {
+          changes = changedBy a changed;
+          acts = λ records counts. acts-as (boxAt row records counts) i ∙ by (boxAt row records counts) ∙ n .acts changed records counts;
+          sound = n .sound;
+          length-is = whole;
+          inside = λ p. inside g;
+          keeps = k;
+        }
+
+    module _ (sound : soundGapRow row ≡ true) (within : storeCells * kept ≤ length stores) where
+      none-changed : Keeps (recordsWanted list) (message .length) stores kept (λ records. records) kept stores
+      none-changed = none-kept (recordsWanted list) (message .length) stores kept within (λ records. records) (λ records. refl)
+
+      pub heartbeat-acts : w ≡ what.Heartbeat → MessageActs list letter row stores kept i bytes (record { act = act.Heartbeat; length = message .length; kept = kept }) row stores
+      heartbeat-acts h =
+          record {
+            changes = λ records. records;
+            acts = λ records counts. acts-as (boxAt row records counts) i ∙ rw h;
+            sound = sound;
+            length-is = whole;
+            inside = λ p. inside (ap verdictOf h);
+            keeps = none-changed;
+          }
+
+      pub bad-acts : (fault : Fault) → w ≡ what.Bad fault → (refusal : Refusal) → refusal ≡ ofFault fault i
+          → MessageActs list letter row stores kept i bytes (record { act = act.Refused refusal; length = message .length; kept = kept }) row stores
+      bad-acts fault h refusal f =
+          record {
+            changes = λ records. records;
+            acts = λ records counts. acts-as (boxAt row records counts) i ∙ rw (h, f);
+            sound = sound;
+            length-is = whole;
+            inside = λ p. absurd (false≢true p);
+            keeps = none-changed;
+          }

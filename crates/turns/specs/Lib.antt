@@ -1,0 +1,5 @@
+pub mod Acts
+pub mod ActsLaws
+pub mod MessagesLaws
+pub mod Turns
+pub mod UpdateLaws

@@ -1,0 +1,154 @@
+-- Laws of messages that act in turn: one step, and where they end.
+use Prim.Native.Nat.{ℕ, suc, _+_, _-_, _*_, _≤_, _<_}
+use mathlib.Core.Path.{_≡_, refl, ap, sym, _∙_}
+use mathlib.Core.Bool.{true, false≢true}
+use mathlib.Core.List.{List}
+use native.Mathlib.Numerals.{add-one}
+use native.Mathlib.Omega.{arith}
+use borrow.Author.Tests.{eq-eqb, ne-eqb}
+use lib.ListN.{length, drop, take, length-drop}
+use lib.Seq.{drop-drop, take-all}
+use Rattle.sequence.specs.Row.{soundGapRow}
+use Rattle.message.specs.Fields.{lengthOf}
+use Rattle.turns.specs.declared.act.Act.{Act}
+use Rattle.turns.specs.declared.act.Act.the-variants.{Taken, Old, Heartbeat, Refused}
+use Rattle.turns.specs.declared.act.Counts.{Counts}
+use Rattle.turns.specs.declared.act.Step.{Step}
+use Rattle.state.specs.declared.answers.Judged.the-variants as judged
+use Rattle.state.specs.declared.refusal.Refusal.{Refusal}
+use Rattle.state.specs.declared.refusal.Refusal.the-variants.{Count}
+use Rattle.turns.specs.Acts.{counted, none, total, boxAt, passed, actedAs, MessageActs, JudgedMessages, turnOf}
+use Rattle.turns.specs.Turns.{Box, Acted, acted, refused, messageActs, messagesAct, actedNumbers}
+use Rattle.state.specs.Slots.{recordsWanted}
+use Rattle.stores.specs.Stores.{storeCells, made, AllFit, leastUpdate, Room}
+
+pub not-both : {refusal : Refusal} {box : Box} → refused refusal ≡ acted box → ⊥
+not-both e = let z : _≡_ {A = ℕ} 0 1 = cc in omega arith
+
+module _ (list : List ℕ) (letter : ℕ) where
+  module _ (more i : ℕ) (box : Box) (bytes : List ℕ) where
+    pub messages-next : (box′ : Box) → messageActs list letter box i bytes ≡ acted box′
+        → messagesAct (suc more) list letter i box bytes ≡ messagesAct more list letter (suc i) box′ (drop (lengthOf bytes) bytes)
+    unfolding messagesAct
+    messages-next box′ e = rw e
+
+    pub messages-refused : (refusal : Refusal) → messageActs list letter box i bytes ≡ refused refusal
+        → messagesAct (suc more) list letter i box bytes ≡ refused refusal
+    unfolding messagesAct
+    messages-refused refusal e = rw e
+
+  module _ (i : ℕ) (box : Box) (bytes : List ℕ) where
+    pub messages-end : length bytes ≡ 0 → messagesAct 0 list letter i box bytes ≡ acted box
+    unfolding messagesAct
+    messages-end e = rw (eq-eqb (length bytes) 0 e)
+
+    pub messages-over : 0 < length bytes → messagesAct 0 list letter i box bytes ≡ refused Count
+    unfolding messagesAct
+    messages-over h = rw (ne-eqb (length bytes) 0 (λ e. omega arith))
+
+-- a step that passes is acted, one that doesn't is refused
+pub passed-acts : (act : Act) (box : Box) → passed act ≡ true → actedAs act box ≡ acted box
+passed-acts Taken box e = refl
+passed-acts Old box e = refl
+passed-acts Heartbeat box e = refl
+passed-acts (Refused refusal) box e = absurd (false≢true e)
+
+-- each message that passes counts once
+pub counted-one : (act : Act) (counts : Counts) → passed act ≡ true → total (counted act counts) ≡ suc (total counts)
+counted-one Taken counts e = omega arith
+counted-one Old counts e = omega arith
+counted-one Heartbeat counts e = omega arith
+counted-one (Refused refusal) counts e = absurd (false≢true e)
+
+-- the bytes from a place on
+pub rest-is : (bytes : List ℕ) (at : ℕ) → at ≤ length bytes → take (length bytes - at) (drop at bytes) ≡ drop at bytes
+rest-is bytes at h = take-all (length bytes - at) (drop at bytes) (omega (arith, length-drop at bytes))
+
+module _ (list : List ℕ) (letter : ℕ) (row₀ : List ℕ) (cells : ℕ) (bytes : List ℕ) (count : ℕ) where
+  abbrev acts : List ℕ → Acted
+  acts records = messagesAct count list letter 0 (boxAt row₀ records none) bytes
+
+  -- all messages before message i have passed, and left this row, these stores and these counts
+  pub record Going (row stores : List ℕ) (kept : ℕ) (counts : Counts) (at i : ℕ) : Type 0 where
+    pub changes : List ℕ → List ℕ
+    pub so-far : (records : List ℕ) → acts records ≡ messagesAct (count - i) list letter i (boxAt row (changes records) counts) (drop at bytes)
+    pub makes : Room cells (length bytes) → (records : List ℕ) → made kept stores records ≡ changes records
+    pub fit : AllFit (recordsWanted list) kept stores
+    pub few : leastUpdate * kept ≤ at
+    pub within : storeCells * kept ≤ cells
+
+  -- a refused batch leaves no box
+  refused-judged : (refusal : Refusal) (row″ stores″ : List ℕ) → ((records : List ℕ) → acts records ≡ refused refusal) → JudgedMessages list letter row₀ cells bytes count (turnOf (judged.Refused refusal) 0) row″ stores″
+  refused-judged refusal row″ stores″ e =
+      record { answers = λ records. sym (ap actedNumbers (e records)); leaves = λ records box f. absurd (not-both (sym (e records) ∙ f)) }
+
+  pub begins : (stores : List ℕ) → Going row₀ stores 0 none 0 0
+  begins stores =
+      let e : count ≡ count - 0 = omega arith in
+      record {
+        changes = λ records. records;
+        so-far = λ records. ap (λ (n : ℕ). messagesAct n list letter 0 (boxAt row₀ records none) bytes) e;
+        makes = λ room records. refl;
+        fit = λ i h. absurd (omega arith);
+        few = omega arith;
+        within = omega arith;
+      }
+
+  module _ (row stores : List ℕ) (kept : ℕ) (counts : Counts) (at i : ℕ) (going : Going row stores kept counts at i) where
+    module _ (h : i < count) (step : Step) (row′ stores′ : List ℕ) (m : MessageActs list letter row stores kept i (drop at bytes) step row′ stores′) where
+      turn : (records : List ℕ) → acts records ≡ messagesAct (suc (count - (i + 1))) list letter i (boxAt row (going .changes records) counts) (drop at bytes)
+      turn records =
+          let one-left : count - i ≡ suc (count - (i + 1)) = omega arith in
+          going .so-far records ∙ ap (λ (n : ℕ). messagesAct n list letter i (boxAt row (going .changes records) counts) (drop at bytes)) one-left
+
+      module _ (lent : length stores ≡ cells) (p : passed (step .act) ≡ true) (fits : at + step .length ≤ length bytes) where
+        -- the bytes that are left show that an update has room
+        room-here : Room cells (length bytes) → leastUpdate ≤ step .length → storeCells * kept + storeCells ≤ length stores
+        room-here room least = omega (arith, room .there, room .enough, going .few)
+
+        pub going-on : Going row′ stores′ (step .kept) (counted (step .act) counts) (at + step .length) (i + 1)
+        going-on =
+            record {
+              changes = λ records. m .changes (going .changes records);
+              so-far = λ records.
+                  turn records
+                  ∙ messages-next list letter (count - (i + 1)) i (boxAt row (going .changes records) counts) (drop at bytes) _ (m .acts (going .changes records) counts ∙ passed-acts (step .act) _ p)
+                  ∙ rw (add-one i, m .length-is, drop-drop (lengthOf (drop at bytes)) at bytes);
+              makes = λ room records. m .keeps .makes (room-here room) records ∙ ap (m .changes) (going .makes room records);
+              fit = m .keeps .fit (going .fit);
+              few = omega (arith, m .keeps .few, going .few);
+              within = omega (arith, m .keeps .within);
+            }
+
+      pub going-refused : (refusal : Refusal) → step .act ≡ Refused refusal → (row″ stores″ : List ℕ) → JudgedMessages list letter row₀ cells bytes count (turnOf (judged.Refused refusal) 0) row″ stores″
+      going-refused refusal e row″ stores″ =
+          refused-judged refusal row″ stores″
+          (λ records. turn records
+          ∙ messages-refused list letter (count - (i + 1)) i (boxAt row (going .changes records) counts) (drop at bytes) refusal (rw e at (m .acts (going .changes records) counts)))
+
+    module _ (h : count ≤ i) where
+      ended : (records : List ℕ) → acts records ≡ messagesAct 0 list letter i (boxAt row (going .changes records) counts) (drop at bytes)
+      ended records =
+          let none-left : count - i ≡ 0 = omega arith in
+          going .so-far records ∙ ap (λ (n : ℕ). messagesAct n list letter i (boxAt row (going .changes records) counts) (drop at bytes)) none-left
+
+      pub going-over : at < length bytes → (row″ stores″ : List ℕ) → JudgedMessages list letter row₀ cells bytes count (turnOf (judged.Refused Count) 0) row″ stores″
+      going-over l row″ stores″ = refused-judged Count row″ stores″ (λ records. ended records ∙ messages-over list letter i _ (drop at bytes) (omega (arith, length-drop at bytes)))
+
+      pub going-ends : length bytes ≤ at → soundGapRow row ≡ true → length stores ≡ cells
+          → JudgedMessages list letter row₀ cells bytes count (turnOf (judged.Accepted (counts .taken) (counts .old) (counts .heartbeats)) kept) row stores
+      going-ends l s lent =
+          let end : (records : List ℕ) → acts records ≡ acted (boxAt row (going .changes records) counts) = λ records. ended records ∙ messages-end list letter i _ (drop at bytes) (omega (arith, length-drop at bytes)) in
+          record {
+            answers = λ records. sym (ap actedNumbers (end records));
+            leaves = λ records box e.
+                let same : acted (boxAt row (going .changes records) counts) ≡ acted box = sym (end records) ∙ e in
+                let is : boxAt row (going .changes records) counts ≡ box = cc in
+                record {
+                  row-is = sym (ap (λ (b : Box). b .row) is);
+                  sound = s;
+                  records-are = λ room. sym (ap (λ (b : Box). b .records) is) ∙ sym (going .makes room records);
+                  fit = going .fit;
+                  within = omega (arith, going .within);
+                };
+          }

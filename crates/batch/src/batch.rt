@@ -91,7 +91,8 @@ fn judge_data(list: &[u8], rows: &[u32], data: &[u8], count: usize) -> Judged
     let letter = message::letter_of(data);
     let segment = contracts::segment_of(list, letter);
     let before = before(list, segment);
-    let mut row = scratch::row_in(rows, segment);
+    let mut row = [0u32; sequence::CELLS];
+    scratch::copy_row_in(rows, segment, &mut row);
     let mut stores = [0u64; 1];
     let turn = turns::judge_messages(
         list,
@@ -133,7 +134,8 @@ fn take_on(
     let letter = message::letter_of(data);
     let segment = contracts::segment_of(list, letter);
     let before = before(list, segment);
-    let mut row = scratch::row_in(rows, segment);
+    let mut row = [0u32; sequence::CELLS];
+    scratch::copy_row_in(rows, segment, &mut row);
     let turn = turns::judge_messages(list, letter, segment, before, &mut row, stores, data, count);
     let answer = turn.answer;
     let kept = turn.kept;

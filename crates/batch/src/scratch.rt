@@ -8,18 +8,14 @@ ghost use Rattle.batch.specs.Scratch.{RowReady, ScratchRow};
 use contracts::Found;
 use sequence::CELLS;
 
-// The gap row of a segment; where there is none, a row that nothing was taken in.
-pub(crate) fn row_in(rows: &[u32], segment: Found) -> [u32; CELLS]
-    requires { ⌜ RowReady (now rows) (placeOf segment) ⌝ }
-    ensures { λ r. ⌜ ScratchRow (now (rows .entry)) (placeOf segment) r ⌝ }
+// The gap row of a segment, laid over another; where there is none, a row that nothing was taken in.
+pub(crate) fn copy_row_in(rows: &[u32], segment: Found, row: &mut [u32; CELLS])
+    requires { ⌜ RowReady (now rows) (placeOf segment) × (length (now row) ≡ gapRowCells) ⌝ }
+    ensures { λ _. ⌜ ScratchRow (now (rows .entry)) (placeOf segment) (now (row .exit)) ⌝ }
 {
     match segment {
-        Found::At(i) => state::row_of(rows, i),
-        Found::Nowhere => {
-            let mut row = [0u32; CELLS];
-            sequence::start(&mut row, 1);
-            row
-        }
+        Found::At(i) => state::copy_row(rows, i, row),
+        Found::Nowhere => sequence::start(row, 1),
     }
 }
 

@@ -19,6 +19,7 @@ pub use records::record_rows;
 pub use refusal::Refusal;
 pub use refusal::of_fault;
 pub use refusal::refusal_numbers;
+pub use rows::copy_row;
 pub use rows::put_row;
 pub use rows::row_of;
 pub use state::Asked;

@@ -5,17 +5,25 @@ ghost use lib.ListN.{length};
 ghost use Rattle.state.specs.Memory.{gapRowCells, gapRowOf, withGapRow};
 use sequence::CELLS;
 
-pub fn row_of(rows: &[u32], segment: usize) -> [u32; CELLS]
-    requires { ⌜ gapRowCells * segment + gapRowCells ≤ length (now rows) ⌝ }
-    ensures { λ r. ⌜ r ≡ gapRowOf (now (rows .entry)) segment ⌝ }
+// A segment's gap row, laid over another.
+pub fn copy_row(rows: &[u32], segment: usize, row: &mut [u32; CELLS])
+    requires { ⌜ (gapRowCells * segment + gapRowCells ≤ length (now rows)) × (length (now row) ≡ gapRowCells) ⌝ }
+    ensures { λ _. ⌜ now (row .exit) ≡ gapRowOf (now (rows .entry)) segment ⌝ }
 {
     let at = CELLS * segment;
-    let mut row = [0u32; CELLS];
     let mut j = 0;
     while j < CELLS {
         row[j] = rows[at + j];
         j += 1;
     }
+}
+
+pub fn row_of(rows: &[u32], segment: usize) -> [u32; CELLS]
+    requires { ⌜ gapRowCells * segment + gapRowCells ≤ length (now rows) ⌝ }
+    ensures { λ r. ⌜ r ≡ gapRowOf (now (rows .entry)) segment ⌝ }
+{
+    let mut row = [0u32; CELLS];
+    copy_row(rows, segment, &mut row);
     row
 }
 

@@ -1,31 +1,31 @@
 -- On a scratch row of the batch's segment.
-use mathlib.Core.Path.{sym, _∙_}
+use mathlib.Core.Path.{refl, sym, _∙_}
 use Rattle.batch.specs.ScratchLaws.{row-ready, front-ready, scratch-judged}
 use borrow.Author.Needs.{needs}
 use Rattle.batch.proofs.batch.judge_data.Statement.{statement}
 use Rattle.batch.proofs.batch.judge_data.Tie as tie
 
-row-in-requires : tie.Need-row-in-requires
-row-in-requires c κs i e =
-    let u = c .before .before in
+copy-row-in-requires : tie.Need-copy-row-in-requires
+copy-row-in-requires c κs =
+    let u = c .before .before .before in
     let s = u .before .before .before .before in
-    row-ready (s .args .list .now) (s .args .rows .now) (u .letter-of .result) (s .pre .rows-ready) i (sym (c .before .segment-of .ensures) ∙ e)
+    ((λ i e. row-ready (s .args .list .now) (s .args .rows .now) (u .letter-of .result) (s .pre .rows-ready) i (sym (c .before .before .segment-of .ensures) ∙ e)), refl)
 
 judge-messages-requires : tie.Need-judge-messages-requires
 judge-messages-requires c κs =
     let r = c .before .before in
-    let f = r .before in
+    let f = r .before .before in
     let s = f .before .before .before .before .before .before in
-    (front-ready (s .args .list .now) _ _ _ _ _ _ (f .before .segment-of .ensures) (s .pre .header) (f .before2 .ensures) (r .row-in .ensures), s .pre .few)
+    (front-ready (s .args .list .now) _ _ _ _ _ _ (f .before .segment-of .ensures) (s .pre .header) (f .before2 .ensures) (r .copy-row-in .ensures), s .pre .few)
 
 returns : tie.Need-returns
 returns c =
     let j = c .before in
     let r = j .before .before .before in
-    let s = r .before .before in
+    let s = r .before .before .before in
     let u = s .before in
-    scratch-judged _ _ _ _ _ _ (rw (s .segment-of .ensures) at (r .row-in .ensures)) (u .before .before .before .before .pre .some-messages) (u .letter-of .ensures) _ _ _ _ (j .judge-messages .ensures)
+    scratch-judged _ _ _ _ _ _ (rw (s .segment-of .ensures) at (r .copy-row-in .ensures)) (u .before .before .before .before .pre .some-messages) (u .letter-of .ensures) _ _ _ _ (j .judge-messages .ensures)
 
 pub judge-data-spec : {M : Type 1} → statement M
 judge-data-spec =
-    tie.close (tie.spec (λ c κs. search needs) (λ c κs. search needs) (λ c κs. search needs) row-in-requires (search needs) judge-messages-requires returns)
+    tie.close (tie.spec (λ c κs. search needs) (λ c κs. search needs) (λ c κs. search needs) copy-row-in-requires (search needs) judge-messages-requires returns)

@@ -1,6 +1,6 @@
 -- Judged first; the row put back and the stores made where every message has passed.
 use Prim.Native.Nat.{ℕ}
-use mathlib.Core.Path.{_≡_, sym, _∙_}
+use mathlib.Core.Path.{_≡_, refl, sym, _∙_}
 use mathlib.Core.List.{List}
 use lib.ListN.{length}
 use Rattle.contracts.specs.Answers.{placeOf}
@@ -20,7 +20,7 @@ use Rattle.batch.proofs.batch.take_on.Tie as tie
 -- what is known once the messages are judged
 module _ (c : tie.After-judge-messages) where
   abbrev found : tie.After-segment-of
-  found = c .before .before .before .before .before .before
+  found = c .before .before .before .before .before .before .before
 
   abbrev first : tie.After-letter-of
   first = found .before
@@ -37,8 +37,8 @@ module _ (c : tie.After-judge-messages) where
   ready : RowReady (start .args .rows .now) (placeOf (found .segment-of .result))
   ready i e = row-ready (start .args .list .now) (start .args .rows .now) (first .letter-of .result) (start .pre .0 .rows-ready) i (sym (found .segment-of .ensures) ∙ e)
 
-  scratch : ScratchRow (start .args .rows .now) (segmentOf (start .args .list .now) (first .letter-of .result)) (c .before .before .before .row-in .result)
-  scratch = rw (found .segment-of .ensures) at (c .before .before .before .row-in .ensures)
+  scratch : ScratchRow (start .args .rows .now) (segmentOf (start .args .list .now) (first .letter-of .result)) (c .before .before .before .copy-row-in .last .1 .1 .0)
+  scratch = rw (found .segment-of .ensures) at (c .before .before .before .copy-row-in .ensures)
 
 -- and accepted
 module _ (c : tie.After-enum-told) where
@@ -53,19 +53,19 @@ module _ (c : tie.After-enum-told) where
   left =
       scratch-left _ _ _ _ _ _ (scratch judged) (lent .pre .0 .some-messages) (first judged .letter-of .ensures) _ _ _ _ (judged .judge-messages .ensures) (lent .args .records .now) (c .enum-told .given .1)
 
-row-in-requires : tie.Need-row-in-requires
-row-in-requires c κs i e =
-    let f = c .before .before in
+copy-row-in-requires : tie.Need-copy-row-in-requires
+copy-row-in-requires c κs =
+    let f = c .before .before .before in
     let u = f .before in
     let s = u .before .before .before .before .before .before in
-    row-ready (s .args .list .now) (s .args .rows .now) (u .letter-of .result) (s .pre .0 .rows-ready) i (sym (f .segment-of .ensures) ∙ e)
+    ((λ i e. row-ready (s .args .list .now) (s .args .rows .now) (u .letter-of .result) (s .pre .0 .rows-ready) i (sym (f .segment-of .ensures) ∙ e)), refl)
 
 judge-messages-requires : tie.Need-judge-messages-requires
 judge-messages-requires c κs =
     let r = c .before .before in
-    let f = r .before .before in
+    let f = r .before .before .before in
     let s = f .before .before .before .before .before .before .before .before in
-    (front-ready (s .args .list .now) _ _ _ _ _ _ (f .before .segment-of .ensures) (s .pre .0 .header) (f .before2 .ensures) (r .row-in .ensures), s .pre .0 .few)
+    (front-ready (s .args .list .now) _ _ _ _ _ _ (f .before .segment-of .ensures) (s .pre .0 .header) (f .before2 .ensures) (r .copy-row-in .ensures), s .pre .0 .few)
 
 put-row-in-requires : tie.Need-put-row-in-requires
 put-row-in-requires c κs = let d = c .before .before in (ready (judged d), sound-row-exactly (row′ (judged d)) .0 (left d .2 .sound) .0)
@@ -93,4 +93,4 @@ returns-2 c =
 
 pub take-on-spec : {M : Type 1} → statement M
 take-on-spec =
-    tie.close (tie.spec (λ c κs. search needs) (λ c κs. search needs) (λ c κs. search needs) row-in-requires judge-messages-requires (search needs) put-row-in-requires make-all-requires (search needs) (search needs) (search needs) (search needs) returns (search needs) (search needs) returns-2)
+    tie.close (tie.spec (λ c κs. search needs) (λ c κs. search needs) (λ c κs. search needs) copy-row-in-requires judge-messages-requires (search needs) put-row-in-requires make-all-requires (search needs) (search needs) (search needs) (search needs) returns (search needs) (search needs) returns-2)

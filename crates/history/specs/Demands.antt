@@ -1,18 +1,19 @@
 -- Demand 3, and what of the others is said over histories, each sentence as a statement. `DemandsLaws` proves them.
 use Prim.Native.Nat.{ℕ, _*_, _≤_, _<_}
 use mathlib.Core.Path.{_≡_}
-use mathlib.Core.Bool.{_||_}
+use mathlib.Core.Bool.{false, _&&_, _||_}
 use mathlib.Core.List.{List}
 use mathlib.Core.Logic.{_↔_}
 use mathlib.Core.Option.{some}
-use lib.Dec.{ltb}
+use lib.Dec.{ltb, eqb}
 use lib.ListN.{length}
 use Rattle.contracts.specs.File.{segmentsOf}
 use Rattle.contracts.specs.Lookup.{segmentOf}
+use Rattle.sequence.specs.Runs.{_to_, names}
 use Rattle.quote.specs.declared.quote.Quote.{Quote}
 use Rattle.forms.specs.declared.rows.Level.{Level}
 use Rattle.state.specs.declared.refusal.Refusal.{Refusal}
-use Rattle.state.specs.declared.refusal.Refusal.the-variants.{Gaps, Memory}
+use Rattle.state.specs.declared.refusal.Refusal.the-variants.{Gaps, NoGap, Memory}
 use Rattle.state.specs.declared.answers.Started.{Started}
 use Rattle.state.specs.declared.answers.Judged.{Judged}
 use Rattle.state.specs.declared.answers.Listed.{Listed}
@@ -27,9 +28,9 @@ use Rattle.quotebox.specs.Start.{startOf}
 use Rattle.state.specs.GoodState.{GoodState}
 use Rattle.state.specs.Memory.{Lent}
 use Rattle.state.specs.Slots.{Slot, SlotListed}
-use Rattle.history.specs.Past.{Event, wroteOffIn, takenOf, isNew, highestIn, missingIn, runsStanding}
+use Rattle.history.specs.Past.{Event, afterWriteOff, wroteOffIn, takenOf, isNew, highestIn, missingIn, runsStanding}
 use Rattle.history.specs.Updates.{takenFor, letterIn, keyIn, levelIn}
-use Rattle.history.specs.Exactly.{NamesMissing, ReadsNewest, CountsCame, OverInBatch}
+use Rattle.history.specs.Exactly.{NamesMissing, LowestRun, ReadsNewest, CountsCame, OverInBatch}
 
 -- demand 3: "After any sequence of calls from a fresh start", for each listed segment and each listed contract:
 pub record AfterCalls (starts : List ℕ) (lent : Lent) (past : List Event) : Type 0 where
@@ -43,6 +44,15 @@ pub record AfterCalls (starts : List ℕ) (lent : Lent) (past : List Event) : Ty
   pub list-refused : (letter i : ℕ) → segmentOf (lent .list) letter ≡ some i → (cells : List ℕ) (answer : Listed) (cells′ : List ℕ)
       → ListedRuns lent letter cells answer cells′ → length cells < 2 * runsStanding i (startOf starts i) past
       → answer ≡ Listed.Refused (Memory (2 * runsStanding i (startOf starts i) past))
+  -- "A write-off removes the lowest run": it answers the lowest run of the missing numbers
+  pub off-lowest : (letter i : ℕ) → segmentOf (lent .list) letter ≡ some i → (first last : ℕ) (lent′ : Lent)
+      → WroteOffRun lent letter (WrittenOff.Removed first last) lent′ → LowestRun (missingIn i (startOf starts i) past) first last
+  -- 17 exactly when none is missing
+  pub off-none : (letter i : ℕ) → segmentOf (lent .list) letter ≡ some i → (answer : WrittenOff) (lent′ : Lent) → WroteOffRun lent letter answer lent′
+      → answer ≡ WrittenOff.Refused NoGap ↔ ((n : ℕ) → missingIn i (startOf starts i) past n ≡ false)
+  -- afterwards exactly its numbers are written off, beside those that were
+  pub off-after : (letter i : ℕ) → segmentOf (lent .list) letter ≡ some i → (first last j n : ℕ)
+      → wroteOffIn j (afterWriteOff (lent .list) letter (WrittenOff.Removed first last) past) n ≡ eqb i j && names (first to last) n || wroteOffIn j past n
   -- "and each record is its contract's highest-numbered update taken"
   pub reads-newest : (slot : Slot) → SlotListed (lent .list) slot → (reading : Reading)
       → ReadRecord lent (letterIn (lent .list) slot) (keyIn (lent .list) slot) (levelIn slot) reading → ReadsNewest slot (takenFor starts slot past) reading

@@ -26,6 +26,7 @@ use Rattle.history.specs.Histories.{Reached}
 use Rattle.history.specs.HoldsLaws.{reached-holds, batch-turned, off-listed}
 use Rattle.history.specs.Exactly.{CountsCame, SameTaken}
 use Rattle.history.specs.ListingLaws.{gaps-exactly, runs-answered, runs-refused}
+use Rattle.history.specs.OffLaws.{off-lowest, off-none, off-after}
 use Rattle.history.specs.RecordLaws.{reads-slot}
 use Rattle.history.specs.FullLaws.{acts-over}
 use Rattle.history.specs.AgreeLaws.{listings-agree, records-agree}
@@ -54,6 +55,9 @@ module _ {starts : List ℕ} {lent : Lent} {past : List Event} (r : Reached star
         names-missing = gaps-exactly r;
         list-answered = runs-answered r;
         list-refused = runs-refused r;
+        off-lowest = off-lowest r;
+        off-none = off-none r;
+        off-after = off-after r;
         reads-newest = reads-slot r;
         takes-missing = λ i there n.
             let start : ℕ = startOf starts i in

@@ -1,7 +1,7 @@
 -- What the demands say of the answers after a history, in the words of its past.
 use Prim.Native.Nat.{ℕ, zero, suc, _*_, _≤_, _<_}
 use mathlib.Core.Path.{_≡_}
-use mathlib.Core.Bool.{true, false}
+use mathlib.Core.Bool.{Bool, true, false}
 use mathlib.Core.List.{List, _∷_, List·Memᴰ}
 use mathlib.Core.Logic.{_⊎_, _↔_}
 use mathlib.Core.Option.{Option, none, some}
@@ -43,6 +43,14 @@ pub record NamesMissing (i start : ℕ) (past : List Event) (highest runs : ℕ)
   -- no number is named twice
   pub each-once : (n k j : ℕ) → k < runs → j < runs → names (run (runsThere runs cells) k) n ≡ true → names (run (runsThere runs cells) j) n ≡ true → k ≡ j
   pub exactly : (n : ℕ) → missing (runsThere runs cells) n ≡ missingIn i start past n
+
+-- 01 "Sequence and gaps", "A write-off removes the lowest run": a run that is the lowest of a set of numbers: all of its numbers are in the
+-- set, none below it is, and the next above it is not
+pub record LowestRun (held : ℕ → Bool) (first last : ℕ) : Type 0 where
+  pub ascending : first ≤ last
+  pub all-held : (n : ℕ) → first ≤ n → n ≤ last → held n ≡ true
+  pub none-below : (n : ℕ) → n < first → held n ≡ false
+  pub ends : held (suc last) ≡ false
 
 -- demand 3: the highest-numbered update of a slot's contract and level among the messages taken of its segment
 pub record IsNewest (slot : Slot) (taken : List Message) (m : Message) : Type 0 where

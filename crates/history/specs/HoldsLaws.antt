@@ -153,10 +153,10 @@ lowest-there : (runs : List Run) (a b : ℕ) → 0 < length runs → a ≡ run r
 lowest-there [] a b l first last = absurd (omega arith)
 lowest-there (r ∷ rs) a b l first last = rw (first, last)
 
-off-here : (i : ℕ) (r : Run) (past : List Event) → wroteOffIn i (off i r ∷ past) ≡ (λ n. names r n || wroteOffIn i past n)
+pub off-here : (i : ℕ) (r : Run) (past : List Event) → wroteOffIn i (off i r ∷ past) ≡ (λ n. names r n || wroteOffIn i past n)
 off-here i r past = fun-ext (λ n. rw (eq-eqb i i refl))
 
-off-elsewhere : (i j : ℕ) (r : Run) (past : List Event) → (j ≡ i → ⊥) → wroteOffIn i (off j r ∷ past) ≡ wroteOffIn i past
+pub off-elsewhere : (i j : ℕ) (r : Run) (past : List Event) → (j ≡ i → ⊥) → wroteOffIn i (off j r ∷ past) ≡ wroteOffIn i past
 off-elsewhere i j r past n = fun-ext (λ k. rw (ne-eqb j i n))
 
 module _ {lent lent′ : Lent} {letter : ℕ} (first last : ℕ) (p : WroteOffRun lent letter (answer.Removed first last) lent′) where
@@ -171,7 +171,7 @@ module _ {lent lent′ : Lent} {letter : ℕ} (first last : ℕ) (p : WroteOffRu
   pub off-listed : (i : ℕ) × (segmentOf (lent .list) letter ≡ some i)
   off-listed = is-some (segmentOf (lent .list) letter) (letter-listed lent letter (both-held .0))
 
-  off-answer : (i : ℕ) → segmentOf (lent .list) letter ≡ some i → writeOffAnswer (gapsOf (gapRowOf (lent .rows) i)) ≡ writtenOff first last
+  pub off-answer : (i : ℕ) → segmentOf (lent .list) letter ≡ some i → writeOffAnswer (gapsOf (gapRowOf (lent .rows) i)) ≡ writtenOff first last
   unfolding writeOffAnswer
   off-answer i s =
       let low = answers-lowest first last p in

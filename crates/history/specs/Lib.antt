@@ -17,6 +17,7 @@ pub mod Kept
 pub mod KeptLaws
 pub mod ListingLaws
 pub mod NewestLaws
+pub mod OffLaws
 pub mod PaperCases
 pub mod Past
 pub mod RecordLaws

@@ -2,6 +2,8 @@ pub mod Cells
 pub mod CellsLaws
 pub mod Read
 pub mod ReadLaws
+pub mod Says
+pub mod SaysLaws
 pub mod Write
 pub mod PutLaws
 pub mod RowTextLaws

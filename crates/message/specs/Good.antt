@@ -5,7 +5,7 @@ use mathlib.Core.Logic.{_⊎_}
 use mathlib.Core.List.{List, [], _∷_, List·Memᴰ}
 use mathlib.Core.Option.{Option, some}
 use lib.ListN.{length}
-use Rattle.contracts.specs.File.{segmentsOf, letterAt}
+use Rattle.contracts.specs.File.{segmentsOf, letterAt, countAt, listedKey}
 use Rattle.layout.specs.declared.read.RowRead.the-variants.{Cell}
 use Rattle.forms.specs.declared.forms.Form.{Form}
 use Rattle.forms.specs.declared.forms.Named.{Named}
@@ -16,7 +16,7 @@ use Rattle.forms.specs.declared.forms.Sum.{Sum}
 use Rattle.forms.specs.declared.forms.Sum.the-variants.{Zero, Right, RightOrZero}
 use Rattle.forms.specs.declared.rows.Row.{Row}
 use Rattle.layout.specs.FirstBad.{rowAt, fieldAt}
-use Rattle.layout.specs.Read.{readRow}
+use Rattle.layout.specs.Says.{RowSays}
 use Rattle.forms.specs.Sizes.{bareLength}
 use Rattle.forms.specs.Rows.{messageLength}
 use Rattle.forms.specs.Forms.{rowsOf, subjectOf, formsOf}
@@ -62,9 +62,9 @@ HasNumber (is.Form form) number = NumberFor (subjectOf form) number
 HasNumber is.NoLength number = 1 ≤ number
 HasNumber is.PassedOver number = 1 ≤ number
 
--- 01, the table's rows 11 and 12: every row is well formed and in range, so that it reads as a cell
+-- 01, the table's rows 11 and 12: every row's field is well formed and in range: it says the cell that is kept of it
 abbrev pub GoodRows : List Row → List ℕ → Type 0
-GoodRows rows bytes = (i : ℕ) → i < length rows → (cell : ℕ) × (readRow (rowAt rows i) (fieldAt rows bytes i) ≡ Cell cell)
+GoodRows rows bytes = (i : ℕ) → i < length rows → (cell : ℕ) × RowSays (rowAt rows i) (fieldAt rows bytes i) (Cell cell)
 
 -- 01, the table's row 13: the key of an update is listed
 abbrev pub PlaceFor : Subject → Option ℕ → Type 0
@@ -76,6 +76,11 @@ abbrev pub HasContract : Named → Option ℕ → Type 0
 HasContract (is.Form form) place = PlaceFor (subjectOf form) place
 HasContract is.NoLength place = Unit {0}
 HasContract is.PassedOver place = Unit {0}
+
+-- 01, the table's row 13: the key is one of the list's, in the segment of the letter
+abbrev pub KeyListed : List ℕ → ℕ → List ℕ → Type 0
+KeyListed list letter key =
+    (i : ℕ) × (k : ℕ) × (i < segmentsOf list) × (letterAt list i ≡ letter) × (k < countAt list i) × (listedKey list i k ≡ key)
 
 -- 01, the table's rows 5 to 13: a message that breaks none of their rules
 pub record GoodMessage (list : List ℕ) (letter : ℕ) (bytes : List ℕ) : Type 0 where

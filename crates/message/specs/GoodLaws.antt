@@ -1,6 +1,6 @@
 -- A message has no fault exactly when it is good.
 use Prim.Native.Nat.{ℕ, zero, suc}
-use mathlib.Core.Path.{_≡_, refl, ap, sym, _∙_}
+use mathlib.Core.Path.{_≡_, refl, ap, sym, subst, _∙_}
 use mathlib.Core.Bool.{true, false≢true}
 use mathlib.Core.Logic.{_↔_}
 use mathlib.Core.List.{List, [], _∷_}
@@ -15,19 +15,24 @@ use Rattle.layout.specs.declared.read.RowRead.the-variants.{Cell, Field, Range}
 use Rattle.forms.specs.declared.rows.Row.{Row}
 use Rattle.layout.specs.FirstBad.{rowAt, fieldAt}
 use Rattle.layout.specs.Read.{readRow}
+use Rattle.layout.specs.Says.{RowSays}
+use Rattle.layout.specs.SaysLaws.{row-exactly}
 use Rattle.forms.specs.Rows.{widthOf, offsetOf}
 use Rattle.forms.specs.declared.forms.Named.{Named}
 use Rattle.forms.specs.declared.forms.Named.the-variants as is
 use Rattle.forms.specs.declared.forms.Subject.{Subject}
 use Rattle.forms.specs.declared.forms.Subject.the-variants.{Nothing, Contract}
 use Rattle.contracts.specs.Lookup.{segmentOf}
+use Rattle.contracts.specs.LookupLaws.{segment-exact, key-exact}
+use Rattle.contracts.specs.Sound.{SoundList}
+use Rattle.laws.specs.Choice.{never}
 use Rattle.forms.specs.Forms.{subjectOf}
-use Rattle.message.specs.Good.{GoodMessage, GoodRows, PlaceFor, HasContract}
+use Rattle.message.specs.Good.{GoodMessage, GoodRows, PlaceFor, HasContract, KeyListed}
 use Rattle.message.specs.Fields.{numberOf, dataOf, formIn}
 use Rattle.message.specs.Head.{headRules}
 use Rattle.message.specs.HeadLaws.{framed-exact, coded-exact, trailed-exact, length-exact, summed-exact, number-exact}
 use Rattle.message.specs.declared.head.Head.the-variants.{Good}
-use Rattle.message.specs.Message.{messageKey, keyPlace, rowsIn, messageOf}
+use Rattle.message.specs.Message.{messageKey, placeThere, keyPlace, rowsIn, messageOf}
 use Rattle.message.specs.Order.{isFormed, isInRange, rowRules, subjectRules, keyRules, bodyRules, messageRules}
 use Rattle.message.specs.Numbers.{verdictOf}
 use Rattle.message.specs.OrderLaws.{message-first}
@@ -45,26 +50,34 @@ module _ (row : Row) (rows : List Row) (bytes : List ℕ) where
   field-behind i = ap (take (widthOf (rowAt rows i))) (sym (drop-drop (offsetOf rows i) (widthOf row) bytes))
 
   abbrev Split : Type 0
-  Split = ((cell : ℕ) × (readRow row (take (widthOf row) bytes) ≡ Cell cell)) × GoodRows rows (drop (widthOf row) bytes)
+  Split = ((cell : ℕ) × RowSays row (take (widthOf row) bytes) (Cell cell)) × GoodRows rows (drop (widthOf row) bytes)
 
   rows-split : GoodRows (row ∷ rows) bytes ↔ Split
   rows-split = (apart, joined)
     where
       apart : GoodRows (row ∷ rows) bytes → Split
       apart h =
-          (h 0 (omega arith), (λ i l. let p = h (suc i) (omega arith) in (p .0, ap (readRow (rowAt rows i)) (sym (field-behind i)) ∙ p .1)))
+          (h 0 (omega arith), (λ i l. let p = h (suc i) (omega arith) in (p .0, subst (λ (f : List ℕ). RowSays (rowAt rows i) f (Cell (p .0))) (field-behind i) (p .1))))
 
       joined : Split → GoodRows (row ∷ rows) bytes
       joined h zero l = h .0
       joined h (suc i) l =
           let p = h .1 i (omega arith) in
-          (p .0, ap (readRow (rowAt rows i)) (field-behind i) ∙ p .1)
+          (p .0, subst (λ (f : List ℕ). RowSays (rowAt rows i) f (Cell (p .0))) (sym (field-behind i)) (p .1))
+
+-- a row's field reads as a cell exactly when it says one
+cell-said : (row : Row) (field : List ℕ) → (isFormed (readRow row field) ≡ true) × (isInRange (readRow row field) ≡ true) ↔ (cell : ℕ) × RowSays row field (Cell cell)
+cell-said row field =
+    let reads = cell-exact (readRow row field) in (
+      (λ h. let p = reads .0 h in (p .0, row-exactly row field (Cell (p .0)) .0 (p .1))),
+      (λ h. reads .1 (h .0, row-exactly row field (Cell (h .0)) .1 (h .1))),
+    )
 
 -- 11 and 12
 rows-exact : (i : ℕ) (rows : List Row) (bytes : List ℕ) → Hold (rowRules i rows bytes) ↔ GoodRows rows bytes
 rows-exact i [] bytes = ((λ h j l. absurd (omega arith)), (λ h. tt))
 rows-exact i (row ∷ rows) bytes =
-    let here = cell-exact (readRow row (take (widthOf row) bytes)) in
+    let here = cell-said row (take (widthOf row) bytes) in
     let rest = rows-exact (suc i) rows (drop (widthOf row) bytes) in
     let parts = rows-split row rows bytes in (
       (λ h. parts .1 (here .0 (h .0, h .1 .0), rest .0 (h .1 .1))),
@@ -118,3 +131,19 @@ module _ (list : List ℕ) (letter : ℕ) (bytes : List ℕ) where
     (λ e. rules-exact .0 (good-hold (messageRules list letter bytes) (sym (message-first list letter bytes) ∙ e))),
     (λ g. message-first list letter bytes ∙ hold-good (messageRules list letter bytes) (rules-exact .1 g)),
   )
+
+-- of a sound list, a key has a place exactly when it is one of the list's
+pub key-listed : (list : List ℕ) → SoundList list → (letter : ℕ) (key : List ℕ) → ((k : ℕ) × (keyPlace list letter key ≡ some k)) ↔ KeyListed list letter key
+unfolding keyPlace
+key-listed list sound letter key = ((λ h. there (segmentOf list letter) refl (h .0) (h .1)), back)
+  where
+    there : (o : Option ℕ) → segmentOf list letter ≡ o → (k : ℕ) → placeThere list key o ≡ some k → KeyListed list letter key
+    there none e k h = absurd (never h)
+    there (some i) e k h =
+        let s = segment-exact list (sound .header) letter i .0 e in
+        let p = key-exact list i key sound (s .0) k .0 h in
+        (i, k, s .0, s .1, p .0, p .1)
+
+    back : KeyListed list letter key → (k : ℕ) × (placeThere list key (segmentOf list letter) ≡ some k)
+    back h =
+        (h .1, rw (segment-exact list (sound .header) letter (h .0) .1 (h .2, h .3)) (key-exact list (h .0) key sound (h .2) (h .1) .1 (h .4, h .5)))

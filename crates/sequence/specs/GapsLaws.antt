@@ -159,6 +159,13 @@ module _ (g : Gaps) (s : SoundGaps g) (a b : ℕ) (e : writeOffAnswer g ≡ writ
   wroteOff-lowest k h =
       ap (λ (rs : List Run). missing rs k) has-lowest ∙ simp (behind-lowest (a to b) k h rest-apart, or-false)
 
+  -- it is a run
+  pub wroteOff-proper : a ≤ b
+  wroteOff-proper = go rest-apart
+    where
+      go : Apart (g .highest) (g .start) (a to b ∷ withoutLowest (g .runs)) → a ≤ b
+      go (next _ f l u p) = l
+
   -- its numbers are missing no more, and no others
   pub wroteOff-missing : (k : ℕ) → missing (wroteOff g .runs) k ≡ not (names (a to b) k) && missing (g .runs) k
   wroteOff-missing k =

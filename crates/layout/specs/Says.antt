@@ -1,0 +1,51 @@
+-- What a row's field says, in the paper's words: 01 "The message", "Numbers in text", and the table's rows 11 and 12.
+use Prim.Native.Nat.{ℕ, _≤_}
+use mathlib.Core.Path.{_≡_}
+use mathlib.Core.List.{List}
+use mathlib.Core.Logic.{_⊎_}
+use Rattle.wire.specs.Number.{numberAt}
+use Rattle.decimal.specs.declared.Kind.{Kind}
+use Rattle.decimal.specs.Denotes.{Shape, Denotes, AllSpaces}
+use Rattle.decimal.specs.Kinds.{price, quantity, turnover}
+use Rattle.scan.specs.Answers.{Beyond}
+use Rattle.forms.specs.declared.rows.Row.{Row}
+use Rattle.forms.specs.declared.rows.Row.the-variants.{Key, MarketType, Status, Price, Quantity, Turnover}
+use Rattle.layout.specs.declared.read.RowRead.{RowRead}
+use Rattle.layout.specs.declared.read.RowRead.the-variants.{Cell, Field, Range}
+use Rattle.layout.specs.Cells.{none}
+
+-- 01 "The message": a letter's field is its one byte
+abbrev pub letterIn : List ℕ → ℕ
+letterIn field = numberAt 1 field 0
+
+-- 01 "The message": a letter that the row takes is its cell; every other is 11, and none is too large or too fine
+abbrev pub LetterSays : (ℕ → Type 0) → ℕ → RowRead → Type 0
+LetterSays Takes letter (Cell cell) = Takes letter × (cell ≡ letter)
+LetterSays Takes letter Field = Takes letter → ⊥
+LetterSays Takes letter Range = ⊥
+
+-- 01 "The message": market type 'N'
+abbrev pub IsMarketType : ℕ → Type 0
+IsMarketType letter = letter ≡ 78
+
+-- 01 "The message": status is 'S' or space
+abbrev pub IsStatus : ℕ → Type 0
+IsStatus letter = (letter ≡ 83) ⊎ (letter ≡ 32)
+
+-- 01 "Numbers in text" and the table's rows 11 and 12: "none" where the field is all spaces; the amount that its text denotes, where
+-- that is in range; 11 where it has not the shape; 12 where it is too fine or too large
+abbrev pub NumberSays : Kind → List ℕ → RowRead → Type 0
+NumberSays kind field (Cell cell) = (AllSpaces field × (cell ≡ none)) ⊎ (Denotes (kind .places) field cell × (cell ≤ kind .most))
+NumberSays kind field Field = (AllSpaces field → ⊥) × (Shape (kind .places) field → ⊥)
+NumberSays kind field Range = (s : Shape (kind .places) field) × Beyond kind s
+
+-- 01 "The message": what one row's field says; a key's text is only looked up, and its cell is 0
+abbrev pub RowSays : Row → List ℕ → RowRead → Type 0
+RowSays (Key width) field (Cell cell) = cell ≡ 0
+RowSays (Key width) field Field = ⊥
+RowSays (Key width) field Range = ⊥
+RowSays MarketType field answer = LetterSays IsMarketType (letterIn field) answer
+RowSays Status field answer = LetterSays IsStatus (letterIn field) answer
+RowSays (Price width) field answer = NumberSays price field answer
+RowSays (Quantity width) field answer = NumberSays quantity field answer
+RowSays (Turnover width) field answer = NumberSays turnover field answer

@@ -1,0 +1,79 @@
+-- A row's field is read as each answer exactly where what that answer says of the field is so: demand 2 for one row.
+use Prim.Native.Nat.{ℕ, _≤_, _<_}
+use mathlib.Core.Path.{_≡_, refl, sym, ap, subst, _∙_}
+use mathlib.Core.Bool.{Bool, true, false, cond, true≢false, false≢true}
+use mathlib.Core.List.{List}
+use mathlib.Core.Logic.{_↔_, _⊎_, inl, inr, ⊎-elim}
+use native.Mathlib.Omega.{arith}
+use borrow.Author.Tests.{ne-eqb}
+use lib.Dec.{lit<}
+use Rattle.laws.specs.Choice.{clash, either}
+use Rattle.laws.specs.Tests.{eqb-is, or-is}
+use Rattle.decimal.specs.declared.Kind.{Kind}
+use Rattle.decimal.specs.Kinds.{price, quantity, turnover}
+use Rattle.scan.specs.declared.Number.{Number}
+use Rattle.scan.specs.declared.Number.the-variants.{None, Amount, Malformed, OutOfRange}
+use Rattle.scan.specs.Answers.{Says}
+use Rattle.scan.specs.Read.{readAs}
+use Rattle.scan.specs.ReadLaws.{reads-exactly}
+use Rattle.forms.specs.declared.rows.Row.{Row}
+use Rattle.forms.specs.declared.rows.Row.the-variants.{Key, MarketType, Status, Price, Quantity, Turnover}
+use Rattle.layout.specs.declared.cells.Held.the-variants.{Units}
+use Rattle.layout.specs.declared.read.RowRead.{RowRead}
+use Rattle.layout.specs.declared.read.RowRead.the-variants.{Cell, Field, Range}
+use Rattle.layout.specs.Cells.{none, cellOf}
+use Rattle.layout.specs.Read.{ofNumber, isMarketType, isStatus, letterCell, numberCell, readRow}
+use Rattle.layout.specs.Says.{letterIn, LetterSays, IsMarketType, IsStatus, NumberSays, RowSays}
+
+-- ---- a letter
+
+module _ (taken : ℕ → Bool) (Takes : ℕ → Type 0) (is : (letter : ℕ) → taken letter ≡ true ↔ Takes letter) (letter : ℕ) where
+  letter-says : (t : Bool) → taken letter ≡ t → LetterSays Takes letter (cond t (Cell letter) Field)
+  letter-says true e = (is letter .0 e, refl)
+  letter-says false e = λ h. false≢true (sym e ∙ is letter .1 h)
+
+  letter-said : (answer : RowRead) → LetterSays Takes letter answer → letterCell taken letter ≡ answer
+  letter-said (Cell cell) h = rw (is letter .1 (h .0)) (ap Cell (sym (h .1)))
+  letter-said Field h = ⊎-elim (λ e. absurd (h (is letter .0 e))) (λ e. rw e) (either (taken letter))
+  letter-said Range h = absurd h
+
+  letter-exactly : (answer : RowRead) → letterCell taken letter ≡ answer ↔ LetterSays Takes letter answer
+  letter-exactly answer = (λ e. subst (LetterSays Takes letter) e (letter-says (taken letter) refl), letter-said answer)
+
+-- ---- a number
+
+module _ (kind : Kind) (small : kind .most < none) (field : List ℕ) where
+  own-cell : (n : ℕ) → n ≤ kind .most → cellOf (Units n) ≡ n
+  own-cell n h = rw (ne-eqb n none (λ e. absurd (omega arith)))
+
+  number-says : (r : Number) → Says kind field r → NumberSays kind field (ofNumber r)
+  number-says None h = inl (h, refl)
+  number-says (Amount n) h = rw (own-cell n (h .1)) (inr h)
+  number-says Malformed h = h
+  number-says OutOfRange h = h
+
+  number-said : (answer : RowRead) → NumberSays kind field answer → numberCell kind field ≡ answer
+  number-said (Cell cell) (inl h) = ap ofNumber (reads-exactly kind field None .1 (h .0)) ∙ ap Cell (sym (h .1))
+  number-said (Cell cell) (inr h) = ap ofNumber (reads-exactly kind field (Amount cell) .1 h) ∙ ap Cell (own-cell cell (h .1))
+  number-said Field h = ap ofNumber (reads-exactly kind field Malformed .1 h)
+  number-said Range h = ap ofNumber (reads-exactly kind field OutOfRange .1 h)
+
+  number-exactly : (answer : RowRead) → numberCell kind field ≡ answer ↔ NumberSays kind field answer
+  number-exactly answer =
+      (λ e. subst (NumberSays kind field) e (number-says (readAs kind field) (reads-exactly kind field (readAs kind field) .0 refl)), number-said answer)
+
+-- ---- any row
+
+key-exactly : (width : ℕ) (field : List ℕ) (answer : RowRead) → Cell 0 ≡ answer ↔ RowSays (Key width) field answer
+key-exactly width field (Cell cell) = ((λ e. cc), (λ h. ap Cell (sym h)))
+key-exactly width field Field = ((λ e. clash (cc)), (λ h. absurd h))
+key-exactly width field Range = ((λ e. clash (cc)), (λ h. absurd h))
+
+pub row-exactly : (row : Row) (field : List ℕ) (answer : RowRead) → readRow row field ≡ answer ↔ RowSays row field answer
+unfolding readRow
+row-exactly (Key width) field answer = key-exactly width field answer
+row-exactly MarketType field answer = letter-exactly isMarketType IsMarketType (λ b. eqb-is b 78) (letterIn field) answer
+row-exactly Status field answer = letter-exactly isStatus IsStatus (λ b. or-is (eqb-is b 83) (eqb-is b 32)) (letterIn field) answer
+row-exactly (Price width) field answer = number-exactly price (lit< tt) field answer
+row-exactly (Quantity width) field answer = number-exactly quantity (lit< tt) field answer
+row-exactly (Turnover width) field answer = number-exactly turnover (lit< tt) field answer

@@ -1,6 +1,6 @@
 -- What a message of a segment does, by what it is. Of the laws on histories this one alone looks into an update.
 use Prim.Native.Nat.{ℕ, _<_}
-use mathlib.Core.Path.{_≡_, refl, sym, ap, _∙_}
+use mathlib.Core.Path.{_≡_, refl, sym, ap, subst, _∙_}
 use mathlib.Core.Bool.{true}
 use mathlib.Core.List.{List}
 use mathlib.Core.Option.{Option, none, some}
@@ -12,11 +12,13 @@ use Rattle.forms.specs.declared.forms.Form.{Form}
 use Rattle.forms.specs.declared.forms.Subject.{Subject}
 use Rattle.forms.specs.declared.forms.Subject.the-variants.{Contract}
 use Rattle.layout.specs.Cells.{zerosBehind}
-use Rattle.forms.specs.Forms.{rowsOf, recordForm, subjectOf}
+use Rattle.forms.specs.Forms.{namedRows, rowsOf, recordForm, subjectOf}
 use Rattle.layout.specs.Read.{readRows}
 use Rattle.forms.specs.Rows.{messageLength}
 use Rattle.quote.specs.Quote.{quoteOf, cellsOf}
 use Rattle.quote.specs.QuoteTrip.{read-kept}
+use Rattle.quote.specs.Shows.{fieldNamed, ShowsFields}
+use Rattle.quote.specs.ShowsLaws.{shows-fields}
 use Rattle.message.specs.declared.body.What.{What}
 use Rattle.message.specs.declared.body.What.the-variants as what
 use Rattle.message.specs.declared.head.Fault.{Fault}
@@ -100,6 +102,8 @@ module _ (list : List ℕ) (letter i : ℕ) (bytes : List ℕ) where
                     number-is = u .number-is ∙ number-is;
                     key-is = sym (key .1);
                     level-is = u .length-is ∙ ap (λ (f : Form). messageLength (rowsOf f)) form-is;
-                    rows-are = u .cells-are ∙ ap (λ (f : Form). zerosBehind (readRows 0 (rowsOf f) (dataOf bytes) .cells)) form-is;
+                    shows =
+                        subst (λ (f : Form). ShowsFields (fieldNamed (namedRows f) (dataOf bytes)) (quoteOf f (m .cells))) form-is
+                        (rw (u .cells-are) (shows-fields form (dataOf bytes) (u .rows-good)));
                   };
             })

@@ -12,10 +12,9 @@ use Rattle.sequence.specs.Apart.{Apart}
 use Rattle.sequence.specs.Runs.{Run, run, names, missing}
 use Rattle.sequence.specs.Gaps.{most}
 use Rattle.sequence.specs.Row.{pairs}
-use Rattle.layout.specs.Cells.{zerosBehind}
 use Rattle.quote.specs.Quote.{quoteOf}
-use Rattle.layout.specs.Read.{readRows}
-use Rattle.forms.specs.Forms.{rowsOf}
+use Rattle.quote.specs.Shows.{fieldNamed, ShowsFields}
+use Rattle.forms.specs.Forms.{namedRows, rowsOf}
 use Rattle.forms.specs.Rows.{messageLength}
 use Rattle.message.specs.Fields.{lengthOf, numberOf, dataOf as dataIn}
 use Rattle.message.specs.Good.{GoodMessage}
@@ -73,13 +72,13 @@ pub data ReadsNewest (slot : Slot) (taken : List Message) (reading : Reading) : 
   no-record : NoUpdate slot taken → reading .answer ≡ Recorded.NoRecord → reading .quote ≡ blank → ReadsNewest slot taken reading
   a-record : (m : Message) → IsNewest slot taken m → reading .answer ≡ Recorded.Record (sequenceNumber m) → reading .quote ≡ quoteOf (formFor slot) (m .cells) → ReadsNewest slot taken reading
 
--- demand 3: what an update of a slot is by its message's bytes: its number, its contract's key, its level by its length, and its
--- rows as they were read
+-- demands 2 and 3: what an update of a slot is by its message's bytes: its number, its contract's key, its level by its length, and
+-- its quote, which shows every field from the field of its name
 pub record UpdateSays (list bytes : List ℕ) (m : Message) (slot : Slot) : Type 0 where
   pub number-is : numberOf bytes ≡ sequenceNumber m
   pub key-is : bytesKey bytes ≡ keyIn list slot
   pub level-is : lengthOf bytes ≡ messageLength (rowsOf (formFor slot))
-  pub rows-are : m .cells ≡ zerosBehind (readRows 0 (rowsOf (formFor slot)) (dataIn bytes) .cells)
+  pub shows : ShowsFields (fieldNamed (namedRows (formFor slot)) (dataIn bytes)) (quoteOf (formFor slot) (m .cells))
 
 -- 01 "What the proof settles" (counts defined from the history): the counts of an accepted batch are those of its messages,
 -- each by what became of it when it came

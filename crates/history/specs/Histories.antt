@@ -6,6 +6,8 @@ use mathlib.Core.Option.{Option, none, some}
 use Prim.Native.Nat.{ℕ}
 use Rattle.state.specs.Answers.{leftBy}
 use Rattle.state.specs.Memory.{Lent}
+use Rattle.state.specs.declared.answers.Judged.{Judged}
+use Rattle.state.specs.declared.answers.Judged.the-variants as judged
 use Rattle.history.specs.Past.{Event, afterTake, afterWriteOff}
 use Rattle.history.specs.Calls.{Call, Answer, start, judge, take, listGaps, writeOff, readRecord, writeMessage, startRefusal, batchAnswer, offAnswer, step}
 
@@ -69,6 +71,27 @@ abbrev pub allAnswers : BoxNow → List Made → List Answer
 allAnswers now [] = []
 allAnswers now (call ∷ calls) = answerGiven now call ∷ allAnswers (afterCall now call) calls
 
+-- 01 "What may be asked": the batches accepted, the latest first, with one more by its answer: a refused one is none of them
+abbrev pub accepting : Judged → List ℕ → List (List ℕ) → List (List ℕ)
+accepting (judged.Accepted taken old heartbeats) batch batches = batch ∷ batches
+accepting (judged.Refused refusal) batch batches = batches
+
+-- 01 "What may be asked": the batches accepted since the latest accepted start, after a call
+abbrev pub batchesAfter : BoxNow → Made → List (List ℕ) → List (List ℕ)
+batchesAfter now (own (start list starts)) batches = leftBy (startRefusal (now .lent) list starts) batches []
+batchesAfter now (own (judge batch)) batches = batches
+batchesAfter now (own (take batch)) batches = accepting (batchAnswer (now .lent) batch) batch batches
+batchesAfter now (own (listGaps letter cells)) batches = batches
+batchesAfter now (own (writeOff letter)) batches = batches
+batchesAfter now (own (readRecord letter key level)) batches = batches
+batchesAfter now (own (writeMessage code level number key quote out)) batches = batches
+batchesAfter now (elsewhere lent call) batches = batches
+
+-- 01 "What may be asked": the batches accepted since the latest accepted start, after calls made in turn
+abbrev pub allBatches : BoxNow → List Made → List (List ℕ) → List (List ℕ)
+allBatches now [] batches = batches
+allBatches now (call ∷ calls) batches = allBatches (afterCall now call) calls (batchesAfter now call batches)
+
 -- 01 "Sequence and gaps": what has come since the latest accepted start
 abbrev pub pastOf : BoxNow → List Event
 pastOf now = pastIn (now .since)
@@ -79,3 +102,7 @@ pub record Reached (starts : List ℕ) (lent : Lent) (past : List Event) : Type 
   pub memory : Lent
   pub calls : List Made
   pub reaches : allAfter (unstarted memory) calls ≡ record { lent = lent; since = some (record { starts = starts; past = past }) }
+
+-- 01 "What may be asked": the batches that a history accepted since its latest accepted start
+abbrev pub batchesOf : {starts : List ℕ} {lent : Lent} {past : List Event} → Reached starts lent past → List (List ℕ)
+batchesOf r = allBatches (unstarted (r .memory)) (r .calls) []

@@ -28,3 +28,5 @@ pub mod TakenLaws
 pub mod Turn
 pub mod TurnLaws
 pub mod Updates
+pub mod Sent
+pub mod SentLaws

@@ -3,3 +3,5 @@ pub mod Inner
 pub mod QuoteLaws
 pub mod QuoteTrip
 pub mod SideLaws
+pub mod Shows
+pub mod ShowsLaws

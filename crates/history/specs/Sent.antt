@@ -1,0 +1,31 @@
+-- What a record shows, up to the bytes that came: demands 2 and 3 in one sentence.
+use Prim.Native.Nat.{ℕ, zero, suc}
+use mathlib.Core.Path.{_≡_}
+use mathlib.Core.List.{List, [], _∷_, List·Memᴰ}
+use lib.ListN.{drop}
+use Rattle.forms.specs.declared.rows.Level.{Level}
+use Rattle.forms.specs.Forms.{namedRows, rowsOf, recordForm}
+use Rattle.forms.specs.Rows.{messageLength}
+use Rattle.quote.specs.declared.quote.Quote.{Quote}
+use Rattle.quote.specs.Shows.{fieldNamed, ShowsFields}
+use Rattle.message.specs.Fields.{lengthOf, numberOf, dataOf}
+use Rattle.message.specs.Message.{messageKey}
+use Rattle.batch.specs.Batch.{batchLetter, countOf, batchData}
+
+-- 01 "The batch": "Each message is a part of the batch that begins where the one before it ends": the bytes from each one's start
+abbrev pub messageStarts : ℕ → List ℕ → List (List ℕ)
+messageStarts zero bytes = []
+messageStarts (suc more) bytes = bytes ∷ messageStarts more (drop (lengthOf bytes) bytes)
+
+-- demands 2 and 3: a record of a letter's key and level shows what a message of an accepted batch says: its number, and each number
+-- the exact decimal in the field of its name
+pub record ShownAsSent (batches : List (List ℕ)) (letter : ℕ) (key : List ℕ) (level : Level) (number : ℕ) (quote : Quote) : Type 0 where
+  pub batch : List ℕ
+  pub accepted : List·Memᴰ batch batches
+  pub of-letter : batchLetter batch ≡ letter
+  pub bytes : List ℕ
+  pub in-batch : List·Memᴰ bytes (messageStarts (countOf batch) (batchData batch))
+  pub number-is : numberOf bytes ≡ number
+  pub key-is : messageKey bytes ≡ key
+  pub level-is : lengthOf bytes ≡ messageLength (rowsOf (recordForm level))
+  pub shows : ShowsFields (fieldNamed (namedRows (recordForm level)) (dataOf bytes)) quote

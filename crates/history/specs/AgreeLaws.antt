@@ -38,7 +38,7 @@ use Rattle.quotebox.specs.RecordLaws.{segment-broken, key-broken}
 use Rattle.quotebox.specs.Start.{startOf}
 use Rattle.state.specs.State.{segmentRules}
 use Rattle.state.specs.StateLaws.{good-unrefused, letter-broken}
-use Rattle.history.specs.Past.{Event, wroteOffIn, held, takenOf, highestOf, sequenceNumber}
+use Rattle.history.specs.Past.{Event, wroteOffIn, takenOf}
 use Rattle.history.specs.Segment.{Fits}
 use Rattle.history.specs.Histories.{Reached}
 use Rattle.history.specs.HoldsLaws.{reached-holds}
@@ -46,6 +46,7 @@ use Rattle.history.specs.ListingLaws.{fits-here, segment-good}
 use Rattle.history.specs.Exactly.{FoundNewest, ReadsNewest, no-record, a-record, SameTaken}
 use Rattle.history.specs.RecordLaws.{reads-key}
 use Rattle.history.specs.TakenLaws.{taken-apart, same-held, same-highest, same-newest}
+use Rattle.history.specs.Machine.{held, highestOf, sequenceNumber}
 
 unlike : {m : Message} → some m ≡ none → ⊥
 unlike e = clash (cc)

@@ -20,7 +20,8 @@ use Rattle.quotebox.specs.declared.record.Reading.{Reading}
 use Rattle.state.specs.declared.answers.Written.{Written}
 use Rattle.state.specs.Answers.{startedNumbers, listedNumbers, writtenOffNumbers, recordedNumbers, writtenNumbers, answered, leftBy}
 use Rattle.state.specs.Memory.{Lent}
-use Rattle.batch.specs.Batch.{batchActs}
+use Rattle.turns.specs.Turns.{Acted, acted, refused}
+use Rattle.batch.specs.Batch.{batchActs, lentAfter}
 use Rattle.batch.specs.Promises.{JudgedBatch, TookBatch}
 use Rattle.batch.specs.TookLaws.{answer-numbers, one-judged, one-took}
 use Rattle.writer.specs.declared.writing.Code.{Code}
@@ -28,7 +29,7 @@ use Rattle.writer.specs.Writer.{formWritten, dataWritten, lengthWritten, messag
 use Rattle.writer.specs.WriterPromises.{WroteMessage}
 use Rattle.writer.specs.WriterPromisesLaws.{one-written}
 use Rattle.quotebox.specs.Start.{lentStarted}
-use Rattle.quotebox.specs.Calls.{gapsOfLetter, listValues, runsPut, runValues, lowestRun}
+use Rattle.quotebox.specs.Calls.{gapsOfLetter, listValues, runsPut, runValues, lowestRun, lentWrittenOff}
 use Rattle.quotebox.specs.CallPromises.{StartedBox, ListedRuns, WroteOffRun, ReadRecord}
 use Rattle.quotebox.specs.CallPromisesLaws.{one-started, one-listed, one-written-off, one-reading}
 use Rattle.quotebox.specs.Record.{recordNumber, recordOfKey, recordValues}
@@ -60,10 +61,21 @@ write-numbers : (o : Option Refusal) (n : ℕ) → writtenNumbers (writeAnswer o
 write-numbers none n = refl
 write-numbers (some refusal) n = refl
 
+-- ---- no call but a start changes the list
+
+pub took-list : (lent : Lent) (letter : ℕ) (a : Acted) → lentAfter lent letter a .list ≡ lent .list
+took-list lent letter (acted box) = refl
+took-list lent letter (refused refusal) = refl
+
+pub off-list : (lent : Lent) (letter : ℕ) (o : Option Refusal) → leftBy o lent (lentWrittenOff lent letter) .list ≡ lent .list
+unfolding lentWrittenOff
+off-list lent letter none = refl
+off-list lent letter (some refusal) = refl
+
 -- ---- the promises hold of what the step says
 
 module _ (lent : Lent) where
-  start-promised : (list starts : List ℕ) → StartedBox (withList list lent) starts (startAnswer (startRefusal lent list starts)) (withList list (step lent (start list starts) .left))
+  pub start-promised : (list starts : List ℕ) → StartedBox (withList list lent) starts (startAnswer (startRefusal lent list starts)) (withList list (step lent (start list starts) .left))
   start-promised list starts =
       record {
         answers = start-numbers (startRefusal lent list starts);
@@ -74,20 +86,20 @@ module _ (lent : Lent) where
       go none = refl
       go (some refusal) = refl
 
-  judge-promised : (batch : List ℕ) → JudgedBatch lent batch (batchAnswer lent batch)
+  pub judge-promised : (batch : List ℕ) → JudgedBatch lent batch (batchAnswer lent batch)
   judge-promised batch = record { answers = answer-numbers (batchActs lent batch) }
 
   pub take-promised : (batch : List ℕ) → TookBatch lent batch (batchAnswer lent batch) (step lent (take batch) .left)
   take-promised batch = record { answers = answer-numbers (batchActs lent batch); left = refl }
 
-  list-promised : (letter : ℕ) (cells : List ℕ)
+  pub list-promised : (letter : ℕ) (cells : List ℕ)
       → ListedRuns lent letter cells (listAnswer (listRefusal lent letter cells) (gapsOfLetter lent letter)) (leftBy (listRefusal lent letter cells) cells (runsPut (gapsOfLetter lent letter) cells))
   list-promised letter cells = record { answers = list-numbers (listRefusal lent letter cells) (gapsOfLetter lent letter); cells-left = refl }
 
   pub off-promised : (letter : ℕ) → WroteOffRun lent letter (offAnswer lent letter) (step lent (writeOff letter) .left)
   off-promised letter = record { answers = off-numbers (offRefusal lent letter) (lowestRun (gapsOfLetter lent letter)); left = refl }
 
-  read-promised : (letter : ℕ) (key : List ℕ) (level : Level) → ReadRecord lent letter key level (readAnswer lent letter key level)
+  pub read-promised : (letter : ℕ) (key : List ℕ) (level : Level) → ReadRecord lent letter key level (readAnswer lent letter key level)
   read-promised letter key level =
       record { answers = record-numbers (readRefusal lent letter key) (recordNumber (lent .records) (recordOfKey (lent .list) letter key level)); quotes = refl }
 
@@ -95,7 +107,7 @@ module _ (code : Code) (level : Level) (number : ℕ) (key : List ℕ) (quote : 
   abbrev put : List ℕ
   put = leftBy (writeRefusal code level number key quote out) out (messagePut code number (dataWritten (formWritten code level) key quote .bytes) out)
 
-  write-promised : WroteMessage code level number key quote out (writeAnswer (writeRefusal code level number key quote out) (lengthWritten (formWritten code level))) put
+  pub write-promised : WroteMessage code level number key quote out (writeAnswer (writeRefusal code level number key quote out) (lengthWritten (formWritten code level))) put
   write-promised = record { answers = write-numbers (writeRefusal code level number key quote out) (lengthWritten (formWritten code level)); out-left = refl }
 
 -- ---- and of nothing else

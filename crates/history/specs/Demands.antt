@@ -28,9 +28,11 @@ use Rattle.quotebox.specs.Start.{startOf}
 use Rattle.state.specs.GoodState.{GoodState}
 use Rattle.state.specs.Memory.{Lent}
 use Rattle.state.specs.Slots.{Slot, SlotListed}
-use Rattle.history.specs.Past.{Event, afterWriteOff, wroteOffIn, takenOf, isNew, highestIn, missingIn, runsStanding}
-use Rattle.history.specs.Updates.{takenFor, letterIn, keyIn, levelIn}
-use Rattle.history.specs.Exactly.{NamesMissing, LowestRun, ReadsNewest, CountsCame, OverInBatch}
+use Rattle.history.specs.Past.{Event, afterWriteOff, wroteOffIn, takenOf, highestIn, missingIn, runsStanding, takenFor}
+use Rattle.history.specs.Updates.{letterIn, keyIn, levelIn}
+use Rattle.history.specs.Exactly.{NamesMissing, ReadsNewest, CountsCame, OverInBatch}
+use Rattle.history.specs.Machine.{isNew, LowestRun, IsAccepted, GoodNow, Judges}
+use Rattle.history.specs.Refines.{machineOf}
 
 -- demand 3: "After any sequence of calls from a fresh start", for each listed segment and each listed contract:
 pub record AfterCalls (starts : List ℕ) (lent : Lent) (past : List Event) : Type 0 where
@@ -63,6 +65,11 @@ pub record AfterCalls (starts : List ℕ) (lent : Lent) (past : List Event) : Ty
   -- "An accepted batch answers how many messages were taken, old and heartbeats; judging answers what taking would"
   pub counts-came : (batch : List ℕ) (taken old heartbeats : ℕ) → JudgedBatch lent batch (Judged.Accepted taken old heartbeats)
       → CountsCame (lent .list) starts past batch taken old heartbeats
+  -- "A batch is accepted exactly when document 01's rules hold for all of it", 14 counted from the missing numbers
+  pub accepted-exactly : (batch : List ℕ) (answer : Judged) → JudgedBatch lent batch answer
+      → IsAccepted answer ↔ GoodNow (machineOf (lent .list) starts past) batch
+  -- and what is answered, the refusal by the first broken rule too, is what the machine of that past answers
+  pub judged-exactly : (batch : List ℕ) (answer : Judged) → JudgedBatch lent batch answer ↔ Judges (machineOf (lent .list) starts past) batch answer
   -- "A call is refused for gaps exactly when no earlier rule refuses it and over 64 runs would stand"
   pub refused-for-gaps : (batch : List ℕ) (answer : Judged) → JudgedBatch lent batch answer
       → (i : ℕ) → answer ≡ Judged.Refused (Gaps i) ↔ OverInBatch (lent .list) starts past batch i

@@ -1,18 +1,12 @@
 -- The theorems: what `Demands` states holds after every history, of any two, and of every call.
 use Prim.Native.Nat.{ℕ}
-use mathlib.Core.Path.{_≡_, sym, ap, ap₂, subst, _∙_}
+use mathlib.Core.Path.{_≡_, sym, ap₂, subst, _∙_}
 use mathlib.Core.Bool.{Bool, _||_}
 use mathlib.Core.List.{List}
 use mathlib.Core.Logic.{Iff·trans, Iff·symm}
-use native.Mathlib.Omega.{arith}
 use lib.Dec.{ltb}
-use lib.ListN.{getD}
 use Rattle.state.specs.declared.refusal.Refusal.the-variants.{Gaps}
 use Rattle.state.specs.declared.answers.Judged.{Judged}
-use Rattle.turns.specs.Turns.{actedNumbers}
-use Rattle.batch.specs.Batch.{batchActs}
-use Rattle.batch.specs.BatchLaws.{accepted-box}
-use Rattle.batch.specs.LeftLaws.{is-listed}
 use Rattle.state.specs.Memory.{Lent, lends}
 use Rattle.quotebox.specs.CallPromisesLaws.{start-refusal, list-refusal, off-refusal, start-leaves, off-leaves}
 use Rattle.batch.specs.OrderLaws.{refused-exact}
@@ -23,31 +17,17 @@ use Rattle.writer.specs.WriterPromisesLaws.{write-refusal}
 use Rattle.history.specs.Past.{Event, wroteOffIn, takenOf}
 use Rattle.history.specs.SegmentLaws.{takes-new}
 use Rattle.history.specs.Histories.{Reached}
-use Rattle.history.specs.HoldsLaws.{reached-holds, batch-turned, off-listed}
-use Rattle.history.specs.Exactly.{CountsCame, SameTaken}
+use Rattle.history.specs.HoldsLaws.{reached-holds, off-listed}
+use Rattle.history.specs.Exactly.{SameTaken}
 use Rattle.history.specs.ListingLaws.{gaps-exactly, runs-answered, runs-refused}
 use Rattle.history.specs.OffLaws.{off-lowest, off-none, off-after}
 use Rattle.history.specs.RecordLaws.{reads-slot}
 use Rattle.history.specs.FullLaws.{acts-over}
+use Rattle.history.specs.JudgesLaws.{counts, accepted-exactly, judged-exactly}
 use Rattle.history.specs.AgreeLaws.{listings-agree, records-agree}
 use Rattle.history.specs.Demands.{AfterCalls, Agree, RefusalsKeep, AcceptedLeave}
 
 module _ {starts : List ℕ} {lent : Lent} {past : List Event} (r : Reached starts lent past) where
-  counts : (batch : List ℕ) (taken old heartbeats : ℕ) → JudgedBatch lent batch (Judged.Accepted taken old heartbeats) → CountsCame (lent .list) starts past batch taken old heartbeats
-  counts batch taken old heartbeats p =
-      let h = reached-holds r in
-      let did = accepted-box (batchActs lent batch) (p .answers) in
-      let l = is-listed lent batch (did .0) (did .1) in
-      let turned = batch-turned h batch (did .0) (did .1) (l .0) (l .1) in
-      let numbers = p .answers ∙ ap actedNumbers (did .1) in
-      record {
-        segment = l .0;
-        listed = l .1;
-        taken-are = omega (arith, ap (λ (ns : List ℕ). getD ns 1 0) numbers, turned .taken-are);
-        old-are = omega (arith, ap (λ (ns : List ℕ). getD ns 2 0) numbers, turned .old-are);
-        heartbeats-are = omega (arith, ap (λ (ns : List ℕ). getD ns 3 0) numbers, turned .heartbeats-are);
-      }
-
   -- demand 3, after any sequence of calls from a fresh start
   pub after-calls : AfterCalls starts lent past
   after-calls =
@@ -64,7 +44,9 @@ module _ {starts : List ℕ} {lent : Lent} {past : List Event} (r : Reached star
             let f = reached-holds r .gaps-fit i there in
             sym (takes-new start (takenOf i start past) (wroteOffIn i past) _ f n)
             ∙ ap₂ (λ (h : ℕ) (m : Bool). ltb h n || m) (f .highest-is) (f .missing-is n);
-        counts-came = counts;
+        counts-came = counts r;
+        accepted-exactly = accepted-exactly r;
+        judged-exactly = judged-exactly r;
         refused-for-gaps = λ batch answer p i.
             Iff·trans (judged-refused lent batch answer p (Gaps i)) (Iff·trans (Iff·symm (refused-exact lent batch (Gaps i))) (acts-over r batch i));
         state-passes = reached-holds r .state;

@@ -35,8 +35,8 @@ use Rattle.turns.specs.ActsLaws.{acts-as}
 use Rattle.turns.specs.Turns.{Box, numberActs, updated, messageActs}
 use Rattle.stores.specs.Stored.{stored}
 use Rattle.history.specs.Exactly.{UpdateSays}
-use Rattle.history.specs.Past.{isNumbered, sequenceNumber}
 use Rattle.history.specs.Updates.{slotOf, levelIn}
+use Rattle.history.specs.Machine.{isNumbered, sequenceNumber}
 
 -- what storing an update in its slot does to records
 abbrev pub storedIn : List ℕ → Slot → Message → List ℕ → List ℕ

@@ -1,17 +1,14 @@
 -- What the demands say of the answers after a history, in the words of its past.
-use Prim.Native.Nat.{ℕ, zero, suc, _*_, _≤_, _<_}
+use Prim.Native.Nat.{ℕ, zero, suc, _≤_, _<_}
 use mathlib.Core.Path.{_≡_}
-use mathlib.Core.Bool.{Bool, true, false}
+use mathlib.Core.Bool.{true, false}
 use mathlib.Core.List.{List, _∷_, List·Memᴰ}
 use mathlib.Core.Logic.{_⊎_, _↔_}
 use mathlib.Core.Option.{Option, none, some}
-use lib.ListN.{length, take, drop}
+use lib.ListN.{drop}
 use Rattle.contracts.specs.File.{segmentsOf}
 use Rattle.contracts.specs.Lookup.{segmentOf}
-use Rattle.sequence.specs.Apart.{Apart}
-use Rattle.sequence.specs.Runs.{Run, run, names, missing}
 use Rattle.sequence.specs.Gaps.{most}
-use Rattle.sequence.specs.Row.{pairs}
 use Rattle.quote.specs.Quote.{quoteOf}
 use Rattle.quote.specs.Shows.{fieldNamed, ShowsFields}
 use Rattle.forms.specs.Forms.{namedRows, rowsOf}
@@ -26,30 +23,13 @@ use Rattle.batch.specs.Batch.{batchLetter, countOf, batchData}
 use Rattle.batch.specs.Good.{GoodFront}
 use Rattle.quotebox.specs.Record.{blank}
 use Rattle.quotebox.specs.Start.{startOf}
-use Rattle.history.specs.Past.{Event, came, wroteOffIn, takenOf, batchMessages, highestIn, missingIn, runsStanding, isTaken, isOld, isHeartbeat, howMany, sequenceNumber}
+use Rattle.history.specs.Past.{Event, came, wroteOffIn, takenOf, batchMessages, highestIn, missingIn, runsStanding, isTaken, isOld, howMany}
 use Rattle.history.specs.Updates.{keyIn, isOf}
+use Rattle.history.specs.Machine.{isHeartbeat, sequenceNumber, NamesExactly, TooMany}
 
--- 01 "What may be asked": the runs that a listing put in lent cells: two cells for each that it answers
-abbrev pub runsThere : ℕ → List ℕ → List Run
-runsThere runs cells = pairs (take (2 * runs) cells)
-
--- demand 3: "the gap list names exactly the missing numbers"
-pub record NamesMissing (i start : ℕ) (past : List Event) (highest runs : ℕ) (cells : List ℕ) : Type 0 where
-  pub highest-taken : highest ≡ highestIn i start past
-  pub as-many : length (runsThere runs cells) ≡ runs
-  -- they ascend with no two touching, each first not above its last, from the start number to the highest taken
-  pub ascending : Apart highest start (runsThere runs cells)
-  -- no number is named twice
-  pub each-once : (n k j : ℕ) → k < runs → j < runs → names (run (runsThere runs cells) k) n ≡ true → names (run (runsThere runs cells) j) n ≡ true → k ≡ j
-  pub exactly : (n : ℕ) → missing (runsThere runs cells) n ≡ missingIn i start past n
-
--- 01 "Sequence and gaps", "A write-off removes the lowest run": a run that is the lowest of a set of numbers: all of its numbers are in the
--- set, none below it is, and the next above it is not
-pub record LowestRun (held : ℕ → Bool) (first last : ℕ) : Type 0 where
-  pub ascending : first ≤ last
-  pub all-held : (n : ℕ) → first ≤ n → n ≤ last → held n ≡ true
-  pub none-below : (n : ℕ) → n < first → held n ≡ false
-  pub ends : held (suc last) ≡ false
+-- demand 3: "the gap list names exactly the missing numbers" of segment i
+abbrev pub NamesMissing : ℕ → ℕ → List Event → ℕ → ℕ → List ℕ → Type 0
+NamesMissing i start past highest runs cells = NamesExactly start (highestIn i start past) (missingIn i start past) highest runs cells
 
 -- demand 3: the highest-numbered update of a slot's contract and level among the messages taken of its segment
 pub record IsNewest (slot : Slot) (taken : List Message) (m : Message) : Type 0 where
@@ -92,10 +72,6 @@ pub record CountsCame (list starts : List ℕ) (past : List Event) (batch : List
 -- 01 "Sequence and gaps": the past when the message that bytes begin with has come, of a letter and its segment i
 abbrev pub cameNext : List ℕ → ℕ → ℕ → List ℕ → List Event → List Event
 cameNext list letter i bytes past = came i (messageOf list letter bytes) ∷ past
-
--- 01, the table's row 14: "more than 64 runs would stand"
-abbrev pub TooMany : ℕ → Type 0
-TooMany runs = most < runs
 
 -- demand 3: of so many messages of segment s from message k on, message i is the one at which over 64 runs would stand, counted
 -- from the set of missing numbers, and no rule refuses before: it and every message before it is good, 5 to 13

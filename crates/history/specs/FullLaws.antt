@@ -9,8 +9,8 @@ use native.Mathlib.Omega.{arith}
 use borrow.Author.Tests.{ltb-true}
 use lib.Dec.{leb, ltb, eqb}
 use lib.ListN.{length, drop}
-use Rattle.laws.specs.Rules.{firstBroken, Hold}
-use Rattle.laws.specs.RulesLaws.{none-hold}
+use Rattle.laws.specs.Rules.{firstBroken, Hold, Broken}
+use Rattle.laws.specs.RulesLaws.{unlike, none-hold, hold-none, broken-some}
 use Rattle.laws.specs.Choice.{clash, either}
 use Rattle.contracts.specs.Lookup.{segmentOf}
 use Rattle.sequence.specs.Gaps.{Gaps, most, takes, full, runsAfter}
@@ -22,10 +22,11 @@ use Rattle.message.specs.declared.head.Fault.the-variants as fault
 use Rattle.message.specs.declared.head.Head.the-variants.{Good}
 use Rattle.message.specs.Fields.{lengthOf}
 use Rattle.message.specs.Good.{GoodMessage}
-use Rattle.message.specs.GoodLaws.{good-exact}
+use Rattle.message.specs.GoodLaws.{rules-exact, good-exact}
+use Rattle.message.specs.Order.{messageRules}
+use Rattle.message.specs.OrderLaws.{fault-exact}
 use Rattle.message.specs.Message.{Message, messageOf}
 use Rattle.message.specs.Numbers.{verdictOf}
-use Rattle.message.specs.RulesLaws.{unlike}
 use Rattle.state.specs.declared.refusal.Refusal.{Refusal}
 use Rattle.state.specs.declared.refusal.Refusal.the-variants.{Size, Packed, Flag, Count, Gaps as GapsOver}
 use Rattle.turns.specs.ActsLaws.{acts-as}
@@ -40,14 +41,15 @@ use Rattle.state.specs.StateLaws.{state-exact}
 use Rattle.turns.specs.MessagesLaws.{not-both, messages-next, messages-refused}
 use Rattle.state.specs.Refusals.{ofFault}
 use Rattle.quotebox.specs.Start.{startOf}
-use Rattle.history.specs.Past.{Event, came, isNumbered, wroteOffIn, takenOf, comesNew, standingBy, runsStanding, sequenceNumber}
+use Rattle.history.specs.Past.{Event, came, wroteOffIn, takenOf, runsStanding}
 use Rattle.history.specs.SegmentLaws.{takes-new, after-standing, fits-standing}
 use Rattle.history.specs.DoesLaws.{storedIn, Does, is-bad, beats, passes, updates, does}
 use Rattle.history.specs.Turn.{BoxFits}
 use Rattle.history.specs.TurnLaws.{taken-here, message-turns}
-use Rattle.history.specs.Exactly.{cameNext, TooMany, OverAt, OverInBatch}
+use Rattle.history.specs.Exactly.{cameNext, OverAt, OverInBatch}
 use Rattle.history.specs.Histories.{Reached}
 use Rattle.history.specs.HoldsLaws.{reached-holds, box-before}
+use Rattle.history.specs.Machine.{isNumbered, comesNew, standingBy, sequenceNumber, TooMany}
 
 -- ---- which refusals are 14
 
@@ -62,7 +64,7 @@ fault-not-gaps (fault.Field row) k i e = clash (cc)
 fault-not-gaps (fault.Range row) k i e = clash (cc)
 fault-not-gaps fault.Contract k i e = clash (cc)
 
-same-refusal : {a b : Refusal} → refused a ≡ refused b → a ≡ b
+pub same-refusal : {a b : Refusal} → refused a ≡ refused b → a ≡ b
 same-refusal e = cc
 
 same-place : {k i : ℕ} → GapsOver k ≡ GapsOver i → k ≡ i
@@ -86,6 +88,11 @@ number-fell box k number changed refusal e =
 
 -- ---- one message
 
+-- a good message breaks no rule
+pub good-unbroken : (list : List ℕ) (letter : ℕ) (bytes : List ℕ) → GoodMessage list letter bytes → (fault : Fault) → Broken (messageRules list letter bytes) fault → ⊥
+good-unbroken list letter bytes good fault b =
+    unlike (sym (broken-some (messageRules list letter bytes) fault b) ∙ hold-none (messageRules list letter bytes) (rules-exact list letter bytes .1 good))
+
 module _ (list starts : List ℕ) (letter s : ℕ) (listed : segmentOf list letter ≡ some s) where
   abbrev start : ℕ
   start = startOf starts s
@@ -96,7 +103,7 @@ module _ (list starts : List ℕ) (letter s : ℕ) (listed : segmentOf list lett
   too-many : {n : ℕ} → TooMany n → n ≤ most → ⊥
   too-many h l = omega arith
 
-  box-standing : (past : List Event) (box : Box) → BoxFits list starts s past box → standing past ≤ most
+  pub box-standing : (past : List Event) (box : Box) → BoxFits list starts s past box → standing past ≤ most
   box-standing past box f =
       subst (λ (n : ℕ). n ≤ most) (fits-standing start (takenOf s start past) (wroteOffIn s past) (gapsOf (box .row)) (f .gaps-fit)) (f .gaps-fit .sound .few)
 
@@ -123,7 +130,7 @@ module _ (list starts : List ℕ) (letter s : ℕ) (listed : segmentOf list lett
 
     -- what becomes of message k: it is bad, or it acts and at most 64 runs stand, or over 64 would
     pub data Comes : Type 0 where
-      bad : (fault : Fault) → messageActs list letter box k bytes ≡ refused (ofFault fault k) → (GoodMessage list letter bytes → ⊥) → Comes
+      bad : (fault : Fault) → messageActs list letter box k bytes ≡ refused (ofFault fault k) → Broken (messageRules list letter bytes) fault → Comes
       goes : (box′ : Box) → messageActs list letter box k bytes ≡ acted box′ → GoodMessage list letter bytes → BoxFits list starts s later box′ → Comes
       over : messageActs list letter box k bytes ≡ refused (GapsOver k) → GoodMessage list letter bytes → TooMany (standing later) → Comes
 
@@ -140,12 +147,12 @@ module _ (list starts : List ℕ) (letter s : ℕ) (listed : segmentOf list lett
             let fell = number-fell box k (sequenceNumber m) changed refusal (sym is ∙ h) in
             over (h ∙ ap refused (sym (fell .2))) is-good (numbered-over (numbered .0) (fell .0) (fell .1))
 
-    comes : Comes
+    pub comes : Comes
     comes = go (does list letter s bytes listed)
       where
         go : Does list letter s bytes → Comes
         go (is-bad fault e) =
-            bad fault (acts-as list letter bytes m refl e box k) (λ good. unlike (sym (ap verdictOf e) ∙ good-exact list letter bytes .1 good))
+            bad fault (acts-as list letter bytes m refl e box k) (fault-exact list letter bytes fault .0 e)
         go (beats e) =
             let h = acts-as list letter bytes m refl e box k in
             goes _ h (good-exact list letter bytes .0 (ap verdictOf e)) (message-turns list starts letter s listed past box f k bytes _ h .fits)
@@ -165,9 +172,9 @@ module _ (list starts : List ℕ) (letter s : ℕ) (listed : segmentOf list lett
           → ((box′ : Box) → BoxFits list starts s (cameNext list letter s bytes past) box′
           → messagesAct more list letter (suc k) box′ (drop (lengthOf bytes) bytes) ≡ refused (GapsOver i) ↔ OverAt more list letter s start (cameNext list letter s bytes past) (suc k) (drop (lengthOf bytes) bytes) i)
           → messagesAct (suc more) list letter k box bytes ≡ refused (GapsOver i) ↔ OverAt (suc more) list letter s start past k bytes i
-      go (bad fault acts not-good) rest = (
+      go (bad fault acts broken) rest = (
         (λ e. absurd (fault-not-gaps fault k i (same-refusal (sym (messages-refused list letter more k box bytes (ofFault fault k) acts) ∙ e)))),
-        (λ w. absurd (not-good (w .0))),
+        (λ w. absurd (good-unbroken list letter bytes (w .0) fault broken)),
       )
       go (goes box′ acts good fit) rest =
           let few = box-standing (cameNext list letter s bytes past) box′ fit in

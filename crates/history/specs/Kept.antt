@@ -4,19 +4,14 @@ use mathlib.Core.Path.{_≡_}
 use mathlib.Core.Bool.{cond}
 use mathlib.Core.List.{List, [], _∷_}
 use mathlib.Core.Option.{Option, none, some}
-use lib.Dec.{ltb}
 use lib.ListN.{getD, take, drop}
 use Rattle.quote.specs.declared.quote.Quote.{Quote}
 use Rattle.quote.specs.Quote.{cellsOf}
 use Rattle.message.specs.Message.{Message}
 use Rattle.state.specs.Slots.{Slot, formFor, SlotListed, slotAt, slotCells, recordOf}
-use Rattle.history.specs.Past.{Event, sequenceNumber}
-use Rattle.history.specs.Updates.{levelIn, takenFor, isOf}
-
--- 01 "Sequence and gaps": of two updates the one with the greater number
-abbrev pub higher : Message → Option Message → Option Message
-higher m none = some m
-higher m (some k) = cond (ltb (sequenceNumber k) (sequenceNumber m)) (some m) (some k)
+use Rattle.history.specs.Past.{Event, takenFor}
+use Rattle.history.specs.Updates.{levelIn, isOf}
+use Rattle.history.specs.Machine.{higher, sequenceNumber}
 
 -- demand 3: the highest-numbered update of a slot's contract and level among messages of its segment, if there is one
 abbrev pub newest : Slot → List Message → Option Message

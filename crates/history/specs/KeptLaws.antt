@@ -27,10 +27,10 @@ use Rattle.message.specs.Message.{Message}
 use Rattle.stores.specs.Stored.{stored}
 use Rattle.state.specs.Slots.{Slot, contract, formFor, slotFor, SlotListed, slotAt, slotCells, recordOf, recordRows, recordsWanted}
 use Rattle.state.specs.SlotsLaws.{cells-by-rows, slot-inside, slot-some, slots-apart}
-use Rattle.history.specs.Past.{sequenceNumber}
 use Rattle.history.specs.Updates.{sameSlot, slotOf, isSlot, segmentIn, levelIn}
-use Rattle.history.specs.Kept.{higher, RecordHolds, HoldsUpdate}
+use Rattle.history.specs.Kept.{RecordHolds, HoldsUpdate}
 use Rattle.history.specs.StoresLaws.{part-first, stored-here, stored-apart}
+use Rattle.history.specs.Machine.{sequenceNumber, higher}
 
 -- ---- the cells of an update
 

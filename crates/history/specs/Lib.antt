@@ -30,3 +30,8 @@ pub mod TurnLaws
 pub mod Updates
 pub mod Sent
 pub mod SentLaws
+pub mod Machine
+pub mod Refines
+pub mod MachineLaws
+pub mod JudgesLaws
+pub mod RefinesLaws

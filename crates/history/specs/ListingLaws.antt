@@ -39,7 +39,8 @@ use Rattle.history.specs.Segment.{Fits}
 use Rattle.history.specs.SegmentLaws.{fits-standing}
 use Rattle.history.specs.Histories.{Reached}
 use Rattle.history.specs.HoldsLaws.{reached-holds}
-use Rattle.history.specs.Exactly.{NamesMissing, runsThere}
+use Rattle.history.specs.Exactly.{NamesMissing}
+use Rattle.history.specs.Machine.{runsThere}
 
 pairs-flat : (rs : List Run) → pairs (flat rs) ≡ rs
 pairs-flat [] = refl

@@ -10,10 +10,10 @@ use lib.Dec.{ltb}
 use Rattle.laws.specs.Choice.{either}
 use Rattle.message.specs.Message.{Message}
 use Rattle.state.specs.Slots.{Slot}
-use Rattle.history.specs.Kept.{higher, newest}
-use Rattle.history.specs.Past.{sequenceNumber}
+use Rattle.history.specs.Kept.{newest}
 use Rattle.history.specs.Updates.{isOf}
 use Rattle.history.specs.Exactly.{FoundNewest}
+use Rattle.history.specs.Machine.{higher, sequenceNumber}
 
 module _ (slot : Slot) where
   none-among : FoundNewest slot [] none

@@ -1,7 +1,7 @@
 -- What a write-off answers and does after every history, in the words of the past: 01 "Sequence and gaps".
-use Prim.Native.Nat.{ℕ, suc, _+_, _≤_, _<_}
+use Prim.Native.Nat.{ℕ, suc, _+_, _≤_}
 use mathlib.Core.Path.{_≡_, refl, sym, ap, subst, _∙_}
-use mathlib.Core.Bool.{Bool, true, false, _&&_, _||_, true≢false}
+use mathlib.Core.Bool.{true, false, _&&_, _||_, true≢false}
 use mathlib.Core.List.{List, [], _∷_}
 use mathlib.Core.Logic.{_↔_, ⊎-elim}
 use mathlib.Core.Option.{Option, none, some}
@@ -14,11 +14,11 @@ use Rattle.laws.specs.Rules.{firstBroken}
 use Rattle.laws.specs.RulesLaws.{last-holds, last-broken}
 use Rattle.contracts.specs.Lookup.{segmentOf}
 use Rattle.contracts.specs.LookupLaws.{segment-has}
-use Rattle.sequence.specs.Answers.{writeOffAnswer, lowest, refusedNoGap, writtenOff}
+use Rattle.sequence.specs.Answers.{writeOffAnswer, lowest, refusedNoGap}
 use Rattle.sequence.specs.Gaps.{Gaps}
 use Rattle.sequence.specs.GapsLaws.{wroteOff-lowest, wroteOff-proper, no-gap-exactly}
 use Rattle.sequence.specs.Row.{gapsOf}
-use Rattle.sequence.specs.Runs.{Run, _to_, names, missing}
+use Rattle.sequence.specs.Runs.{Run, _to_, names}
 use Rattle.sequence.specs.RunsLaws.{names-in, names-below, names-above}
 use Rattle.state.specs.declared.refusal.Refusal.{Refusal}
 use Rattle.state.specs.declared.refusal.Refusal.the-variants.{NoGap}
@@ -32,12 +32,12 @@ use Rattle.quotebox.specs.CallPromises.{WroteOffRun}
 use Rattle.quotebox.specs.CallPromisesLaws.{off-refusal}
 use Rattle.quotebox.specs.Calls.{gapsOfLetter, writeOffRules, runValues, lowestRun}
 use Rattle.quotebox.specs.Start.{startOf}
-use Rattle.history.specs.Past.{Event, afterWriteOff, offIn, off, wroteOffIn, takenOf, missingIn}
+use Rattle.history.specs.Past.{Event, afterWriteOff, offIn, wroteOffIn, takenOf, missingIn}
 use Rattle.history.specs.Segment.{Fits}
-use Rattle.history.specs.Exactly.{LowestRun}
 use Rattle.history.specs.Histories.{Reached}
 use Rattle.history.specs.HoldsLaws.{reached-holds, off-answer}
 use Rattle.history.specs.ListingLaws.{segment-good, fits-here}
+use Rattle.history.specs.Machine.{LowestRun}
 
 -- no run is there exactly when the lowest is none
 no-runs : (rs : List Run) → ltb 0 (length rs) ≡ false → lowest rs ≡ refusedNoGap

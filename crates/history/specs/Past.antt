@@ -1,23 +1,24 @@
 -- What has come in a history, told by the calls' inputs and answers alone, and what by it was taken, written off and is
 -- missing: 01 "Sequence and gaps".
-use Prim.Native.Nat.{ℕ, zero, suc, _+_, _-_, max}
-use mathlib.Core.Bool.{Bool, true, false, not, cond, _&&_, _||_}
+use Prim.Native.Nat.{ℕ, zero, suc, _+_}
+use mathlib.Core.Bool.{Bool, false, not, cond, _&&_, _||_}
 use mathlib.Core.List.{List, [], _∷_}
 use mathlib.Core.Option.{Option, none, some}
-use lib.Dec.{leb, eqb}
+use lib.Dec.{eqb}
 use lib.ListN.{drop}
 use Rattle.contracts.specs.Lookup.{segmentOf}
-use Rattle.sequence.specs.Runs.{Run, _to_, names, runsIn}
-use Rattle.message.specs.declared.body.What.{What}
-use Rattle.message.specs.declared.body.What.the-variants.{Heartbeat, PassedOver, Update, Bad}
+use Rattle.sequence.specs.Runs.{Run, _to_, names}
 use Rattle.message.specs.Fields.{lengthOf}
 use Rattle.message.specs.Message.{Message, messageOf}
-use Rattle.message.specs.Numbers.{numberIn}
 use Rattle.state.specs.declared.answers.Judged.{Judged}
 use Rattle.state.specs.declared.answers.Judged.the-variants as judged
 use Rattle.state.specs.declared.answers.WrittenOff.{WrittenOff}
 use Rattle.state.specs.declared.answers.WrittenOff.the-variants as answer
 use Rattle.batch.specs.Batch.{batchLetter, countOf, batchData}
+use Rattle.state.specs.Slots.{Slot}
+use Rattle.quotebox.specs.Start.{startOf}
+use Rattle.history.specs.Machine.{isNumbered, comesNew, taking, highestOf, missingBy, standingBy}
+use Rattle.history.specs.Updates.{segmentIn}
 
 -- ---- the past
 
@@ -70,35 +71,6 @@ wroteOffIn i [] n = false
 wroteOffIn i (came j m ∷ past) n = wroteOffIn i past n
 wroteOffIn i (off j r ∷ past) n = eqb j i && names r n || wroteOffIn i past n
 
--- 01 "Sequence and gaps": "A heartbeat has number 0 and changes nothing; other messages have 1 or more"
-abbrev pub isNumbered : What → Bool
-isNumbered Heartbeat = false
-isNumbered (PassedOver number) = true
-isNumbered (Update number form place) = true
-isNumbered (Bad fault) = false
-
--- 01 "The message": its sequence number
-abbrev pub sequenceNumber : Message → ℕ
-sequenceNumber m = numberIn (m .what)
-
--- 01 "Sequence and gaps": one of the messages has the number
-abbrev pub held : List Message → ℕ → Bool
-held [] n = false
-held (m ∷ ms) n = eqb (sequenceNumber m) n || held ms n
-
--- 01 "Sequence and gaps": a number is taken where it is not below the start, was not taken before and was not written off
--- before
-abbrev pub isNew : ℕ → List Message → (ℕ → Bool) → ℕ → Bool
-isNew start taken writtenOff n = leb start n && not (held taken n) && not (writtenOff n)
-
--- 01 "Sequence and gaps": a message that comes is taken: heartbeats never are
-abbrev pub comesNew : ℕ → List Message → (ℕ → Bool) → Message → Bool
-comesNew start taken writtenOff m = isNumbered (m .what) && isNew start taken writtenOff (sequenceNumber m)
-
--- 01 "Sequence and gaps": the messages taken when one more has come
-abbrev pub taking : ℕ → (ℕ → Bool) → Message → List Message → List Message
-taking start writtenOff m taken = cond (comesNew start taken writtenOff m) (m ∷ taken) taken
-
 -- 01 "Sequence and gaps": the messages of a segment that were taken, the latest first
 abbrev pub takenOf : ℕ → ℕ → List Event → List Message
 takenOf i start [] = []
@@ -115,13 +87,6 @@ isTaken i start past m = comesNew start (takenOf i start past) (wroteOffIn i pas
 abbrev pub isOld : ℕ → ℕ → List Event → Message → Bool
 isOld i start past m = isNumbered (m .what) && not (isTaken i start past m)
 
--- 01 "Sequence and gaps": a heartbeat changes nothing
-abbrev pub isHeartbeat : What → Bool
-isHeartbeat Heartbeat = true
-isHeartbeat (PassedOver number) = false
-isHeartbeat (Update number form place) = false
-isHeartbeat (Bad fault) = false
-
 -- 01 "What may be asked": how many of the messages that come in turn pass a test of the past before them and themselves
 abbrev pub howMany : (List Event → Message → Bool) → ℕ → List Message → List Event → ℕ
 howMany test i [] past = 0
@@ -129,27 +94,20 @@ howMany test i (m ∷ ms) past = cond (test past m) 1 0 + howMany test i ms (cam
 
 -- ---- highest, and what is missing
 
--- 01 "Sequence and gaps": "highest begins one below it"; then it is the highest number taken
-abbrev pub highestOf : ℕ → List Message → ℕ
-highestOf start [] = start - 1
-highestOf start (m ∷ ms) = max (sequenceNumber m) (highestOf start ms)
-
 -- 01 "Sequence and gaps": the highest of a segment after a past
 abbrev pub highestIn : ℕ → ℕ → List Event → ℕ
 highestIn i start past = highestOf start (takenOf i start past)
-
--- 01 "Sequence and gaps": the missing numbers: from the start number to the highest taken, neither taken nor written off
-abbrev pub missingBy : ℕ → List Message → (ℕ → Bool) → ℕ → Bool
-missingBy start taken writtenOff n = leb start n && leb n (highestOf start taken) && not (held taken n) && not (writtenOff n)
 
 -- 01 "Sequence and gaps": the missing numbers of a segment after a past
 abbrev pub missingIn : ℕ → ℕ → List Event → ℕ → Bool
 missingIn i start past n = missingBy start (takenOf i start past) (wroteOffIn i past) n
 
--- 01 "Sequence and gaps": how many runs the missing numbers make
-abbrev pub standingBy : ℕ → List Message → (ℕ → Bool) → ℕ
-standingBy start taken writtenOff = runsIn (missingBy start taken writtenOff) (suc (highestOf start taken))
-
 -- 01 "Sequence and gaps": how many runs stand in a segment after a past
 abbrev pub runsStanding : ℕ → ℕ → List Event → ℕ
 runsStanding i start past = standingBy start (takenOf i start past) (wroteOffIn i past)
+
+-- ---- by slots
+
+-- 01 "Sequence and gaps": the messages taken of a slot's segment
+abbrev pub takenFor : List ℕ → Slot → List Event → List Message
+takenFor starts slot past = takenOf (segmentIn slot) (startOf starts (segmentIn slot)) past

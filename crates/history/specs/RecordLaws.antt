@@ -31,11 +31,11 @@ use Rattle.state.specs.Slots.{Slot, contract, formFor, SlotListed, slotAt, slot
 use Rattle.state.specs.SlotsLaws.{slot-inside}
 use Rattle.state.specs.AnswersLaws.{recorded-told}
 use Rattle.quotebox.specs.CallPromises.{ReadRecord}
-use Rattle.quotebox.specs.Record.{readingNumbers, recordOfKey, recordNumber, recordValues, cellsAt, quoteAt, quoteBeside}
+use Rattle.quotebox.specs.Record.{blank, readingNumbers, recordOfKey, recordNumber, recordValues, cellsAt, quoteAt, quoteBeside}
 use Rattle.quotebox.specs.RecordLaws.{key-holds, record-found}
 use Rattle.quotebox.specs.Start.{startOf}
-use Rattle.history.specs.Past.{Event, takenOf, sequenceNumber}
-use Rattle.history.specs.Updates.{takenFor, slotOf, levelIn, letterIn, keyIn}
+use Rattle.history.specs.Past.{Event, takenOf, takenFor}
+use Rattle.history.specs.Updates.{slotOf, levelIn, letterIn, keyIn}
 use Rattle.history.specs.Kept.{newest, RecordHolds, HoldsUpdate}
 use Rattle.history.specs.KeptLaws.{quote-cells, slot-rows, kept-number}
 use Rattle.history.specs.Histories.{Reached}
@@ -44,6 +44,7 @@ use Rattle.history.specs.ListingLaws.{segment-good}
 use Rattle.history.specs.DoesLaws.{Does, is-bad, beats, passes, updates, does}
 use Rattle.history.specs.Exactly.{NoUpdate, FoundNewest, ReadsNewest, no-record, a-record, UpdateSays}
 use Rattle.history.specs.NewestLaws.{newest-found}
+use Rattle.history.specs.Machine.{sequenceNumber, readingOf}
 
 -- ---- a record that holds an update gives its rows back
 
@@ -70,26 +71,37 @@ cells-back list records slot m room k =
     ∙ ap (λ (cells : List ℕ). zerosBehind (replicate keyRowCount 0 ++ recordOf level cells)) (k .of-quote)
     ∙ quote-cells slot (k .quote) ∙ sym (k .of-quote)
 
-module _ (list records : List ℕ) (slot : Slot) (taken : List Message) (room : slotAt list slot + slotCells slot ≤ length records) (reading : Reading)
+module _ (list records : List ℕ) (slot : Slot) (room : slotAt list slot + slotCells slot ≤ length records) (reading : Reading)
     (says : readingNumbers reading ≡ 0 ∷ recordValues (recordNumber records (slotAt list slot))) (shows : reading .quote ≡ quoteAt records (slotAt list slot) (levelIn slot)) where
-  reads : (o : Option Message) → RecordHolds list records slot o → FoundNewest slot taken o → ReadsNewest slot taken reading
-  reads none kept found =
-      no-record found (recorded-told (reading .answer) Recorded.NoRecord (says ∙ ap (λ (n : ℕ). 0 ∷ recordValues n) kept)) (shows ∙ rw kept)
-  reads (some m) kept found =
+  reads : (o : Option Message) → RecordHolds list records slot o → reading ≡ readingOf (levelIn slot) o
+  reads none kept =
+      let answer = recorded-told (reading .answer) Recorded.NoRecord (says ∙ ap (λ (n : ℕ). 0 ∷ recordValues n) kept) in
+      let quote : reading .quote ≡ blank = shows ∙ rw kept in
+      λ k. record { answer = answer k; quote = quote k }
+  reads (some m) kept =
       let number = kept-number list records slot (some m) kept in
       let some-number : eqb (sequenceNumber m) 0 ≡ false = ne-eqb (sequenceNumber m) 0 (λ e. absurd (omega (arith, kept .some-number))) in
-      a-record m found
-      (recorded-told (reading .answer) (Recorded.Record (sequenceNumber m)) (says ∙ ap (λ (n : ℕ). 0 ∷ recordValues n) number ∙ rw some-number))
-      (shows ∙ rw (number, some-number) (ap (λ (f : Form). quoteOf f (cellsAt records (slotAt list slot) (levelIn slot))) (sym (form-level slot)) ∙ ap (quoteOf (formFor slot)) (cells-back list records slot m room kept)))
+      let answer = recorded-told (reading .answer) (Recorded.Record (sequenceNumber m)) (says ∙ ap (λ (n : ℕ). 0 ∷ recordValues n) number ∙ rw some-number) in
+      let quote : reading .quote ≡ quoteOf (recordForm (levelIn slot)) (m .cells) =
+      shows ∙ rw (number, some-number) (ap (quoteOf (recordForm (levelIn slot))) (cells-back list records slot m room kept))
+      in
+      λ k. record { answer = answer k; quote = quote k }
+
+-- what is read of the newest update is that update
+is-newest : (slot : Slot) (taken : List Message) (reading : Reading) (o : Option Message) → FoundNewest slot taken o → reading ≡ readingOf (levelIn slot) o
+    → ReadsNewest slot taken reading
+is-newest slot taken reading none found e = no-record found (ap (λ (r : Reading). r .answer) e) (ap (λ (r : Reading). r .quote) e)
+is-newest slot taken reading (some m) found e =
+    a-record m found (ap (λ (r : Reading). r .answer) e) (ap (λ (r : Reading). r .quote) e ∙ ap (λ (f : Form). quoteOf f (m .cells)) (sym (form-level slot)))
 
 -- ---- the theorem
 
 module _ {starts : List ℕ} {lent : Lent} {past : List Event} (r : Reached starts lent past) where
   -- the record of a key that is listed in the segment of a letter
-  pub reads-key : (letter i : ℕ) → segmentOf (lent .list) letter ≡ some i → (key : List ℕ) (place : ℕ) → placeIn (lent .list) i key ≡ some place
+  pub read-newest : (letter i : ℕ) → segmentOf (lent .list) letter ≡ some i → (key : List ℕ) (place : ℕ) → placeIn (lent .list) i key ≡ some place
       → (level : Level) (reading : Reading) → ReadRecord lent letter key level reading
-      → ReadsNewest (contract i place level) (takenOf i (startOf starts i) past) reading
-  reads-key letter i s key place found level reading p =
+      → reading ≡ readingOf level (newest (contract i place level) (takenOf i (startOf starts i) past))
+  read-newest letter i s key place found level reading p =
       let list : List ℕ = lent .list in
       let slot : Slot = contract i place level in
       let there : SlotListed list slot = (segment-has list letter i s .0, key-at-place list i key place found .0) in
@@ -98,14 +110,21 @@ module _ {starts : List ℕ} {lent : Lent} {past : List Event} (r : Reached star
       let here : slotAt list slot ≡ recordOfKey list letter key level = record-found lent letter key good i s place found level in
       let taken : List Message = takenOf i (startOf starts i) past in
       let wide = reached-holds r .state .records-lent in
-      reads list (lent .records) slot taken (omega (arith, slot-inside list slot there)) reading
+      reads list (lent .records) slot (omega (arith, slot-inside list slot there)) reading
       (p .answers ∙ ap (λ (o : Option Refusal). answered o (recordValues (recordNumber (lent .records) (recordOfKey list letter key level)))) holds
       ∙ ap (λ (k : ℕ). 0 ∷ recordValues (recordNumber (lent .records) k)) (sym here))
       (p .quotes ∙ ap (λ (o : Option Refusal). quoteBeside o (quoteAt (lent .records) (recordOfKey list letter key level) level)) holds
       ∙ ap (λ (k : ℕ). quoteAt (lent .records) k level) (sym here))
       (newest slot taken)
       (reached-holds r .records-fit slot there)
-      (newest-found slot taken)
+
+  pub reads-key : (letter i : ℕ) → segmentOf (lent .list) letter ≡ some i → (key : List ℕ) (place : ℕ) → placeIn (lent .list) i key ≡ some place
+      → (level : Level) (reading : Reading) → ReadRecord lent letter key level reading
+      → ReadsNewest (contract i place level) (takenOf i (startOf starts i) past) reading
+  reads-key letter i s key place found level reading p =
+      let slot : Slot = contract i place level in
+      let taken : List Message = takenOf i (startOf starts i) past in
+      is-newest slot taken reading (newest slot taken) (newest-found slot taken) (read-newest letter i s key place found level reading p)
 
   -- of a slot, asked for by its letter and key
   pub reads-slot : (slot : Slot) → SlotListed (lent .list) slot → (reading : Reading)

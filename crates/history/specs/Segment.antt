@@ -7,7 +7,7 @@ use Rattle.sequence.specs.Runs.{missing}
 use Rattle.sequence.specs.Gaps.{Gaps}
 use Rattle.sequence.specs.Sound.{SoundGaps}
 use Rattle.message.specs.Message.{Message}
-use Rattle.history.specs.Past.{highestOf, missingBy}
+use Rattle.history.specs.Machine.{highestOf, missingBy}
 
 -- demand 3: gaps that name exactly the missing numbers
 pub record Fits (start : ℕ) (taken : List Message) (writtenOff : ℕ → Bool) (g : Gaps) : Type 0 where

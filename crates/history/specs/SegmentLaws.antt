@@ -19,8 +19,8 @@ use Rattle.sequence.specs.Gaps.{Gaps, begun, takes, full, after, wroteOff}
 use Rattle.sequence.specs.Answers.{writeOffAnswer, writtenOff as removed}
 use Rattle.sequence.specs.GapsLaws.{begun-sound, after-sound, after-missing, after-counted, wroteOff-sound, wroteOff-lowest, wroteOff-missing, missing-inside}
 use Rattle.message.specs.Message.{Message}
-use Rattle.history.specs.Past.{held, isNew, highestOf, missingBy, standingBy, sequenceNumber}
 use Rattle.history.specs.Segment.{Fits}
+use Rattle.history.specs.Machine.{held, isNew, highestOf, missingBy, standingBy, sequenceNumber}
 
 -- a number taken is not above the highest
 pub held-below : (start : ℕ) (taken : List Message) (n : ℕ) → held taken n ≡ true → n ≤ highestOf start taken

@@ -33,22 +33,22 @@ use Rattle.state.specs.Memory.{Lent}
 use Rattle.state.specs.Slots.{Slot, contract}
 use Rattle.state.specs.State.{segmentRules}
 use Rattle.state.specs.StateLaws.{is-some}
-use Rattle.turns.specs.Turns.{Acted, acted, refused}
-use Rattle.batch.specs.Batch.{batchLetter, countOf, batchData, batchActs, lentAfter}
-use Rattle.quotebox.specs.Calls.{lentWrittenOff}
+use Rattle.batch.specs.Batch.{batchLetter, countOf, batchData, batchActs}
 use Rattle.quotebox.specs.declared.record.Reading.{Reading}
 use Rattle.quotebox.specs.CallPromises.{ReadRecord}
 use Rattle.quotebox.specs.Record.{recordRules}
 use Rattle.quotebox.specs.Start.{startOf, lentStarted}
 use Rattle.sequence.specs.Runs.{Run}
-use Rattle.history.specs.Past.{Event, came, off, messagesOf, batchMessages, allCame, cameIn, afterTake, offIn, afterWriteOff, wroteOffIn, comesNew, taking, takenOf, sequenceNumber}
-use Rattle.history.specs.Calls.{Call, start, judge, take, listGaps, writeOff, readRecord, writeMessage, withList, startRefusal, batchAnswer, offRefusal, offAnswer, step}
-use Rattle.history.specs.Histories.{Made, own, elsewhere, Since, pastIn, BoxNow, unstarted, comes, sinceAfter, afterCall, allAfter, accepting, batchesAfter, allBatches, pastOf, Reached, batchesOf}
+use Rattle.history.specs.Past.{Event, came, off, messagesOf, batchMessages, allCame, cameIn, afterTake, offIn, afterWriteOff, wroteOffIn, takenOf}
+use Rattle.history.specs.Calls.{start, judge, take, listGaps, writeOff, readRecord, writeMessage, withList, startRefusal, batchAnswer, offRefusal, offAnswer}
+use Rattle.history.specs.CallsLaws.{took-list, off-list}
+use Rattle.history.specs.Histories.{Made, own, elsewhere, Since, pastIn, BoxNow, unstarted, comes, afterCall, allAfter, accepting, batchesAfter, allBatches, Reached, batchesOf}
 use Rattle.history.specs.Updates.{slotOf, segmentIn, isSlot, isOf}
 use Rattle.history.specs.Exactly.{ReadsNewest, no-record, a-record, UpdateSays}
 use Rattle.history.specs.KeptLaws.{same-slot}
 use Rattle.history.specs.RecordLaws.{reads-key, update-says}
 use Rattle.history.specs.Sent.{messageStarts, ShownAsSent}
+use Rattle.history.specs.Machine.{comesNew, taking, sequenceNumber}
 
 -- ---- where a message that came is from
 
@@ -123,17 +123,6 @@ module _ (list : List ℕ) where
       → (a : WrittenOff) → Sourced list batches (afterWriteOff list letter a past)
   write-off-sourced letter batches past h (answer.Removed first last) = off-sourced batches past h (segmentOf list letter) _
   write-off-sourced letter batches past h (answer.Refused refusal) = h
-
--- ---- no call but a start changes the list
-
-took-list : (lent : Lent) (letter : ℕ) (a : Acted) → lentAfter lent letter a .list ≡ lent .list
-took-list lent letter (acted box) = refl
-took-list lent letter (refused refusal) = refl
-
-off-list : (lent : Lent) (letter : ℕ) (o : Option Refusal) → leftBy o lent (lentWrittenOff lent letter) .list ≡ lent .list
-unfolding lentWrittenOff
-off-list lent letter none = refl
-off-list lent letter (some refusal) = refl
 
 -- ---- every history
 

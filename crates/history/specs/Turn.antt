@@ -9,9 +9,10 @@ use Rattle.message.specs.Message.{Message}
 use Rattle.turns.specs.Turns.{Box}
 use Rattle.state.specs.Slots.{recordsWanted}
 use Rattle.quotebox.specs.Start.{startOf}
-use Rattle.history.specs.Past.{Event, wroteOffIn, takenOf, isTaken, isOld, isHeartbeat, howMany, allCame}
+use Rattle.history.specs.Past.{Event, wroteOffIn, takenOf, isTaken, isOld, howMany, allCame}
 use Rattle.history.specs.Segment.{Fits}
 use Rattle.history.specs.Kept.{RecordsFit}
+use Rattle.history.specs.Machine.{isHeartbeat}
 
 -- demand 3: the gap row of segment i, which is the batch's, and all records are those of the past
 pub record BoxFits (list starts : List ℕ) (i : ℕ) (past : List Event) (box : Box) : Type 0 where

@@ -28,13 +28,14 @@ use Rattle.state.specs.Slots.{Slot, SlotListed, slotAt, recordOf}
 use Rattle.batch.specs.LeftLaws.{last-box}
 use Rattle.turns.specs.MessagesLaws.{not-both, messages-next, messages-refused}
 use Rattle.quotebox.specs.Start.{startOf}
-use Rattle.history.specs.Past.{Event, came, isNumbered, wroteOffIn, comesNew, taking, takenOf, isHeartbeat, messagesOf, sequenceNumber}
-use Rattle.history.specs.Updates.{takenFor, slotOf, isSlot, segmentIn, levelIn}
+use Rattle.history.specs.Past.{Event, came, wroteOffIn, takenOf, messagesOf, takenFor}
+use Rattle.history.specs.Updates.{slotOf, isSlot, segmentIn, levelIn}
 use Rattle.history.specs.SegmentLaws.{takes-new, fits-taken}
-use Rattle.history.specs.Kept.{higher, newest, RecordsFit, RecordHolds}
+use Rattle.history.specs.Kept.{newest, RecordsFit, RecordHolds}
 use Rattle.history.specs.KeptLaws.{not-its, update-changes}
 use Rattle.history.specs.DoesLaws.{storedIn, Does, is-bad, beats, passes, updates, does}
 use Rattle.history.specs.Turn.{BoxFits, Turned}
+use Rattle.history.specs.Machine.{isNumbered, comesNew, taking, isHeartbeat, sequenceNumber, higher}
 
 -- ---- what was taken when one more message has come
 

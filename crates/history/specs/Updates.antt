@@ -1,6 +1,6 @@
 -- Updates by their slots: 01 "Sequence and gaps", "What may be asked".
 use Prim.Native.Nat.{ℕ}
-use mathlib.Core.Bool.{Bool, true, false, _&&_}
+use mathlib.Core.Bool.{Bool, false, _&&_}
 use mathlib.Core.List.{List}
 use mathlib.Core.Option.{Option, none, some}
 use lib.Dec.{eqb}
@@ -9,10 +9,7 @@ use Rattle.forms.specs.Forms.{sameLevel, subjectOf}
 use Rattle.contracts.specs.File.{letterAt, listedKey}
 use Rattle.message.specs.declared.body.What.{What}
 use Rattle.message.specs.declared.body.What.the-variants.{Heartbeat, PassedOver, Update, Bad}
-use Rattle.message.specs.Message.{Message}
 use Rattle.state.specs.Slots.{Slot, contract, slotFor}
-use Rattle.quotebox.specs.Start.{startOf}
-use Rattle.history.specs.Past.{Event, takenOf}
 
 -- 01 "What may be asked": one record's slot
 abbrev pub sameSlot : Slot → Slot → Bool
@@ -40,10 +37,6 @@ letterIn list slot = letterAt list (segmentIn slot)
 -- 01 "What may be asked": the key that a slot's record is asked for by
 abbrev pub keyIn : List ℕ → Slot → List ℕ
 keyIn list (contract i place level) = listedKey list i place
-
--- 01 "Sequence and gaps": the messages taken of a slot's segment
-abbrev pub takenFor : List ℕ → Slot → List Event → List Message
-takenFor starts slot past = takenOf (segmentIn slot) (startOf starts (segmentIn slot)) past
 
 -- 01 "Sequence and gaps": the slot, where there is one, is this one
 abbrev pub isSlot : Slot → Option Slot → Bool

@@ -29,7 +29,7 @@ use Rattle.layout.specs.declared.read.RowRead.{RowRead}
 use Rattle.layout.specs.declared.read.RowRead.the-variants.{Cell, Field, Range}
 use Rattle.layout.specs.declared.read.Verdict.the-variants.{Good}
 use Rattle.layout.specs.Cells.{none as noCell, heldIn, byteIn, zerosBehind}
-use Rattle.layout.specs.Read.{readRow, readRows, rowThen}
+use Rattle.layout.specs.Read.{readRow, readRows}
 use Rattle.layout.specs.Says.{NumberSays, RowSays}
 use Rattle.layout.specs.SaysLaws.{row-exactly}
 use Rattle.quote.specs.declared.quote.Order.{Order}

@@ -5,6 +5,7 @@ use scan::Number;
 ghost use mathlib.Core.Path.{_≡_};
 ghost use lib.ListN.{length};
 ghost use Rattle.decimal.specs.Kinds.{quantity};
+ghost use Rattle.scan.specs.Answers.{numberNumbers};
 ghost use Rattle.scan.specs.Read.{readAs};
 ghost use Rattle.print.specs.Write.{writtenAs, Wrote};
 
@@ -30,7 +31,7 @@ impl Quantity {
     }
 
     pub fn read(text: &[u8]) -> Number
-        ensures { λ r. ⌜ r ≡ readAs quantity (now (text .entry)) ⌝ }
+        ensures { λ r. ⌜ numberNumbers r ≡ numberNumbers (readAs quantity (now (text .entry))) ⌝ }
     {
         scan::read(text, Quantity::KIND)
     }

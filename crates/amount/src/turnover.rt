@@ -5,6 +5,7 @@ use scan::Number;
 ghost use mathlib.Core.Path.{_≡_};
 ghost use lib.ListN.{length};
 ghost use Rattle.decimal.specs.Kinds.{turnover};
+ghost use Rattle.scan.specs.Answers.{numberNumbers};
 ghost use Rattle.scan.specs.Read.{readAs};
 ghost use Rattle.print.specs.Write.{writtenAs, Wrote};
 
@@ -30,7 +31,7 @@ impl Turnover {
     }
 
     pub fn read(text: &[u8]) -> Number
-        ensures { λ r. ⌜ r ≡ readAs turnover (now (text .entry)) ⌝ }
+        ensures { λ r. ⌜ numberNumbers r ≡ numberNumbers (readAs turnover (now (text .entry))) ⌝ }
     {
         scan::read(text, Turnover::KIND)
     }

@@ -10,7 +10,8 @@ use Rattle.state.specs.declared.refusal.Refusal.{Refusal}
 use Rattle.state.specs.Answers.{judgedNumbers}
 use Rattle.state.specs.Memory.{Lent}
 use Rattle.turns.specs.Turns.{Box, Acted, acted, refused, actedNumbers, messagesAct}
-use Rattle.batch.specs.Batch.{unlessBroken, batchActs, batchRules, batchLetter, boxOf, countOf, batchData}
+use Rattle.batch.specs.Batch.{batchRules, batchLetter, countOf, batchData}
+use Rattle.batch.specs.Acts.{unlessBroken, batchActs, boxOf}
 use Rattle.batch.specs.Good.{GoodFront}
 use Rattle.state.specs.GoodState.{GoodState}
 use Rattle.batch.specs.GoodLaws.{front-exact}

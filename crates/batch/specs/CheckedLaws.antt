@@ -15,21 +15,27 @@ use Rattle.state.specs.declared.state.Checked.{Checked}
 use Rattle.state.specs.declared.state.Checked.the-variants as checks
 use Rattle.state.specs.Memory.{Lent}
 use Rattle.turns.specs.Turns.{Acted, refused, actedNumbers}
-use Rattle.batch.specs.Batch.{batchActs, batchRules, batchLetter, countOf, batchData, lentAfter}
+use Rattle.batch.specs.Batch.{batchRules, batchLetter, countOf, batchData}
+use Rattle.batch.specs.Acts.{batchActs, lentAfter}
 use Rattle.batch.specs.BatchLaws.{rule-refuses, messages-decide}
 use Rattle.batch.specs.Good.{GoodFront}
 use Rattle.state.specs.GoodState.{GoodState}
 use Rattle.batch.specs.GoodLaws.{front-exact, rows-ready}
-use Rattle.state.specs.State.{stateRules, checkedRefusal}
+use Rattle.state.specs.Answers.{checkedNumbers, checkedBy}
+use Rattle.state.specs.AnswersLaws.{checkedRefusal, checked-told}
+use Rattle.state.specs.State.{stateRules}
 use Rattle.turns.specs.MessagesLaws.{rest-is}
 use Rattle.batch.specs.Promises.{JudgedBatch, TookBatch}
 use Rattle.batch.specs.Scratch.{DataReady, dataActs, JudgedData, TookData}
 use Rattle.state.specs.StateLaws.{state-exact}
 
-module _ (lent : Lent) (batch : List ℕ) (checked : Checked) (is : checkedRefusal checked ≡ firstBroken (stateRules lent ++ batchRules batch)) where
+module _ (lent : Lent) (batch : List ℕ) (checked : Checked) (is : checkedNumbers checked ≡ checkedBy (firstBroken (stateRules lent ++ batchRules batch))) where
+  first : firstBroken (stateRules lent ++ batchRules batch) ≡ checkedRefusal checked
+  first = sym (checked-told checked (firstBroken (stateRules lent ++ batchRules batch)) is)
+
   module _ (refusal : Refusal) (e : checked ≡ checks.Refused refusal) where
     refuses : batchActs lent batch ≡ refused refusal
-    refuses = rule-refuses lent batch refusal (sym is ∙ ap checkedRefusal e)
+    refuses = rule-refuses lent batch refusal (first ∙ ap checkedRefusal e)
 
     pub refused-judged : JudgedBatch lent batch (Refused refusal)
     refused-judged = record { answers = sym (ap actedNumbers refuses) }
@@ -43,7 +49,7 @@ module _ (lent : Lent) (batch : List ℕ) (checked : Checked) (is : checkedRefus
 
   module _ (e : checked ≡ checks.Good) where
     held : Hold (stateRules lent) × Hold (batchRules batch)
-    held = hold-append (stateRules lent) (batchRules batch) .0 (none-hold (stateRules lent ++ batchRules batch) (sym is ∙ ap checkedRefusal e))
+    held = hold-append (stateRules lent) (batchRules batch) .0 (none-hold (stateRules lent ++ batchRules batch) (first ∙ ap checkedRefusal e))
 
     pub checked-state : GoodState lent
     checked-state = state-exact lent .0 (held .0)

@@ -4,7 +4,8 @@ use mathlib.Core.Path.{_≡_}
 use mathlib.Core.Bool.{cond}
 use mathlib.Core.List.{List}
 use lib.ListN.{length, drop}
-use Rattle.sequence.specs.Gaps.{Gaps, most, takes, after}
+use Rattle.sequence.specs.Gaps.{Gaps, most, takes}
+use Rattle.sequence.specs.Changes.{after}
 use Rattle.sequence.specs.Row.{gapsOf}
 use Rattle.forms.specs.declared.forms.Subject.{Subject}
 use Rattle.forms.specs.declared.forms.Subject.the-variants.{Nothing, Contract}

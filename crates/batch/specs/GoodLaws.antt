@@ -12,7 +12,7 @@ use Rattle.laws.specs.Rules.{Hold}
 use Rattle.laws.specs.Tests.{both, conj}
 use Rattle.contracts.specs.BelowLaws.{all-pass}
 use Rattle.contracts.specs.File.{segmentsOf}
-use Rattle.sequence.specs.Row.{soundGapRow}
+use Rattle.sequence.specs.RowLaid.{soundGapRow}
 use Rattle.batch.specs.Batch.{flagOf, sizeOf, countOf, batchRules}
 use Rattle.batch.specs.Good.{GoodFront}
 use Rattle.state.specs.GoodState.{GoodState}

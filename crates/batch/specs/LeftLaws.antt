@@ -15,14 +15,17 @@ use Rattle.message.specs.declared.body.What.{What}
 use Rattle.message.specs.declared.body.What.the-variants as what
 use Rattle.message.specs.declared.head.Head.the-variants.{Good}
 use Rattle.message.specs.Fields.{lengthOf}
-use Rattle.message.specs.Message.{messageOf}
+use Rattle.message.specs.Reads.{messageOf}
 use Rattle.message.specs.Numbers.{verdictOf}
-use Rattle.sequence.specs.Row.{gapsOf, soundGapRow}
+use Rattle.sequence.specs.Row.{gapsOf}
+use Rattle.sequence.specs.RowLaid.{soundGapRow}
 use Rattle.sequence.specs.RowLaws.{sound-row-exactly}
 use Rattle.turns.specs.ActsLaws.{acts-as}
 use Rattle.turns.specs.Turns.{Box, acted, messageActs, messagesAct}
-use Rattle.batch.specs.Batch.{batchActs, batchLetter, boxOf, countOf, batchData, lentAfter}
-use Rattle.state.specs.Memory.{Lent, withGapRowIn, gapRowIn, gapRowCells, gapRowsWanted}
+use Rattle.batch.specs.Batch.{batchLetter, countOf, batchData}
+use Rattle.batch.specs.Acts.{batchActs, boxOf, lentAfter}
+use Rattle.state.specs.Memory.{Lent, gapRowIn, gapRowCells, gapRowsWanted}
+use Rattle.state.specs.MemoryRows.{withGapRowIn}
 use Rattle.state.specs.Slots.{recordsWanted, SameBehind}
 use Rattle.batch.specs.BatchLaws.{good-state, good-front, messages-accepted}
 use Rattle.batch.specs.Good.{gapsAfter}

@@ -11,3 +11,4 @@ pub mod Scratch
 pub mod ScratchLaws
 pub mod StepLaws
 pub mod TookLaws
+pub mod Acts

@@ -14,7 +14,8 @@ use Rattle.laws.specs.Tests.{leb-is, eqb-is}
 use Rattle.contracts.specs.Lookup.{segmentOf}
 use Rattle.contracts.specs.LookupLaws.{segment-has}
 use Rattle.sequence.specs.Gaps.{Gaps, most}
-use Rattle.sequence.specs.Row.{gapsOf, soundGapRow}
+use Rattle.sequence.specs.Row.{gapsOf}
+use Rattle.sequence.specs.RowLaid.{soundGapRow}
 use Rattle.message.specs.declared.body.What.{What}
 use Rattle.message.specs.declared.body.What.the-variants as what
 use Rattle.message.specs.declared.head.Fault.{Fault}
@@ -22,7 +23,7 @@ use Rattle.message.specs.declared.head.Head.{Head}
 use Rattle.message.specs.declared.head.Head.the-variants.{Good, Bad}
 use Rattle.message.specs.GoodLaws.{rules-exact}
 use Rattle.message.specs.Fields.{lengthOf}
-use Rattle.message.specs.Message.{messageOf}
+use Rattle.message.specs.Reads.{messageOf}
 use Rattle.message.specs.Numbers.{verdictOf}
 use Rattle.message.specs.Order.{messageRules}
 use Rattle.message.specs.OrderLaws.{message-first}
@@ -31,7 +32,8 @@ use Rattle.state.specs.declared.refusal.Refusal.{Refusal}
 use Rattle.state.specs.declared.refusal.Refusal.the-variants.{Count, Gaps as GapsOver}
 use Rattle.turns.specs.ActsLaws.{acts-as}
 use Rattle.turns.specs.Turns.{Box, Acted, acted, refused, messageActs, messagesAct}
-use Rattle.batch.specs.Batch.{unlessBroken, batchActs, batchRules, batchLetter, boxOf, countOf, batchData}
+use Rattle.batch.specs.Batch.{batchRules, batchLetter, countOf, batchData}
+use Rattle.batch.specs.Acts.{unlessBroken, batchActs, boxOf}
 use Rattle.state.specs.Memory.{Lent, gapRowOfLetter, gapRowIn}
 use Rattle.state.specs.State.{stateRules}
 use Rattle.state.specs.Slots.{recordsWanted}

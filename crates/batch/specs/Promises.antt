@@ -6,7 +6,8 @@ use Rattle.state.specs.declared.answers.Judged.{Judged}
 use Rattle.state.specs.Answers.{judgedNumbers}
 use Rattle.state.specs.Memory.{Lent}
 use Rattle.turns.specs.Turns.{actedNumbers}
-use Rattle.batch.specs.Batch.{batchActs, batchLetter, lentAfter}
+use Rattle.batch.specs.Batch.{batchLetter}
+use Rattle.batch.specs.Acts.{batchActs, lentAfter}
 
 -- 01 "What may be asked": judging answers what taking would
 pub record JudgedBatch (lent : Lent) (batch : List ℕ) (answer : Judged) : Type 0 where

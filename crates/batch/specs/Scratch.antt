@@ -8,12 +8,13 @@ use lib.ListN.{length}
 use Rattle.contracts.specs.File.{segmentsOf}
 use Rattle.contracts.specs.Sound.{Header}
 use Rattle.message.specs.Fields.{letterOf}
-use Rattle.sequence.specs.Row.{soundGapRow}
+use Rattle.sequence.specs.RowLaid.{soundGapRow}
 use Rattle.state.specs.declared.answers.Judged.{Judged}
 use Rattle.state.specs.Answers.{judgedNumbers}
 use Rattle.turns.specs.Turns.{Acted, messagesAct, actedNumbers}
-use Rattle.batch.specs.Batch.{boxOf, lentAfter}
-use Rattle.state.specs.Memory.{Lent, lends, gapRowCells, gapRowsWanted, gapRowsSound, gapRowOf}
+use Rattle.batch.specs.Acts.{boxOf, lentAfter}
+use Rattle.state.specs.Memory.{Lent, lends, gapRowCells, gapRowsWanted, gapRowOf}
+use Rattle.state.specs.MemoryRows.{gapRowsSound}
 
 -- a word of our own: every listed segment has a sound row
 pub record RowsReady (list rows : List ℕ) : Type 0 where

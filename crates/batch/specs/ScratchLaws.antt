@@ -17,12 +17,12 @@ use Rattle.message.specs.declared.body.What.the-variants as what
 use Rattle.message.specs.declared.head.Head.the-variants.{Good}
 use Rattle.message.specs.Fields.{letterOf}
 use Rattle.message.specs.HeadLaws.{listed-exact}
-use Rattle.message.specs.Message.{messageOf}
+use Rattle.message.specs.Reads.{messageOf}
 use Rattle.message.specs.Numbers.{verdictOf}
 use Rattle.message.specs.GoodLaws.{good-exact}
 use Rattle.sequence.specs.Promises.{Began}
 use Rattle.sequence.specs.PromisesLaws.{began-row}
-use Rattle.sequence.specs.Row.{soundGapRow}
+use Rattle.sequence.specs.RowLaid.{soundGapRow}
 use Rattle.turns.specs.declared.act.InTurn.{InTurn}
 use Rattle.state.specs.declared.answers.Judged.{Judged}
 use Rattle.state.specs.declared.answers.Judged.the-variants.{Accepted, Refused}
@@ -31,8 +31,9 @@ use Rattle.turns.specs.Acts.{boxAt, InFront, Ready, Left, JudgedMessages, none 
 use Rattle.turns.specs.ActsLaws.{acts-as}
 use Rattle.state.specs.Answers.{judgedNumbers}
 use Rattle.turns.specs.Turns.{Box, acted, refused, messageActs, messagesAct, actedNumbers}
-use Rattle.batch.specs.Batch.{boxOf, lentAfter}
-use Rattle.state.specs.Memory.{lends, withGapRowOfLetter, gapRowIn, gapRowCells, gapRowOf}
+use Rattle.batch.specs.Acts.{boxOf, lentAfter}
+use Rattle.state.specs.Memory.{lends, gapRowIn, gapRowCells, gapRowOf}
+use Rattle.state.specs.MemoryRows.{withGapRowOfLetter}
 use Rattle.turns.specs.MessagesLaws.{messages-refused, not-both}
 use Rattle.state.specs.Refusals.{ofFault}
 use Rattle.batch.specs.BatchLaws.{accepted-box, refused-is}

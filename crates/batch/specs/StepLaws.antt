@@ -14,9 +14,11 @@ use Rattle.laws.specs.Choice.{either}
 use Rattle.layout.specs.declared.read.Verdict.{Verdict}
 use Rattle.layout.specs.declared.read.Verdict.the-variants as verdict
 use Rattle.contracts.specs.Lookup.{segmentOf}
-use Rattle.sequence.specs.Gaps.{Gaps, most, takes, full, after, runsAfter}
+use Rattle.sequence.specs.Gaps.{Gaps, most, takes}
+use Rattle.sequence.specs.Changes.{full, after, runsAfter}
 use Rattle.sequence.specs.GapsLaws.{after-sound}
-use Rattle.sequence.specs.Row.{cells, count, gapsOf, laid, soundGapRow}
+use Rattle.sequence.specs.Row.{cells, count, gapsOf}
+use Rattle.sequence.specs.RowLaid.{laid, soundGapRow}
 use Rattle.sequence.specs.RowLaws.{laid-gaps, laid-sound, sound-row-exactly}
 use Rattle.sequence.specs.Sound.{SoundGaps}
 use Rattle.message.specs.declared.body.What.{What}
@@ -30,14 +32,16 @@ use Rattle.forms.specs.Forms.{subjectOf}
 use Rattle.message.specs.declared.head.Head.the-variants.{Good}
 use Rattle.message.specs.CallerLaws.{contents-good}
 use Rattle.message.specs.Fields.{formIn, lengthOf, numberOf}
-use Rattle.message.specs.Message.{messageKey, keyPlace, rowsRead, ofSubject, ofNamed, ofVerdict, contentsBy, messageOf}
+use Rattle.message.specs.Message.{messageKey, keyPlace, ofSubject, ofNamed}
+use Rattle.message.specs.Reads.{rowsRead, ofVerdict, contentsBy, messageOf}
 use Rattle.message.specs.Numbers.{verdictOf}
 use Rattle.message.specs.RulesLaws.{unlike}
 use Rattle.state.specs.declared.refusal.Refusal.the-variants.{Gaps as GapsOver}
 use Rattle.turns.specs.ActsLaws.{acts-as}
 use Rattle.turns.specs.Turns.{Box, Acted, acted, refused, numberActs, messageActs, updated}
 use Rattle.stores.specs.Stored.{stored}
-use Rattle.state.specs.Slots.{slotAt, slotIn, recordOf, recordsWanted}
+use Rattle.state.specs.Slots.{recordsWanted}
+use Rattle.state.specs.Places.{slotAt, slotIn, recordOf}
 use Rattle.batch.specs.Good.{arrived, arrivedFor, arrivedAs, gapsAfter}
 use Rattle.turns.specs.UpdateLaws.{level-of, record-wanted}
 

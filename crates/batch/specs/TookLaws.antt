@@ -11,7 +11,8 @@ use Rattle.state.specs.declared.answers.Judged.the-variants.{Accepted, Refused}
 use Rattle.state.specs.declared.refusal.Refusal.{Refusal}
 use Rattle.state.specs.Answers.{judgedNumbers}
 use Rattle.turns.specs.Turns.{Box, Acted, acted, refused, actedNumbers}
-use Rattle.batch.specs.Batch.{batchActs, batchLetter, countOf, answerOf, lentAfter}
+use Rattle.batch.specs.Batch.{batchLetter, countOf}
+use Rattle.batch.specs.Acts.{batchActs, answerOf, lentAfter}
 use Rattle.batch.specs.BatchLaws.{accepted-box, refused-is}
 use Rattle.batch.specs.Good.{GoodBatch}
 use Rattle.state.specs.GoodState.{GoodState}

@@ -5,7 +5,8 @@ ghost use lib.ListN.{length};
 ghost use Rattle.laws.specs.Rules.{firstBroken};
 ghost use Rattle.contracts.specs.Answers.{placeOf};
 ghost use Rattle.state.specs.Memory.{lends};
-ghost use Rattle.state.specs.State.{checkedRefusal, stateRules};
+ghost use Rattle.state.specs.Answers.{checkedNumbers, checkedBy};
+ghost use Rattle.state.specs.State.{stateRules};
 ghost use Rattle.batch.specs.Batch.{batchRules};
 ghost use Rattle.state.specs.Slots.{recordsWanted};
 ghost use Rattle.turns.specs.Acts.{InFront};
@@ -38,7 +39,7 @@ const MANY_DATA: usize = (FEW + 1) * LEAST_UPDATE;
 
 // Under 5 bytes (1), flag (2, 3), the rest of 1, no messages (4).
 fn check(batch: &[u8]) -> Checked
-    ensures { λ r. ⌜ checkedRefusal r ≡ firstBroken (batchRules (now (batch .entry))) ⌝ }
+    ensures { λ r. ⌜ checkedNumbers r ≡ checkedBy (firstBroken (batchRules (now (batch .entry)))) ⌝ }
 {
     if batch.len() < FRONT {
         return Checked::Refused(Refusal::Size);
@@ -65,7 +66,7 @@ fn check(batch: &[u8]) -> Checked
 
 // The state, and then the batch before its messages.
 fn check_all(list: &[u8], rows: &[u32], records: &[u64], batch: &[u8]) -> Checked
-    ensures { λ r. ⌜ checkedRefusal r ≡ firstBroken (stateRules (lends (now (list .entry)) (now (rows .entry)) (now (records .entry))) ++ batchRules (now (batch .entry))) ⌝ }
+    ensures { λ r. ⌜ checkedNumbers r ≡ checkedBy (firstBroken (stateRules (lends (now (list .entry)) (now (rows .entry)) (now (records .entry))) ++ batchRules (now (batch .entry)))) ⌝ }
 {
     match state::check_state(list, rows, records) {
         Checked::Refused(refusal) => Checked::Refused(refusal),

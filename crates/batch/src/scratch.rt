@@ -3,7 +3,8 @@
 ghost use mathlib.Core.Path.{_≡_};
 ghost use lib.ListN.{length};
 ghost use Rattle.contracts.specs.Answers.{placeOf};
-ghost use Rattle.state.specs.Memory.{withGapRowIn, gapRowCells};
+ghost use Rattle.state.specs.Memory.{gapRowCells};
+ghost use Rattle.state.specs.MemoryRows.{withGapRowIn};
 ghost use Rattle.batch.specs.Scratch.{RowReady, ScratchRow};
 use contracts::Found;
 use sequence::CELLS;

@@ -1,5 +1,5 @@
--- What is asked of every number below another: a test of all, a sum, the first that passes.
-use Prim.Native.Nat.{ℕ, zero, suc, _+_}
+-- What is asked of every number below another, as it computes: a test of all, the first that passes.
+use Prim.Native.Nat.{ℕ, zero, suc}
 use mathlib.Core.Bool.{Bool, true, cond, _&&_}
 use mathlib.Core.Option.{Option, none, some}
 
@@ -7,11 +7,6 @@ use mathlib.Core.Option.{Option, none, some}
 abbrev pub allBelow : ℕ → (ℕ → Bool) → Bool
 allBelow zero p = true
 allBelow (suc n) p = allBelow n p && p n
-
--- a word of our own: what the numbers below n give, added up
-abbrev pub sumBelow : ℕ → (ℕ → ℕ) → ℕ
-sumBelow zero f = 0
-sumBelow (suc n) f = sumBelow n f + f n
 
 -- a word of our own: the first of two that is there
 abbrev pub orElse : Option ℕ → Option ℕ → Option ℕ

@@ -10,7 +10,8 @@ use native.Mathlib.Omega.{arith}
 use Rattle.laws.specs.Choice.{either, never}
 use Rattle.laws.specs.Tests.{both, conj}
 use Rattle.laws.specs.Order.{order}
-use Rattle.contracts.specs.Below.{allBelow, sumBelow, firstBelow}
+use Rattle.contracts.specs.Below.{allBelow, firstBelow}
+use Rattle.contracts.specs.File.{sumBelow}
 
 module _ (p : ℕ → Bool) where
   -- all pass exactly when each does

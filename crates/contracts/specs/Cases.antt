@@ -9,7 +9,7 @@ use Rattle.contracts.specs.File.{segmentsOf, letterAt, zeroAt, countAt, 
 use Rattle.contracts.specs.Halving.{halvedIn, digits}
 use Rattle.contracts.specs.Lookup.{segmentOf, lookup, placeIn}
 use Rattle.contracts.specs.Records.{contractAmong}
-use Rattle.contracts.specs.Sound.{entrySound, headerSound, keySound, bodySound, sound}
+use Rattle.contracts.specs.SoundTests.{entrySound, headerSound, keySound, bodySound, sound}
 
 -- 01 "The contract list": a 39-byte key of one byte throughout
 abbrev pub keyOfBytes : ℕ → List ℕ

@@ -5,10 +5,10 @@ use mathlib.Core.Path.{_≡_, refl, ap, ap₂, _∙_}
 use mathlib.Core.List.{List}
 use native.Mathlib.Omega.{arith}
 use Rattle.wire.specs.Number.{numberAt}
-use Rattle.contracts.specs.Below.{sumBelow}
+use Rattle.contracts.specs.File.{sumBelow, segmentsOf, entryAt, letterAt, zeroAt, countAt, offsetAt, contractsBefore}
 use Rattle.contracts.specs.BelowLaws.{all-same, sum-same}
-use Rattle.contracts.specs.File.{segmentsOf, entryAt, letterAt, zeroAt, countAt, offsetAt, contractsBefore}
-use Rattle.contracts.specs.Sound.{SameContents, letterAscends, entrySound, headerSound}
+use Rattle.contracts.specs.Sound.{SameContents}
+use Rattle.contracts.specs.SoundTests.{letterAscends, entrySound, headerSound}
 
 module _ (list other : List ℕ) (same : SameContents list other) where
   number-same : (width at : ℕ) → at + width ≤ entryAt (segmentsOf list) → numberAt width list at ≡ numberAt width other at

@@ -3,7 +3,12 @@ use Prim.Native.Nat.{ℕ, _+_, _*_, min}
 use mathlib.Core.List.{List}
 use lib.ListN.{take, drop}
 use Rattle.wire.specs.Number.{numberAt}
-use Rattle.contracts.specs.Below.{sumBelow}
+use Prim.Native.Nat.{ℕ, zero, suc, _+_}
+
+-- a word of our own: what the numbers below n give, added up
+abbrev pub sumBelow : ℕ → (ℕ → ℕ) → ℕ
+sumBelow zero f = 0
+sumBelow (suc n) f = sumBelow n f + f n
 
 -- 01 "The contract list": 2 bytes for the number of segments
 unfoldable pub segmentsOf : List ℕ → ℕ

@@ -7,9 +7,8 @@ use native.Mathlib.Omega.{arith}
 use lib.ListN.{length, getD, drop, length-drop}
 use lib.Seq.{length-take-le}
 use Rattle.wire.specs.NumberLaws.{number-under}
-use Rattle.contracts.specs.Below.{sumBelow}
+use Rattle.contracts.specs.File.{sumBelow, segmentsOf, countAt, offsetAt, keyFrom, keySize, contractsBefore, contractsOf}
 use Rattle.contracts.specs.BelowLaws.{sum-on, sum-reaches, sum-under}
-use Rattle.contracts.specs.File.{segmentsOf, countAt, offsetAt, keyFrom, keySize, contractsBefore, contractsOf}
 
 module _ (list : List ℕ) where
   module _ (byte : (i : ℕ) → getD list i 0 < 256) where

@@ -15,7 +15,8 @@ use Rattle.contracts.specs.Below.{allBelow}
 use Rattle.contracts.specs.BelowLaws.{each-passes, all-pass, sum-under}
 use Rattle.contracts.specs.File.{segmentsOf, letterAt, zeroAt, countAt, offsetAt, keySize, keyAt, listedKey, contractsOf}
 use Rattle.contracts.specs.FileLaws.{none-before, before-sum, before-next, before-reaches, whole-key}
-use Rattle.contracts.specs.Sound.{Header, mostSegments, mostContracts, letterD, letterT, within, isLetter, letterAscends, bodyAt, entrySound, headerSound}
+use Rattle.contracts.specs.Sound.{Header, mostSegments, mostContracts, letterD, letterT}
+use Rattle.contracts.specs.SoundTests.{within, isLetter, letterAscends, bodyAt, entrySound, headerSound}
 
 pub within-facts : (low high n : ℕ) → within low high n ≡ true → (low ≤ n) × (n ≤ high)
 within-facts low high n e =

@@ -9,7 +9,7 @@ use Rattle.contracts.specs.declared.check.Part.{Part}
 use Rattle.contracts.specs.declared.check.Part.the-variants.{Entry, Body}
 use Rattle.contracts.specs.Below.{allBelow}
 use Rattle.contracts.specs.File.{segmentsOf, entryAt}
-use Rattle.contracts.specs.Sound.{entrySound, bodySound}
+use Rattle.contracts.specs.SoundTests.{entrySound, bodySound}
 
 -- a word of our own: a place that reads as the entry of segment i does
 pub record EntryPlace (list : List ℕ) (i place : ℕ) : Type 0 where

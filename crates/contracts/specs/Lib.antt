@@ -1,4 +1,5 @@
 pub mod Answers
+pub mod AnswersLaws
 pub mod Below
 pub mod BelowLaws
 pub mod Cases
@@ -17,3 +18,4 @@ pub mod Records
 pub mod RecordsLaws
 pub mod Sound
 pub mod SoundLaws
+pub mod SoundTests

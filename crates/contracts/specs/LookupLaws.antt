@@ -2,15 +2,17 @@
 use Prim.Native.Nat.{ℕ, _≤_, _<_}
 use mathlib.Core.Path.{_≡_, refl, sym, ap, _∙_}
 use mathlib.Core.Logic.{_↔_}
-use mathlib.Core.List.{List}
+use mathlib.Core.List.{List, [], _∷_}
 use mathlib.Core.Option.{Option, none, some}
 use native.Mathlib.Omega.{arith}
 use borrow.Author.Tests.{eqb-true, eqb-false}
 use lib.Dec.{eqb}
 use Rattle.laws.specs.Choice.{never}
+use Rattle.laws.specs.Refused.{codeNo, contractNo}
 use Rattle.contracts.specs.declared.lookup.Found.{Found}
 use Rattle.contracts.specs.declared.lookup.Found.the-variants.{At, Nowhere}
-use Rattle.contracts.specs.Answers.{placeOf, foundNumber, codeRefused, contractRefused}
+use Rattle.contracts.specs.Answers.{foundNumbers, lookedUp}
+use Rattle.contracts.specs.AnswersLaws.{found-told}
 use Rattle.contracts.specs.BelowLaws.{first-passes, none-passes}
 use Rattle.contracts.specs.File.{segmentsOf, letterAt, countAt, listedKey}
 use Rattle.contracts.specs.Halving.{digits}
@@ -32,10 +34,11 @@ module _ (answer : Option ℕ) (Is : ℕ → Type 0) (exact : (i : ℕ) → answ
       go (some i) e nothing = absurd (nothing i (exact i .0 e))
 
   -- and then its number is the refusal's
-  refused-exact : (refusal : ℕ) → 0 < refusal → (r : Found) → placeOf r ≡ answer → foundNumber refusal r ≡ refusal ↔ ((i : ℕ) → Is i → ⊥)
-  refused-exact refusal h (At i) e =
-      ((λ n. absurd (omega arith)), (λ nothing. absurd (never (sym (none-exact .1 nothing) ∙ sym e))))
-  refused-exact refusal h Nowhere e = ((λ n. none-exact .0 (sym e)), (λ nothing. refl))
+  refused-exact : (refusal : ℕ) (r : Found) → foundNumbers refusal r ≡ lookedUp refusal answer
+      → foundNumbers refusal r ≡ refusal ∷ [] ↔ ((i : ℕ) → Is i → ⊥)
+  refused-exact refusal (At i) e =
+      ((λ n. let z : _≡_ {A = ℕ} 0 1 = cc in absurd (omega arith)), (λ nothing. absurd (never (sym (none-exact .1 nothing) ∙ sym (found-told refusal (At i) answer e)))))
+  refused-exact refusal Nowhere e = ((λ n. none-exact .0 (sym (found-told refusal Nowhere answer e))), (λ nothing. refl))
 
 module _ (list : List ℕ) where
   -- a segment that is found has the letter, whatever the list is
@@ -58,11 +61,11 @@ module _ (list : List ℕ) where
           e ∙ ap some (letters-apart list h j i (k .0) (l .0) (k .1 ∙ sym (l .1)))
 
   -- 6 is given exactly when no segment has the letter
-  pub letter-refused : Header list → (letter : ℕ) (r : Found) → placeOf r ≡ segmentOf list letter
-      → foundNumber codeRefused r ≡ codeRefused ↔ ((i : ℕ) → (i < segmentsOf list) × (letterAt list i ≡ letter) → ⊥)
+  pub letter-refused : Header list → (letter : ℕ) (r : Found) → foundNumbers codeNo r ≡ lookedUp codeNo (segmentOf list letter)
+      → foundNumbers codeNo r ≡ codeNo ∷ [] ↔ ((i : ℕ) → (i < segmentsOf list) × (letterAt list i ≡ letter) → ⊥)
   letter-refused h letter r e =
       refused-exact (segmentOf list letter) (λ i. (i < segmentsOf list) × (letterAt list i ≡ letter)) (segment-exact h letter)
-      codeRefused (omega arith) r e
+      codeNo r e
 
   module _ (i : ℕ) (key : List ℕ) where
     -- M-102: at most the binary digits of the segment's count
@@ -89,8 +92,8 @@ module _ (list : List ℕ) where
     )
 
     -- 13 is given exactly when the key isn't listed
-    pub key-refused : SoundList list → i < segmentsOf list → (r : Found) → placeOf r ≡ placeIn list i key
-        → foundNumber contractRefused r ≡ contractRefused ↔ ((k : ℕ) → (k < countAt list i) × (listedKey list i k ≡ key) → ⊥)
+    pub key-refused : SoundList list → i < segmentsOf list → (r : Found) → foundNumbers contractNo r ≡ lookedUp contractNo (placeIn list i key)
+        → foundNumbers contractNo r ≡ contractNo ∷ [] ↔ ((k : ℕ) → (k < countAt list i) × (listedKey list i k ≡ key) → ⊥)
     key-refused s l r e =
         refused-exact (placeIn list i key) (λ k. (k < countAt list i) × (listedKey list i k ≡ key)) (key-exact s l)
-        contractRefused (omega arith) r e
+        contractNo r e

@@ -1,16 +1,12 @@
--- 01 "The contract list": what a sound list is, as tests that compute and as the paper's rules one by one.
-use Prim.Native.Nat.{ℕ, zero, suc, _+_, _*_, _≤_, _<_}
+-- 01 "The contract list": what a sound list is, rule by rule.
+use Prim.Native.Nat.{ℕ, _+_, _*_, _≤_, _<_}
 use mathlib.Core.Path.{_≡_}
 use mathlib.Core.Logic.{_⊎_}
-use mathlib.Core.Bool.{Bool, true, false, _&&_, _||_}
 use mathlib.Core.List.{List}
-use lib.Dec.{leb, ltb, eqb}
 use lib.ListN.{length, getD}
-use Rattle.wire.specs.Bytes.{lowestByte, highestByte, allPrintable}
-use Rattle.contracts.specs.declared.key.Stands.{Stands}
-use Rattle.contracts.specs.declared.key.Stands.the-variants.{Below, Same, Above}
-use Rattle.contracts.specs.Below.{allBelow}
-use Rattle.contracts.specs.File.{segmentsOf, entryAt, letterAt, zeroAt, countAt, offsetAt, keySize, listedKey, contractsBefore}
+use Rattle.wire.specs.Bytes.{lowestByte, highestByte}
+use Rattle.contracts.specs.declared.key.Stands.the-variants.{Below}
+use Rattle.contracts.specs.File.{segmentsOf, entryAt, letterAt, zeroAt, countAt, offsetAt, keySize, listedKey}
 use Rattle.contracts.specs.Keys.{orderOf}
 
 -- 01 "The contract list": 1 or 2 segments
@@ -56,53 +52,3 @@ pub record SoundList (list : List ℕ) : Type 0 where
   pub key-bytes : (i k b : ℕ) → i < segmentsOf list → k < countAt list i → b < keySize
       → (lowestByte ≤ getD (listedKey list i k) b 0) × (getD (listedKey list i k) b 0 ≤ highestByte)
   pub keys-ascend : (i k : ℕ) → i < segmentsOf list → k + 1 < countAt list i → orderOf (listedKey list i k) (listedKey list i (k + 1)) ≡ Below
-
--- a word of our own: n is not under `low` and not above `high`
-abbrev pub within : ℕ → ℕ → ℕ → Bool
-within low high n = leb low n && leb n high
-
--- 01 "The contract list": letters are D or T
-abbrev pub isLetter : ℕ → Bool
-isLetter letter = eqb letter letterD || eqb letter letterT
-
--- 01 "The contract list": each letter but the first stands above the one before it
-abbrev pub letterAscends : List ℕ → ℕ → Bool
-letterAscends list zero = true
-letterAscends list (suc i) = ltb (letterAt list i) (letterAt list (suc i))
-
--- 01 "The contract list": where the body of segment i begins, with no hole behind the contents and the bodies before it
-abbrev pub bodyAt : List ℕ → ℕ → ℕ
-bodyAt list i = entryAt (segmentsOf list) + keySize * contractsBefore list i
-
--- 01 "The contract list": letter, zero byte, count and offset of segment i
-unfoldable pub entrySound : List ℕ → ℕ → Bool
-entrySound list i =
-    isLetter (letterAt list i) && letterAscends list i && eqb (zeroAt list i) 0 && within 1 mostContracts (countAt list i) && eqb (offsetAt list i) (bodyAt list i)
-
--- 01 "The contract list": strictly ascending, so that the same is not below
-abbrev pub isBelow : Stands → Bool
-isBelow Below = true
-isBelow Same = false
-isBelow Above = false
-
--- 01 "The contract list": each key but the first of its segment stands above the one before it
-abbrev pub keyAscends : List ℕ → ℕ → ℕ → Bool
-keyAscends list i zero = true
-keyAscends list i (suc k) = isBelow (orderOf (listedKey list i k) (listedKey list i (suc k)))
-
--- 01 "The contract list": key k of segment i
-unfoldable pub keySound : List ℕ → ℕ → ℕ → Bool
-keySound list i k = allPrintable (listedKey list i k) && keyAscends list i k
-
--- 01 "The contract list": every key of segment i
-unfoldable pub bodySound : List ℕ → ℕ → Bool
-bodySound list i = allBelow (countAt list i) (keySound list i)
-
--- 01, the table's row 16, of calls after start: true exactly when `Header` holds
-unfoldable pub headerSound : List ℕ → Bool
-headerSound list =
-    within 1 mostSegments (segmentsOf list) && (allBelow (segmentsOf list) (entrySound list) && eqb (length list) (bodyAt list (segmentsOf list)))
-
--- 01, the table's row 16, of start: true exactly when `Sound` holds
-unfoldable pub sound : List ℕ → Bool
-sound list = headerSound list && allBelow (segmentsOf list) (bodySound list)

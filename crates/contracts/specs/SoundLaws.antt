@@ -19,7 +19,8 @@ use Rattle.contracts.specs.File.{segmentsOf, countAt, listedKey}
 use Rattle.contracts.specs.HeaderLaws.{header-exact, key-length}
 use Rattle.contracts.specs.Keys.{orderOf}
 use Rattle.contracts.specs.KeysLaws.{below-trans}
-use Rattle.contracts.specs.Sound.{SoundList, headerSound, isBelow, keyAscends, keySound, bodySound, sound}
+use Rattle.contracts.specs.Sound.{SoundList}
+use Rattle.contracts.specs.SoundTests.{headerSound, isBelow, keyAscends, keySound, bodySound, sound}
 
 below-true : (o : Stands) → isBelow o ≡ true → o ≡ Below
 below-true Below e = refl

@@ -2,7 +2,7 @@ ghost use mathlib.Core.Path.{_≡_};
 ghost use Prim.Native.Nat.{_<_};
 ghost use Rattle.contracts.specs.File.{countAt, listedKey};
 ghost use Rattle.contracts.specs.Inner.{partSound, eachSound};
-ghost use Rattle.contracts.specs.Sound.{within, isLetter, letterAscends, bodyAt, entrySound, headerSound, isBelow, keyAscends, keySound, bodySound, sound};
+ghost use Rattle.contracts.specs.SoundTests.{within, isLetter, letterAscends, bodyAt, entrySound, headerSound, isBelow, keyAscends, keySound, bodySound, sound};
 use crate::header;
 use crate::key;
 use crate::key::Stands;

@@ -1,5 +1,6 @@
 ghost use mathlib.Core.Path.{_≡_};
-ghost use Rattle.contracts.specs.Answers.{placeOf};
+ghost use Rattle.laws.specs.Refused.{codeNo, contractNo};
+ghost use Rattle.contracts.specs.Answers.{foundNumbers, lookedUp};
 ghost use Rattle.contracts.specs.Lookup.{segmentOf, placeIn};
 use crate::header;
 use crate::key;
@@ -14,7 +15,7 @@ pub enum Found {
 
 // The segment that has a letter.
 pub fn segment_of(list: &[u8], letter: u8) -> Found
-    ensures { λ r. ⌜ placeOf r ≡ segmentOf (now (list .entry)) letter ⌝ }
+    ensures { λ r. ⌜ foundNumbers codeNo r ≡ lookedUp codeNo (segmentOf (now (list .entry)) letter) ⌝ }
 {
     let listed = header::segments(list);
     let mut i = 0;
@@ -29,7 +30,7 @@ pub fn segment_of(list: &[u8], letter: u8) -> Found
 
 // The place of a key in a segment, by halving: `left` keys are left, the first of which is key `low`.
 pub fn place_of(list: &[u8], segment: usize, wanted: &[u8]) -> Found
-    ensures { λ r. ⌜ placeOf r ≡ placeIn (now (list .entry)) segment (now (wanted .entry)) ⌝ }
+    ensures { λ r. ⌜ foundNumbers contractNo r ≡ lookedUp contractNo (placeIn (now (list .entry)) segment (now (wanted .entry))) ⌝ }
 {
     let offset = header::offset_at(list, segment);
     let mut low = 0;

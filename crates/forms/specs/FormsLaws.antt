@@ -72,6 +72,12 @@ nothing-rows Heartbeat e = refl
 nothing-rows LevelOne e = cc
 nothing-rows LevelTwo e = cc
 
+-- and carries zero for its sum
+pub nothing-zero : (form : Form) → subjectOf form ≡ Nothing → sumOf form ≡ Zero
+nothing-zero Heartbeat e = refl
+nothing-zero LevelOne e = cc
+nothing-zero LevelTwo e = cc
+
 -- ---- a code's forms by their lengths
 
 -- a form that a length names is one of the code's, and has that length

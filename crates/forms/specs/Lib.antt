@@ -1,3 +1,5 @@
+pub mod Answers
+pub mod AnswersLaws
 pub mod Sizes
 pub mod Rows
 pub mod RowsLaws
@@ -6,3 +8,4 @@ pub mod NamesLaws
 pub mod Forms
 pub mod FormsLaws
 pub mod Inner
+pub mod SameName

@@ -1,11 +1,13 @@
 -- A name's number and level tell it from every other.
 use Prim.Native.Nat.{ℕ}
-use mathlib.Core.Path.{_≡_, refl, ap₂, sym, _∙_}
+use mathlib.Core.Path.{_≡_, refl, ap, ap₂, sym, _∙_}
 use mathlib.Core.Bool.{true}
-use mathlib.Core.List.{List, [], _∷_}
+use mathlib.Core.Logic.{_↔_}
+use mathlib.Core.List.{[], _∷_}
 use lib.ListN.{getD}
 use Rattle.laws.specs.Tests.{eqb-is, and-is}
-use Rattle.forms.specs.Names.{Name, instrument, symbol, expiry, strike, optionType, marketType, buyPrice, buyQuantity, sellPrice, sellQuantity, lastPrice, tradedQuantity, status, openingPrice, highPrice, lowPrice, closePrice, averagePrice, allBuyers, allSellers, turnover, nameNumber, orderLevel, sameName}
+use Rattle.forms.specs.Names.{Name, instrument, symbol, expiry, strike, optionType, marketType, buyPrice, buyQuantity, sellPrice, sellQuantity, lastPrice, tradedQuantity, status, openingPrice, highPrice, lowPrice, closePrice, averagePrice, allBuyers, allSellers, turnover}
+use Rattle.forms.specs.SameName.{nameNumber, orderLevel, sameName}
 
 nameFrom : ℕ → ℕ → Name
 nameFrom number k =
@@ -39,7 +41,9 @@ name-back allBuyers = refl
 name-back allSellers = refl
 name-back turnover = refl
 
-pub same-name : (a b : Name) → sameName a b ≡ true → a ≡ b
-same-name a b e =
-    let both = and-is (eqb-is (nameNumber a) (nameNumber b)) (eqb-is (orderLevel a) (orderLevel b)) .0 e in
-    sym (name-back a) ∙ ap₂ nameFrom (both .0) (both .1) ∙ name-back b
+pub same-name : (a b : Name) → sameName a b ≡ true ↔ a ≡ b
+same-name a b =
+    let tests = and-is (eqb-is (nameNumber a) (nameNumber b)) (eqb-is (orderLevel a) (orderLevel b)) in (
+      (λ e. let both = tests .0 e in sym (name-back a) ∙ ap₂ nameFrom (both .0) (both .1) ∙ name-back b),
+      (λ e. tests .1 (ap nameNumber e, ap orderLevel e)),
+    )

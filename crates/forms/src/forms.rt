@@ -1,6 +1,7 @@
 // The forms of messages as data: which code and length name which form, and what a form has.
 ghost use mathlib.Core.Path.{_≡_};
 ghost use lib.ListN.{length};
+ghost use Rattle.forms.specs.Answers.{Tells, subjectLevel, namedNumbers, formNamed, chosenNumbers, formChosen};
 ghost use Rattle.forms.specs.Rows.{padded, dataLength};
 ghost use Rattle.forms.specs.Forms.{rowsOf, subjectOf, recordForm, formsOf, formOf, sumOf, sumRule, writtenForm};
 ghost use Rattle.forms.specs.Inner.{familyForms, sumNamed};
@@ -194,7 +195,7 @@ pub fn data_length(form: Form) -> usize
 }
 
 pub fn subject_of(form: Form) -> Subject
-    ensures { λ r. ⌜ r ≡ subjectOf form ⌝ }
+    ensures { λ r. ⌜ subjectLevel r ≡ subjectLevel (subjectOf form) ⌝ }
 {
     match form {
         Form::Heartbeat => Subject::Nothing,
@@ -236,7 +237,7 @@ fn family_of(letter: u8, second: u8) -> Family
 
 // Where both levels print one code, the length tells them apart.
 pub fn form_of(letter: u8, second: u8, length: usize) -> Named
-    ensures { λ r. ⌜ r ≡ formOf letter second length ⌝ }
+    ensures { λ r. ⌜ Tells namedNumbers formNamed (formOf letter second length) r ⌝ }
 {
     match family_of(letter, second) {
         Family::Heartbeat => match length {
@@ -286,7 +287,7 @@ pub fn sum_named(named: Named) -> Sum
 }
 
 pub fn written_form(letter: u8, second: u8, level: Level) -> Chosen
-    ensures { λ r. ⌜ r ≡ writtenForm letter second level ⌝ }
+    ensures { λ r. ⌜ Tells chosenNumbers formChosen (writtenForm letter second level) r ⌝ }
 {
     match family_of(letter, second) {
         Family::Heartbeat => Chosen::Form(Form::Heartbeat),

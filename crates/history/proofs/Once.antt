@@ -9,7 +9,8 @@ use Rattle.quotebox.specs.CallPromisesLaws.{one-started, one-listed, one-writte
 use Rattle.batch.specs.TookLaws.{one-judged, one-took}
 use Rattle.writer.specs.WriterPromisesLaws.{one-written}
 use Rattle.history.specs.Calls as calls
-use Rattle.history.specs.Calls.{step, started, judged, took, listed, wroteOff, read, wrote}
+use Rattle.history.specs.Calls.{started, judged, took, listed, wroteOff, read, wrote}
+use Rattle.history.specs.Step.{step}
 use Rattle.history.specs.CallsLaws.{start-exactly, judge-exactly, take-exactly, list-exactly, off-exactly, read-exactly, write-exactly}
 use Rattle.quotebox.proofs.start.Reads as start
 use Rattle.quotebox.proofs.judge.Reads as judge

@@ -25,15 +25,17 @@ use Rattle.state.specs.declared.answers.Listed.{Listed}
 use Rattle.quotebox.specs.declared.record.Reading.{Reading}
 use Rattle.state.specs.declared.answers.Recorded.{Recorded}
 use Rattle.state.specs.Memory.{Lent, lends, gapRowIn}
-use Rattle.state.specs.Slots.{Slot, contract, formFor}
+use Rattle.state.specs.Slots.{Slot, contract}
+use Rattle.state.specs.Places.{formFor}
 use Rattle.state.specs.AnswersLaws.{listed-told}
 use Rattle.quotebox.specs.CallPromises.{ListedRuns, ReadRecord}
 use Rattle.quotebox.specs.CallPromisesLaws.{one-reading}
 use Rattle.quotebox.specs.CallsLaws.{record-refused}
-use Rattle.quotebox.specs.Calls.{gapsOfLetter, listRules, listValues, runsPut}
+use Rattle.quotebox.specs.Calls.{listValues, runsPut}
+use Rattle.quotebox.specs.CallRules.{gapsOfLetter, listRules, recordRules}
 use Rattle.state.specs.Answers.{leftBy, answered}
 use Rattle.state.specs.Refusals.{Rule}
-use Rattle.quotebox.specs.Record.{recordRules, blank}
+use Rattle.quotebox.specs.Record.{blank}
 use Rattle.quotebox.specs.RecordLaws.{segment-broken, key-broken}
 use Rattle.quotebox.specs.Start.{startOf}
 use Rattle.state.specs.State.{segmentRules}
@@ -130,7 +132,7 @@ module _ {list rows records rows′ records′ starts starts′ : List ℕ} {pas
 
   -- ---- the letter is refused in both, or in neither
 
-  rules-same : (letter : ℕ) → firstBroken (segmentRules lent letter) ≡ firstBroken (segmentRules lent′ letter)
+  pub rules-same : (letter : ℕ) → firstBroken (segmentRules lent letter) ≡ firstBroken (segmentRules lent′ letter)
   rules-same letter = go (segmentOf list letter) refl
     where
       go : (o : Option ℕ) → segmentOf list letter ≡ o → firstBroken (segmentRules lent letter) ≡ firstBroken (segmentRules lent′ letter)
@@ -139,7 +141,7 @@ module _ {list rows records rows′ records′ starts starts′ : List ℕ} {pas
           ∙ sym (letter-broken lent′ letter (good-unrefused lent′ (reached-holds r′ .state)) e)
       go (some i) e = segment-good r letter i e ∙ sym (segment-good r′ letter i e)
 
-  gaps-agree : (letter : ℕ) → gapsOfLetter lent letter ≡ gapsOfLetter lent′ letter
+  pub gaps-agree : (letter : ℕ) → gapsOfLetter lent letter ≡ gapsOfLetter lent′ letter
   unfolding gapsOfLetter
   gaps-agree letter = go (segmentOf list letter) refl
     where
@@ -148,7 +150,7 @@ module _ {list rows records rows′ records′ starts starts′ : List ℕ} {pas
       go (some i) e = gaps-same letter i e
 
   -- rules in front that answer the same in both, and others behind them
-  front-same : (front front′ rules : List Rule) → firstBroken front ≡ firstBroken front′ → firstBroken (front ++ rules) ≡ firstBroken (front′ ++ rules)
+  pub front-same : (front front′ rules : List Rule) → firstBroken front ≡ firstBroken front′ → firstBroken (front ++ rules) ≡ firstBroken (front′ ++ rules)
   front-same front front′ rules e = go (firstBroken front) refl
     where
       go : (o : Option Refusal) → firstBroken front ≡ o → firstBroken (front ++ rules) ≡ firstBroken (front′ ++ rules)

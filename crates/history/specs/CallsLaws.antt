@@ -21,19 +21,22 @@ use Rattle.state.specs.declared.answers.Written.{Written}
 use Rattle.state.specs.Answers.{startedNumbers, listedNumbers, writtenOffNumbers, recordedNumbers, writtenNumbers, answered, leftBy}
 use Rattle.state.specs.Memory.{Lent}
 use Rattle.turns.specs.Turns.{Acted, acted, refused}
-use Rattle.batch.specs.Batch.{batchActs, lentAfter}
+use Rattle.batch.specs.Acts.{batchActs, lentAfter}
 use Rattle.batch.specs.Promises.{JudgedBatch, TookBatch}
 use Rattle.batch.specs.TookLaws.{answer-numbers, one-judged, one-took}
 use Rattle.writer.specs.declared.writing.Code.{Code}
-use Rattle.writer.specs.Writer.{formWritten, dataWritten, lengthWritten, messagePut}
+use Rattle.writer.specs.Writer.{dataWritten, lengthWritten, messagePut}
+use Rattle.writer.specs.Chosen.{formWritten}
 use Rattle.writer.specs.WriterPromises.{WroteMessage}
 use Rattle.writer.specs.WriterPromisesLaws.{one-written}
-use Rattle.quotebox.specs.Start.{lentStarted}
-use Rattle.quotebox.specs.Calls.{gapsOfLetter, listValues, runsPut, runValues, lowestRun, lentWrittenOff}
+use Rattle.quotebox.specs.StartActs.{lentStarted}
+use Rattle.quotebox.specs.Calls.{listValues, runsPut, runValues, lowestRun, lentWrittenOff}
+use Rattle.quotebox.specs.CallRules.{gapsOfLetter}
 use Rattle.quotebox.specs.CallPromises.{StartedBox, ListedRuns, WroteOffRun, ReadRecord}
 use Rattle.quotebox.specs.CallPromisesLaws.{one-started, one-listed, one-written-off, one-reading}
 use Rattle.quotebox.specs.Record.{recordNumber, recordOfKey, recordValues}
-use Rattle.history.specs.Calls.{started, judged, took, listed, wroteOff, read, wrote, start, judge, take, listGaps, writeOff, readRecord, writeMessage, withList, startRefusal, startAnswer, batchAnswer, listRefusal, listAnswer, offRefusal, removed, offAnswer, readRefusal, recordAnswer, readAnswer, writeRefusal, writeAnswer, step}
+use Rattle.history.specs.Calls.{started, judged, took, listed, wroteOff, read, wrote, start, judge, take, listGaps, writeOff, readRecord, writeMessage, withList}
+use Rattle.history.specs.Step.{startRefusal, startAnswer, batchAnswer, listRefusal, listAnswer, offRefusal, removed, offAnswer, readRefusal, recordAnswer, readAnswer, writeRefusal, writeAnswer, step}
 
 -- ---- the answers by their numbers
 

@@ -9,6 +9,7 @@ use lib.Dec.{ltb, eqb}
 use lib.ListN.{length}
 use Rattle.contracts.specs.File.{segmentsOf}
 use Rattle.contracts.specs.Lookup.{segmentOf}
+use Rattle.contracts.specs.Sound.{SoundList}
 use Rattle.sequence.specs.Runs.{_to_, names}
 use Rattle.quote.specs.declared.quote.Quote.{Quote}
 use Rattle.forms.specs.declared.rows.Level.{Level}
@@ -75,6 +76,8 @@ pub record AfterCalls (starts : List ℕ) (lent : Lent) (past : List Event) : Ty
       → (i : ℕ) → answer ≡ Judged.Refused (Gaps i) ↔ OverInBatch (lent .list) starts past batch i
   -- 16, 15 for state too short, and 18 are not given
   pub state-passes : GoodState lent
+  -- bodies too: so 13 is given exactly where the key is none of the list's (`message` GoodLaws: `contract-listed`)
+  pub list-sound : SoundList (lent .list)
 
 -- demand 3: "Two boxes that took the same messages agree": in gap lists, and in records
 pub record Agree (lent lent′ : Lent) : Type 0 where

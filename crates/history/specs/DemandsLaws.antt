@@ -50,6 +50,7 @@ module _ {starts : List ℕ} {lent : Lent} {past : List Event} (r : Reached star
         refused-for-gaps = λ batch answer p i.
             Iff·trans (judged-refused lent batch answer p (Gaps i)) (Iff·trans (Iff·symm (refused-exact lent batch (Gaps i))) (acts-over r batch i));
         state-passes = reached-holds r .state;
+        list-sound = reached-holds r .list-sound;
       }
 
 -- what is said of judging a batch is said of taking it

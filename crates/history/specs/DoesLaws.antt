@@ -26,10 +26,12 @@ use Rattle.message.specs.declared.head.Head.the-variants.{Good}
 use Rattle.message.specs.CallerLaws.{update-told}
 use Rattle.message.specs.Fields.{dataOf}
 use Rattle.message.specs.GoodLaws.{good-exact}
-use Rattle.message.specs.Message.{Message, messageKey, messageOf}
+use Rattle.message.specs.Message.{Message, messageKey}
+use Rattle.message.specs.Reads.{messageOf}
 use Rattle.message.specs.MessageLaws.{key-in}
 use Rattle.message.specs.Numbers.{verdictOf, numberIn}
-use Rattle.state.specs.Slots.{Slot, contract, SlotListed, slotAt, slotFor, formFor, recordOf}
+use Rattle.state.specs.Slots.{Slot, contract, SlotListed, slotFor}
+use Rattle.state.specs.Places.{slotAt, formFor, recordOf}
 use Rattle.state.specs.SlotsLaws.{contract-form}
 use Rattle.turns.specs.ActsLaws.{acts-as}
 use Rattle.turns.specs.Turns.{Box, numberActs, updated, messageActs}

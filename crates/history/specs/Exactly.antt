@@ -15,10 +15,12 @@ use Rattle.forms.specs.Forms.{namedRows, rowsOf}
 use Rattle.forms.specs.Rows.{messageLength}
 use Rattle.message.specs.Fields.{lengthOf, numberOf, dataOf as dataIn}
 use Rattle.message.specs.Good.{GoodMessage}
-use Rattle.message.specs.Message.{Message, messageOf, messageKey as bytesKey}
+use Rattle.message.specs.Message.{Message, messageKey as bytesKey}
+use Rattle.message.specs.Reads.{messageOf}
 use Rattle.quotebox.specs.declared.record.Reading.{Reading}
 use Rattle.state.specs.declared.answers.Recorded.{Recorded}
-use Rattle.state.specs.Slots.{Slot, formFor}
+use Rattle.state.specs.Slots.{Slot}
+use Rattle.state.specs.Places.{formFor}
 use Rattle.batch.specs.Batch.{batchLetter, countOf, batchData}
 use Rattle.batch.specs.Good.{GoodFront}
 use Rattle.quotebox.specs.Record.{blank}

@@ -9,20 +9,26 @@ use lib.ListN.{replicate}
 use Rattle.contracts.specs.Cases.{oneT}
 use Rattle.contracts.specs.File.{segmentsOf, letterAt, zeroAt, countAt, offsetAt, keyFrom, contractsBefore}
 use Rattle.contracts.specs.Lookup.{segmentOf}
-use Rattle.contracts.specs.Sound.{entrySound, headerSound, keySound, bodySound, sound}
-use Rattle.sequence.specs.Row.{gapsOf, laid, soundGapRow}
+use Rattle.contracts.specs.SoundTests.{entrySound, headerSound, keySound, bodySound, sound}
+use Rattle.sequence.specs.Row.{gapsOf}
+use Rattle.sequence.specs.RowLaid.{laid, soundGapRow}
 use Rattle.forms.specs.Forms.{namedRows, rowsOf, formsOf, formOf, sumRule}
 use Rattle.message.specs.Fields.{letterOf, secondOf, lengthOf, numberOf, sumSent, endByte, formIn, sumIn, rightSum, dataOf as dataIn}
-use Rattle.message.specs.Head.{framed, coded, trailed, summed, headOf}
-use Rattle.message.specs.Message.{messageKey, keyPlace, contentsBy, messageOf}
+use Rattle.message.specs.Rules.{headOf}
+use Rattle.message.specs.Tests.{framed, coded, trailed, summed}
+use Rattle.message.specs.Message.{messageKey, keyPlace}
+use Rattle.message.specs.Reads.{contentsBy, messageOf}
 use Rattle.turns.specs.Turns.{messageActs, messagesAct}
-use Rattle.batch.specs.Batch.{flagOf, sizeOf, countOf, batchActs}
+use Rattle.batch.specs.Batch.{flagOf, sizeOf, countOf}
+use Rattle.batch.specs.Acts.{batchActs}
 use Rattle.state.specs.Memory.{lends, Lent}
 use Rattle.state.specs.declared.answers.Listed.{Listed}
 use Rattle.quotebox.specs.CallPromises.{ListedRuns}
-use Rattle.quotebox.specs.Start.{eachStarts, startRules, rowsStarted, recordsCleared}
+use Rattle.quotebox.specs.Start.{eachStarts, startRules}
+use Rattle.quotebox.specs.StartActs.{rowsStarted, recordsCleared}
 use Rattle.history.specs.Past.{highestIn, missingIn, runsStanding}
-use Rattle.history.specs.Calls.{start, take, answerNumbers}
+use Rattle.history.specs.Calls.{start, take}
+use Rattle.history.specs.Step.{answerNumbers}
 use Rattle.history.specs.Histories.{Made, own, elsewhere, BoxNow, unstarted, allAfter, allAnswers, pastOf, Reached}
 use Rattle.history.specs.HistoriesLaws.{calls-reach}
 use Rattle.history.specs.PaperCases.{those}

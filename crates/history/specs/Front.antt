@@ -5,7 +5,8 @@ use mathlib.Core.Path.{_≡_}
 use lib.ListN.{length, take}
 use Rattle.state.specs.Memory.{Lent, lends, gapRowsWanted}
 use Rattle.state.specs.Slots.{recordsWanted}
-use Rattle.history.specs.Calls.{Call, start, judge, take as taking, listGaps, writeOff, readRecord, writeMessage, withList, step}
+use Rattle.history.specs.Calls.{Call, start, judge, take as taking, listGaps, writeOff, readRecord, writeMessage, withList}
+use Rattle.history.specs.Step.{step}
 
 -- 01 "What may be asked": the first cells of lent memory, as many as are wanted
 abbrev pub frontOf : Lent → Lent

@@ -17,7 +17,7 @@ use Rattle.contracts.specs.BelowLaws.{all-same}
 use Rattle.contracts.specs.File.{segmentsOf}
 use Rattle.contracts.specs.Lookup.{segmentOf}
 use Rattle.contracts.specs.LookupLaws.{segment-has, key-at-place}
-use Rattle.contracts.specs.Sound.{headerSound, sound}
+use Rattle.contracts.specs.SoundTests.{headerSound, sound}
 use Rattle.forms.specs.declared.rows.Level.{Level}
 use Rattle.layout.specs.Cells.{zerosBehind}
 use Rattle.forms.specs.declared.forms.Subject.{Subject}
@@ -26,40 +26,49 @@ use Rattle.forms.specs.Forms.{recordForm, subjectOf}
 use Rattle.forms.specs.Sizes.{keyRowCount}
 use Rattle.quote.specs.declared.quote.Quote.{Quote}
 use Rattle.quote.specs.Quote.{quoteOf}
-use Rattle.sequence.specs.Gaps.{Gaps, takes, full, wanted, wroteOff}
+use Rattle.sequence.specs.Gaps.{Gaps, takes, wanted}
+use Rattle.sequence.specs.Changes.{full, wroteOff}
 use Rattle.sequence.specs.GapsLaws.{wroteOff-sound}
-use Rattle.sequence.specs.Row.{gapsOf, laid, soundGapRow}
+use Rattle.sequence.specs.Row.{gapsOf}
+use Rattle.sequence.specs.RowLaid.{laid, soundGapRow}
 use Rattle.sequence.specs.RowLaws.{laid-sound, sound-row-exactly}
 use Rattle.message.specs.declared.body.What.{What}
 use Rattle.message.specs.declared.body.What.the-variants as what
 use Rattle.message.specs.Fields.{lengthOf}
-use Rattle.message.specs.Head.{isSome}
-use Rattle.message.specs.Message.{keyPlace, messageOf}
+use Rattle.message.specs.Tests.{isSome}
+use Rattle.message.specs.Message.{keyPlace}
+use Rattle.message.specs.Reads.{messageOf}
 use Rattle.message.specs.MessageLaws.{key-found}
 use Rattle.state.specs.declared.refusal.Refusal.{Refusal}
 use Rattle.state.specs.declared.refusal.Refusal.the-variants.{Code, Count, Memory, Numbering, List as ListOf, State, NoGap, Contract, Gaps as GapsOver}
 use Rattle.quotebox.specs.declared.record.Reading.{Reading}
 use Rattle.state.specs.Answers.{leftBy}
 use Rattle.state.specs.Refusals.{Rule}
-use Rattle.state.specs.Memory.{Lent, lends, gapRowCells, gapRowsWanted, gapRowOf, gapRowIn, withGapRow, withGapRowIn}
-use Rattle.state.specs.Slots.{Slot, contract, SlotListed, slotAt, slotIn, recordOf, recordRows, recordsWanted}
+use Rattle.state.specs.Memory.{Lent, lends, gapRowCells, gapRowsWanted, gapRowOf, gapRowIn}
+use Rattle.state.specs.MemoryRows.{withGapRow, withGapRowIn}
+use Rattle.state.specs.Slots.{Slot, contract, SlotListed, recordsWanted}
+use Rattle.state.specs.Places.{slotAt, slotIn, recordOf, recordRows}
 use Rattle.state.specs.SlotsLaws.{cells-by-rows, slot-inside}
 use Rattle.state.specs.State.{memoryRules, stateRules, segmentRules}
 use Rattle.state.specs.StateLaws.{is-some, letter-listed, row-sound}
 use Rattle.turns.specs.ActsLaws.{acts-as}
 use Rattle.turns.specs.Turns.{Box, Acted, acted, refused, numberActs, updated, messageActs, messagesAct, next}
-use Rattle.batch.specs.Batch.{batchActs, batchRules, batchLetter, boxOf, countOf, batchData, unlessBroken, answerOf, lentAfter}
+use Rattle.batch.specs.Batch.{batchRules, batchLetter, countOf, batchData}
+use Rattle.batch.specs.Acts.{batchActs, boxOf, unlessBroken, answerOf, lentAfter}
 use Rattle.stores.specs.Stored.{stored}
 use Rattle.batch.specs.BatchLaws.{good-state, messages-accepted}
 use Rattle.batch.specs.LeftLaws.{is-listed, messages-leave}
 use Rattle.turns.specs.UpdateLaws.{level-of, record-wanted}
-use Rattle.quotebox.specs.Calls.{gapsOfLetter, listRules, runsPut, writeOffRules, lowestRun, lentWrittenOff}
+use Rattle.quotebox.specs.Calls.{runsPut, lowestRun, lentWrittenOff}
+use Rattle.quotebox.specs.CallRules.{gapsOfLetter, listRules, writeOffRules, recordRules}
 use Rattle.quotebox.specs.CallsLaws.{off-left}
-use Rattle.quotebox.specs.Record.{recordRules, recordOfKey, recordNumber, cellsAt, blank, quoteAt, quoteBeside}
+use Rattle.quotebox.specs.Record.{recordOfKey, recordNumber, cellsAt, blank, quoteAt, quoteBeside}
 use Rattle.quotebox.specs.RecordLaws.{record-found}
-use Rattle.quotebox.specs.Start.{startRules, startBroken, startedRows, rowsStarted, recordsCleared, lentStarted, eachStarts}
+use Rattle.quotebox.specs.Start.{startRules, eachStarts}
+use Rattle.quotebox.specs.StartActs.{startBroken, startedRows, rowsStarted, recordsCleared, lentStarted}
 use Rattle.quotebox.specs.StartLaws.{started-lengths}
-use Rattle.history.specs.Calls.{started, judged, took, listed, wroteOff as offTold, read, Call, start, judge, take as taking, listGaps, writeOff, readRecord, writeMessage, withList, startAnswer, batchAnswer, listRefusal, listAnswer, offRefusal, removed, readRefusal, recordAnswer, readAnswer, step}
+use Rattle.history.specs.Calls.{started, judged, took, listed, wroteOff as offTold, read, Call, start, judge, take as taking, listGaps, writeOff, readRecord, writeMessage, withList}
+use Rattle.history.specs.Step.{startAnswer, batchAnswer, listRefusal, listAnswer, offRefusal, removed, readRefusal, recordAnswer, readAnswer, step}
 use Rattle.history.specs.TurnLaws.{tookBox, oldBox}
 use Rattle.history.specs.Front.{frontOf, Enough, handed, SameFront, SameOutcome}
 

@@ -13,7 +13,8 @@ use Rattle.laws.specs.Rules.{firstBroken, Hold, Broken}
 use Rattle.laws.specs.RulesLaws.{unlike, none-hold, hold-none, broken-some}
 use Rattle.laws.specs.Choice.{clash, either}
 use Rattle.contracts.specs.Lookup.{segmentOf}
-use Rattle.sequence.specs.Gaps.{Gaps, most, takes, full, runsAfter}
+use Rattle.sequence.specs.Gaps.{Gaps, most, takes}
+use Rattle.sequence.specs.Changes.{full, runsAfter}
 use Rattle.sequence.specs.Row.{gapsOf}
 use Rattle.message.specs.declared.body.What.{What}
 use Rattle.message.specs.declared.body.What.the-variants as what
@@ -25,13 +26,15 @@ use Rattle.message.specs.Good.{GoodMessage}
 use Rattle.message.specs.GoodLaws.{rules-exact, good-exact}
 use Rattle.message.specs.Order.{messageRules}
 use Rattle.message.specs.OrderLaws.{fault-exact}
-use Rattle.message.specs.Message.{Message, messageOf}
+use Rattle.message.specs.Message.{Message}
+use Rattle.message.specs.Reads.{messageOf}
 use Rattle.message.specs.Numbers.{verdictOf}
 use Rattle.state.specs.declared.refusal.Refusal.{Refusal}
 use Rattle.state.specs.declared.refusal.Refusal.the-variants.{Size, Packed, Flag, Count, Gaps as GapsOver}
 use Rattle.turns.specs.ActsLaws.{acts-as}
 use Rattle.turns.specs.Turns.{Box, Acted, acted, refused, numberActs, messageActs, messagesAct}
-use Rattle.batch.specs.Batch.{batchActs, batchRules, batchLetter, boxOf, flagOf, sizeOf, countOf, batchData}
+use Rattle.batch.specs.Batch.{batchRules, batchLetter, flagOf, sizeOf, countOf, batchData}
+use Rattle.batch.specs.Acts.{batchActs, boxOf}
 use Rattle.state.specs.Memory.{Lent}
 use Rattle.state.specs.State.{stateRules}
 use Rattle.batch.specs.BatchLaws.{front-refuses, messages-decide}

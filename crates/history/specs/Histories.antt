@@ -9,7 +9,8 @@ use Rattle.state.specs.Memory.{Lent}
 use Rattle.state.specs.declared.answers.Judged.{Judged}
 use Rattle.state.specs.declared.answers.Judged.the-variants as judged
 use Rattle.history.specs.Past.{Event, afterTake, afterWriteOff}
-use Rattle.history.specs.Calls.{Call, Answer, start, judge, take, listGaps, writeOff, readRecord, writeMessage, startRefusal, batchAnswer, offAnswer, step}
+use Rattle.history.specs.Calls.{Call, Answer, start, judge, take, listGaps, writeOff, readRecord, writeMessage}
+use Rattle.history.specs.Step.{startRefusal, batchAnswer, offAnswer, step}
 
 -- 01 "What may be asked": a call handed the box's own memory (a start with any list), or one lent other memory
 pub data Made : Type 0 where

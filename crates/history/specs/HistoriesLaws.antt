@@ -15,9 +15,10 @@ use Rattle.batch.specs.TookLaws.{one-took}
 use Rattle.quotebox.specs.CallPromises.{StartedBox, WroteOffRun}
 use Rattle.quotebox.specs.CallPromisesLaws.{start-left, one-written-off}
 use Rattle.quotebox.specs.CallsLaws.{start-done}
-use Rattle.quotebox.specs.Start.{startBroken, lentStarted}
+use Rattle.quotebox.specs.StartActs.{startBroken, lentStarted}
 use Rattle.history.specs.Past.{Event, afterTake, afterWriteOff}
-use Rattle.history.specs.Calls.{Call, start, judge, take, listGaps, writeOff, readRecord, writeMessage, withList, startRefusal, batchAnswer, offAnswer, step}
+use Rattle.history.specs.Calls.{Call, start, judge, take, listGaps, writeOff, readRecord, writeMessage, withList}
+use Rattle.history.specs.Step.{startRefusal, batchAnswer, offAnswer, step}
 use Rattle.history.specs.CallsLaws.{take-promised, off-promised}
 use Rattle.history.specs.Histories.{Made, own, elsewhere, Since, BoxNow, unstarted, sinceAfter, allAfter, Reached, afterCall}
 

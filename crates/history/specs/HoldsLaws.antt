@@ -27,15 +27,18 @@ use Rattle.state.specs.declared.answers.Judged.the-variants as judged
 use Rattle.state.specs.declared.answers.WrittenOff.{WrittenOff}
 use Rattle.state.specs.declared.answers.WrittenOff.the-variants as answer
 use Rattle.turns.specs.Turns.{Box, acted}
-use Rattle.batch.specs.Batch.{batchActs, batchLetter, boxOf, countOf, batchData, lentAfter}
-use Rattle.state.specs.Memory.{Lent, lends, withGapRowIn, gapRowIn, gapRowCells, gapRowOf, withGapRow}
+use Rattle.batch.specs.Batch.{batchLetter, countOf, batchData}
+use Rattle.batch.specs.Acts.{batchActs, boxOf, lentAfter}
+use Rattle.state.specs.Memory.{Lent, lends, gapRowIn, gapRowCells, gapRowOf}
+use Rattle.state.specs.MemoryRows.{withGapRowIn, withGapRow}
 use Rattle.batch.specs.BatchLaws.{accepted-box, messages-accepted}
 use Rattle.batch.specs.LeftLaws.{is-listed}
 use Rattle.state.specs.AnswersLaws.{accepted-by}
 use Rattle.quotebox.specs.CallPromises.{StartedBox, WroteOffRun}
 use Rattle.quotebox.specs.CallPromisesLaws.{off-refusal, start-good, start-left, gaps-started, start-leaves, no-records, answers-lowest, gaps-written-off, others-kept, off-all, off-leaves}
 use Rattle.quotebox.specs.CallsLaws.{gaps-are}
-use Rattle.quotebox.specs.Calls.{gapsOfLetter, writeOffRules, runValues, lowestRun}
+use Rattle.quotebox.specs.Calls.{runValues, lowestRun}
+use Rattle.quotebox.specs.CallRules.{gapsOfLetter, writeOffRules}
 use Rattle.state.specs.GoodState.{GoodState}
 use Rattle.batch.specs.Promises.{TookBatch}
 use Rattle.state.specs.RowsLaws.{row-put, row-kept}

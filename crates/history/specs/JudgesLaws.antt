@@ -18,7 +18,8 @@ use Rattle.message.specs.declared.body.What.the-variants as what
 use Rattle.message.specs.declared.head.Fault.{Fault}
 use Rattle.message.specs.Fields.{lengthOf}
 use Rattle.message.specs.Good.{GoodMessage}
-use Rattle.message.specs.Message.{Message, messageOf}
+use Rattle.message.specs.Message.{Message}
+use Rattle.message.specs.Reads.{messageOf}
 use Rattle.message.specs.Numbers.{verdictOf}
 use Rattle.message.specs.Order.{messageRules}
 use Rattle.message.specs.OrderLaws.{fault-exact}
@@ -33,7 +34,8 @@ use Rattle.state.specs.StateLaws.{state-exact}
 use Rattle.turns.specs.ActsLaws.{acts-as}
 use Rattle.turns.specs.Turns.{Box, Acted, acted, refused, actedNumbers, messagesAct}
 use Rattle.turns.specs.MessagesLaws.{messages-next, messages-refused}
-use Rattle.batch.specs.Batch.{batchActs, batchRules, batchLetter, boxOf, countOf, batchData}
+use Rattle.batch.specs.Batch.{batchRules, batchLetter, countOf, batchData}
+use Rattle.batch.specs.Acts.{batchActs, boxOf}
 use Rattle.batch.specs.BatchLaws.{front-refuses, messages-decide, good-front, messages-accepted, accepted-box, refused-is}
 use Rattle.batch.specs.Good.{GoodFront}
 use Rattle.batch.specs.GoodLaws.{front-exact}
@@ -45,7 +47,7 @@ use Rattle.history.specs.Machine.{Machine, TooMany, isNumbered, isHeartb
 use Rattle.history.specs.Past.{Event, batchMessages, runsStanding, isTaken, isOld, howMany}
 use Rattle.history.specs.Turn.{BoxFits}
 use Rattle.history.specs.Exactly.{cameNext, CountsCame}
-use Rattle.history.specs.Calls.{batchAnswer}
+use Rattle.history.specs.Step.{batchAnswer}
 use Rattle.history.specs.CallsLaws.{judge-exactly}
 use Rattle.history.specs.Histories.{Reached}
 use Rattle.history.specs.HoldsLaws.{reached-holds, box-before, batch-turned}
@@ -67,7 +69,7 @@ good-unrefused (suc more) letter k bytes m r good (inr (g, inr w)) =
     good-unrefused more letter (suc k) (drop (lengthOf bytes) bytes) (comesTo letter bytes m) r (good .2) (w .1)
 
 -- of rules in order one is broken first
-one-broken : {A : Type 0} (rules : List (Rule A)) (a b : A) → Broken rules a → Broken rules b → a ≡ b
+pub one-broken : {A : Type 0} (rules : List (Rule A)) (a b : A) → Broken rules a → Broken rules b → a ≡ b
 one-broken rules a b p q = let both : some a ≡ some b = sym (broken-some rules a p) ∙ broken-some rules b q in cc
 
 -- messages are refused with one refusal

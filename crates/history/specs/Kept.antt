@@ -8,7 +8,8 @@ use lib.ListN.{getD, take, drop}
 use Rattle.quote.specs.declared.quote.Quote.{Quote}
 use Rattle.quote.specs.Quote.{cellsOf}
 use Rattle.message.specs.Message.{Message}
-use Rattle.state.specs.Slots.{Slot, formFor, SlotListed, slotAt, slotCells, recordOf}
+use Rattle.state.specs.Slots.{Slot, SlotListed}
+use Rattle.state.specs.Places.{formFor, slotAt, slotCells, recordOf}
 use Rattle.history.specs.Past.{Event, takenFor}
 use Rattle.history.specs.Updates.{levelIn, isOf}
 use Rattle.history.specs.Machine.{higher, sequenceNumber}

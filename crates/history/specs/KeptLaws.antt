@@ -25,7 +25,8 @@ use Rattle.message.specs.declared.body.What.{What}
 use Rattle.message.specs.declared.body.What.the-variants as what
 use Rattle.message.specs.Message.{Message}
 use Rattle.stores.specs.Stored.{stored}
-use Rattle.state.specs.Slots.{Slot, contract, formFor, slotFor, SlotListed, slotAt, slotCells, recordOf, recordRows, recordsWanted}
+use Rattle.state.specs.Slots.{Slot, contract, slotFor, SlotListed, recordsWanted}
+use Rattle.state.specs.Places.{formFor, slotAt, slotCells, recordOf, recordRows}
 use Rattle.state.specs.SlotsLaws.{cells-by-rows, slot-inside, slot-some, slots-apart}
 use Rattle.history.specs.Updates.{sameSlot, slotOf, isSlot, segmentIn, levelIn}
 use Rattle.history.specs.Kept.{RecordHolds, HoldsUpdate}

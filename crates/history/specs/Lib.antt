@@ -35,3 +35,5 @@ pub mod Refines
 pub mod MachineLaws
 pub mod JudgesLaws
 pub mod RefinesLaws
+pub mod Step
+pub mod OneAnswerLaws

@@ -18,14 +18,16 @@ use Rattle.contracts.specs.LookupLaws.{segment-has}
 use Rattle.sequence.specs.Runs.{Run, run, names, missing}
 use Rattle.sequence.specs.RunsLaws.{named}
 use Rattle.sequence.specs.Gaps.{Gaps, wanted}
-use Rattle.sequence.specs.Row.{pairs, flat}
+use Rattle.sequence.specs.Row.{pairs}
+use Rattle.sequence.specs.RowLaid.{flat}
 use Rattle.sequence.specs.Sound.{SoundGaps}
 use Rattle.sequence.specs.SoundLaws.{sound-apart}
 use Rattle.state.specs.declared.answers.Listed.{Listed}
 use Rattle.quotebox.specs.CallPromises.{ListedRuns}
 use Rattle.quotebox.specs.CallPromisesLaws.{answers-runs, runs-in-cells}
 use Rattle.quotebox.specs.CallsLaws.{gaps-are}
-use Rattle.quotebox.specs.Calls.{gapsOfLetter, listRules, listValues}
+use Rattle.quotebox.specs.Calls.{listValues}
+use Rattle.quotebox.specs.CallRules.{gapsOfLetter, listRules}
 use Rattle.state.specs.Answers.{answered, listedNumbers}
 use Rattle.state.specs.AnswersLaws.{listed-told}
 use Rattle.quotebox.specs.Start.{startOf}

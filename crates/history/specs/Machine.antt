@@ -22,7 +22,8 @@ use Rattle.message.specs.declared.body.What.the-variants.{Heartbeat, PassedOver
 use Rattle.message.specs.declared.head.Fault.{Fault}
 use Rattle.message.specs.Fields.{lengthOf}
 use Rattle.message.specs.Good.{GoodMessage, LetterListed, KeyListed}
-use Rattle.message.specs.Message.{Message, messageOf}
+use Rattle.message.specs.Message.{Message}
+use Rattle.message.specs.Reads.{messageOf}
 use Rattle.message.specs.Numbers.{numberIn}
 use Rattle.message.specs.Order.{messageRules}
 use Rattle.state.specs.declared.refusal.Refusal.{Refusal}
@@ -266,7 +267,7 @@ pub data Lists (m : Machine) (letter : ℕ) (cells : List ℕ) : Listed → List
   no-letter : (LetterListed (m .list) letter → ⊥) → Lists m letter cells (Listed.Refused (refusal.Code 0)) cells
   too-few : (i : ℕ) → segmentOf (m .list) letter ≡ some i → length cells < 2 * standing m i
       → Lists m letter cells (Listed.Refused (refusal.Memory (2 * standing m i))) cells
-  all-runs : (i : ℕ) → segmentOf (m .list) letter ≡ some i → (top runs : ℕ) (cells′ : List ℕ)
+  all-runs : (i : ℕ) → segmentOf (m .list) letter ≡ some i → (top runs : ℕ) (cells′ : List ℕ) → 2 * runs ≤ length cells
       → NamesExactly (m .start i) (highest m i) (isMissing m i) top runs cells′ → drop (2 * runs) cells′ ≡ drop (2 * runs) cells
       → Lists m letter cells (Listed.Runs top runs) cells′
 

@@ -8,7 +8,8 @@ use lib.Dec.{eqb}
 use lib.ListN.{drop}
 use Rattle.contracts.specs.Lookup.{segmentOf}
 use Rattle.message.specs.Fields.{lengthOf}
-use Rattle.message.specs.Message.{Message, messageOf}
+use Rattle.message.specs.Message.{Message}
+use Rattle.message.specs.Reads.{messageOf}
 use Rattle.state.specs.Slots.{Slot}
 use Rattle.quotebox.specs.Start.{startOf}
 use Rattle.history.specs.Machine.{Machine, comesNew, higher, arrives, inSegment, comesTo, standingFor, standing, allCome, counted}

@@ -30,7 +30,8 @@ use Rattle.state.specs.Refusals.{Rule}
 use Rattle.state.specs.State.{segmentRules}
 use Rattle.quotebox.specs.CallPromises.{WroteOffRun}
 use Rattle.quotebox.specs.CallPromisesLaws.{off-refusal}
-use Rattle.quotebox.specs.Calls.{gapsOfLetter, writeOffRules, runValues, lowestRun}
+use Rattle.quotebox.specs.Calls.{runValues, lowestRun}
+use Rattle.quotebox.specs.CallRules.{gapsOfLetter, writeOffRules}
 use Rattle.quotebox.specs.Start.{startOf}
 use Rattle.history.specs.Past.{Event, afterWriteOff, offIn, wroteOffIn, takenOf, missingIn}
 use Rattle.history.specs.Segment.{Fits}

@@ -21,23 +21,29 @@ use Rattle.contracts.specs.Cases.{keyOfBytes, twoOf, threeKeys}
 use Rattle.contracts.specs.File.{segmentsOf, letterAt, zeroAt, countAt, offsetAt, keyFrom, contractsBefore}
 use Rattle.contracts.specs.Halving.{halvedIn}
 use Rattle.contracts.specs.Lookup.{segmentOf, lookup}
-use Rattle.contracts.specs.Sound.{entrySound, headerSound, keySound, bodySound, sound}
-use Rattle.sequence.specs.Row.{gapsOf, laid, soundGapRow}
+use Rattle.contracts.specs.SoundTests.{entrySound, headerSound, keySound, bodySound, sound}
+use Rattle.sequence.specs.Row.{gapsOf}
+use Rattle.sequence.specs.RowLaid.{laid, soundGapRow}
 use Rattle.forms.specs.Forms.{namedRows, rowsOf, formsOf, formOf, sumRule, writtenForm}
 use Rattle.message.specs.Fields.{letterOf, secondOf, lengthOf, numberOf, sumSent, endByte, formIn, sumIn, rightSum, dataOf as dataIn}
-use Rattle.message.specs.Head.{framed, coded, trailed, summed, headOf}
-use Rattle.message.specs.Message.{messageKey, keyPlace, contentsBy, messageOf}
+use Rattle.message.specs.Rules.{headOf}
+use Rattle.message.specs.Tests.{framed, coded, trailed, summed}
+use Rattle.message.specs.Message.{messageKey, keyPlace}
+use Rattle.message.specs.Reads.{contentsBy, messageOf}
 use Rattle.turns.specs.Turns.{messageActs, messagesAct}
-use Rattle.batch.specs.Batch.{flagOf, sizeOf, countOf, batchActs}
+use Rattle.batch.specs.Batch.{flagOf, sizeOf, countOf}
+use Rattle.batch.specs.Acts.{batchActs}
 use Rattle.state.specs.Memory.{Lent, lends}
-use Rattle.quotebox.specs.Calls.{gapsOfLetter, listRules, runsPut, writeOffRules, lentWrittenOff}
-use Rattle.quotebox.specs.Record.{recordRules}
-use Rattle.quotebox.specs.Start.{eachStarts, startRules, rowsStarted, recordsCleared}
+use Rattle.quotebox.specs.Calls.{runsPut, lentWrittenOff}
+use Rattle.quotebox.specs.CallRules.{gapsOfLetter, listRules, writeOffRules, recordRules}
+use Rattle.quotebox.specs.Start.{eachStarts, startRules}
+use Rattle.quotebox.specs.StartActs.{rowsStarted, recordsCleared}
 use Rattle.state.specs.State.{segmentRules}
 use Rattle.writer.specs.Writer.{dataWritten, lengthWritten, writeRules, messageBytes}
 use Rattle.history.specs.Past.{Event, isTaken, highestIn, missingIn, runsStanding}
 use Rattle.history.specs.Exactly.{cameNext}
-use Rattle.history.specs.Calls.{Call, start, take, writeOff, listGaps, readRecord, step as stepOf, answerNumbers}
+use Rattle.history.specs.Calls.{Call, start, take, writeOff, listGaps, readRecord}
+use Rattle.history.specs.Step.{step as stepOf, answerNumbers}
 use Rattle.history.specs.Histories.{own, Since, BoxNow, unstarted, allAfter, pastOf, Reached, afterCall}
 use Rattle.history.specs.HistoriesLaws.{calls-reach, all-since}
 use Rattle.written.specs.ReadBack.{plainBatch}

@@ -9,7 +9,8 @@ use lib.ListN.{drop}
 use Rattle.contracts.specs.Lookup.{segmentOf}
 use Rattle.sequence.specs.Runs.{Run, _to_, names}
 use Rattle.message.specs.Fields.{lengthOf}
-use Rattle.message.specs.Message.{Message, messageOf}
+use Rattle.message.specs.Message.{Message}
+use Rattle.message.specs.Reads.{messageOf}
 use Rattle.state.specs.declared.answers.Judged.{Judged}
 use Rattle.state.specs.declared.answers.Judged.the-variants as judged
 use Rattle.state.specs.declared.answers.WrittenOff.{WrittenOff}

@@ -21,13 +21,15 @@ use Rattle.quote.specs.Quote.{quoteOf}
 use Rattle.forms.specs.declared.forms.Form.{Form}
 use Rattle.forms.specs.Forms.{recordForm}
 use Rattle.forms.specs.Sizes.{keyRowCount}
-use Rattle.message.specs.Message.{Message, messageOf}
+use Rattle.message.specs.Message.{Message}
+use Rattle.message.specs.Reads.{messageOf}
 use Rattle.state.specs.declared.refusal.Refusal.{Refusal}
 use Rattle.quotebox.specs.declared.record.Reading.{Reading}
 use Rattle.state.specs.declared.answers.Recorded.{Recorded}
 use Rattle.state.specs.Answers.{answered}
 use Rattle.state.specs.Memory.{Lent}
-use Rattle.state.specs.Slots.{Slot, contract, formFor, SlotListed, slotAt, slotCells, recordOf, recordRows}
+use Rattle.state.specs.Slots.{Slot, contract, SlotListed}
+use Rattle.state.specs.Places.{formFor, slotAt, slotCells, recordOf, recordRows}
 use Rattle.state.specs.SlotsLaws.{slot-inside}
 use Rattle.state.specs.AnswersLaws.{recorded-told}
 use Rattle.quotebox.specs.CallPromises.{ReadRecord}

@@ -9,7 +9,8 @@ use Rattle.quotebox.specs.Start.{startOf}
 use Rattle.history.specs.Machine.{Machine, Answers}
 use Rattle.history.specs.Past.{Event, wroteOffIn, takenOf, takenFor}
 use Rattle.history.specs.Kept.{newest}
-use Rattle.history.specs.Calls.{Call, step}
+use Rattle.history.specs.Calls.{Call}
+use Rattle.history.specs.Step.{step}
 use Rattle.history.specs.Histories.{Since, sinceAfter}
 
 -- demand 3: the machine of a past: the messages taken, the numbers written off, and the newest update of each slot

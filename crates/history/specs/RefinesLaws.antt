@@ -32,20 +32,23 @@ use Rattle.state.specs.Memory.{Lent}
 use Rattle.state.specs.Slots.{contract}
 use Rattle.state.specs.State.{segmentRules}
 use Rattle.state.specs.StateLaws.{good-unrefused, letter-broken}
-use Rattle.batch.specs.Batch.{batchActs, batchLetter, countOf, batchData}
+use Rattle.batch.specs.Batch.{batchLetter, countOf, batchData}
+use Rattle.batch.specs.Acts.{batchActs}
 use Rattle.batch.specs.Promises.{JudgedBatch}
 use Rattle.quotebox.specs.declared.record.Reading.{Reading}
 use Rattle.quotebox.specs.CallPromises.{StartedBox, ListedRuns, WroteOffRun, ReadRecord}
 use Rattle.quotebox.specs.CallPromisesLaws.{start-left, list-refusal, off-refusal, runs-in-cells}
-use Rattle.quotebox.specs.Calls.{gapsOfLetter, listRules, listValues, writeOffRules, lowestRun, runValues}
-use Rattle.quotebox.specs.Record.{recordRules, recordNumber, recordOfKey, recordValues, quoteAt, quoteBeside}
+use Rattle.quotebox.specs.Calls.{listValues, lowestRun, runValues}
+use Rattle.quotebox.specs.CallRules.{gapsOfLetter, listRules, writeOffRules, recordRules}
+use Rattle.quotebox.specs.Record.{recordNumber, recordOfKey, recordValues, quoteAt, quoteBeside}
 use Rattle.quotebox.specs.RecordLaws.{segment-broken, key-broken}
 use Rattle.quotebox.specs.Start.{startOf, startRules}
 use Rattle.quotebox.specs.StartLaws.{start-exact}
 use Rattle.history.specs.Machine as machine
 use Rattle.history.specs.Machine.{Machine, noRecord, Judges, tookBatch, Lists, WritesOff, Reads}
 use Rattle.history.specs.Past.{Event, batchMessages, cameIn, afterTake, afterWriteOff, offIn, runsStanding, highestIn}
-use Rattle.history.specs.Calls.{Call, start, judge, take, listGaps, writeOff, readRecord, writeMessage, startRefusal, batchAnswer, offRefusal, offAnswer, readAnswer, step}
+use Rattle.history.specs.Calls.{Call, start, judge, take, listGaps, writeOff, readRecord, writeMessage}
+use Rattle.history.specs.Step.{startRefusal, batchAnswer, offRefusal, offAnswer, readAnswer, step}
 use Rattle.history.specs.CallsLaws.{took-list, off-list, judge-promised, list-promised, off-promised, read-promised, write-promised}
 use Rattle.history.specs.Histories.{Reached}
 use Rattle.history.specs.HoldsLaws.{reached-holds}
@@ -94,7 +97,7 @@ module _ {starts : List ℕ} {lent : Lent} {past : List Event} (r : Reached star
         let e = runs-answered r letter i s cells answer cells′ p h in
         let runs = subst (λ (a : Listed). ListedRuns lent letter cells a cells′) e p in
         subst (λ (a : Listed). Lists now letter cells a cells′) (sym e)
-        (machine.Lists.all-runs i s (highestIn i (startOf starts i) past) (runsStanding i (startOf starts i) past) cells′ (gaps-exactly r letter i s cells _ _ cells′ runs) (runs-in-cells _ _ runs .1)))
+        (machine.Lists.all-runs i s (highestIn i (startOf starts i) past) (runsStanding i (startOf starts i) past) cells′ h (gaps-exactly r letter i s cells _ _ cells′ runs) (runs-in-cells _ _ runs .1)))
         (λ (h : length cells < 2 * runsStanding i (startOf starts i) past).
         list-refused (Memory (2 * runsStanding i (startOf starts i) past)) (runs-refused r letter i s cells answer cells′ p h) (machine.Lists.too-few i s h))
         (order (2 * runsStanding i (startOf starts i) past) (length cells))

@@ -15,7 +15,8 @@ use Rattle.sequence.specs.Runs.{_to_, names, missing, runsIn}
 use Rattle.sequence.specs.RunsCountLaws.{runs-counted}
 use Rattle.sequence.specs.SoundLaws.{sound-apart}
 use Rattle.sequence.specs.RunsLaws.{named}
-use Rattle.sequence.specs.Gaps.{Gaps, begun, takes, full, after, wroteOff}
+use Rattle.sequence.specs.Gaps.{Gaps, takes}
+use Rattle.sequence.specs.Changes.{begun, full, after, wroteOff}
 use Rattle.sequence.specs.Answers.{writeOffAnswer, writtenOff as removed}
 use Rattle.sequence.specs.GapsLaws.{begun-sound, after-sound, after-missing, after-counted, wroteOff-sound, wroteOff-lowest, wroteOff-missing, missing-inside}
 use Rattle.message.specs.Message.{Message}

@@ -2,6 +2,7 @@
 use Prim.Native.Nat.{ℕ, zero, suc}
 use mathlib.Core.Path.{_≡_}
 use mathlib.Core.List.{List, [], _∷_, List·Memᴰ}
+use mathlib.Core.Option.{some}
 use lib.ListN.{drop}
 use Rattle.forms.specs.declared.rows.Level.{Level}
 use Rattle.forms.specs.Forms.{namedRows, rowsOf, recordForm}
@@ -9,13 +10,24 @@ use Rattle.forms.specs.Rows.{messageLength}
 use Rattle.quote.specs.declared.quote.Quote.{Quote}
 use Rattle.quote.specs.Shows.{fieldNamed, ShowsFields}
 use Rattle.message.specs.Fields.{lengthOf, numberOf, dataOf}
-use Rattle.message.specs.Message.{messageKey}
+use Rattle.contracts.specs.Lookup.{segmentOf}
+use Rattle.message.specs.Message.{Message, messageKey}
+use Rattle.message.specs.Reads.{messageOf}
 use Rattle.batch.specs.Batch.{batchLetter, countOf, batchData}
 
 -- 01 "The batch": "Each message is a part of the batch that begins where the one before it ends": the bytes from each one's start
 abbrev pub messageStarts : ℕ → List ℕ → List (List ℕ)
 messageStarts zero bytes = []
 messageStarts (suc more) bytes = bytes ∷ messageStarts more (drop (lengthOf bytes) bytes)
+
+-- 01 "The batch": a message that came in segment i is one of an accepted batch, by its bytes
+pub record Source (list : List ℕ) (batches : List (List ℕ)) (i : ℕ) (m : Message) : Type 0 where
+  pub batch : List ℕ
+  pub accepted : List·Memᴰ batch batches
+  pub listed : segmentOf list (batchLetter batch) ≡ some i
+  pub bytes : List ℕ
+  pub in-batch : List·Memᴰ bytes (messageStarts (countOf batch) (batchData batch))
+  pub is : m ≡ messageOf list (batchLetter batch) bytes
 
 -- demands 2 and 3: a record of a letter's key and level shows what a message of an accepted batch says: its number, and each number
 -- the exact decimal in the field of its name

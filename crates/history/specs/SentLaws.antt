@@ -19,7 +19,8 @@ use Rattle.forms.specs.Forms.{recordForm}
 use Rattle.quote.specs.Quote.{quoteOf}
 use Rattle.message.specs.declared.body.What.{What}
 use Rattle.message.specs.Fields.{lengthOf}
-use Rattle.message.specs.Message.{Message, messageOf, keyPlace}
+use Rattle.message.specs.Message.{Message, keyPlace}
+use Rattle.message.specs.Reads.{messageOf}
 use Rattle.message.specs.MessageLaws.{key-found}
 use Rattle.state.specs.declared.refusal.Refusal.{Refusal}
 use Rattle.state.specs.declared.answers.Judged.{Judged}
@@ -33,33 +34,27 @@ use Rattle.state.specs.Memory.{Lent}
 use Rattle.state.specs.Slots.{Slot, contract}
 use Rattle.state.specs.State.{segmentRules}
 use Rattle.state.specs.StateLaws.{is-some}
-use Rattle.batch.specs.Batch.{batchLetter, countOf, batchData, batchActs}
+use Rattle.batch.specs.Batch.{batchLetter, countOf, batchData}
+use Rattle.batch.specs.Acts.{batchActs}
 use Rattle.quotebox.specs.declared.record.Reading.{Reading}
 use Rattle.quotebox.specs.CallPromises.{ReadRecord}
-use Rattle.quotebox.specs.Record.{recordRules}
-use Rattle.quotebox.specs.Start.{startOf, lentStarted}
+use Rattle.quotebox.specs.CallRules.{recordRules}
+use Rattle.quotebox.specs.Start.{startOf}
+use Rattle.quotebox.specs.StartActs.{lentStarted}
 use Rattle.sequence.specs.Runs.{Run}
 use Rattle.history.specs.Past.{Event, came, off, messagesOf, batchMessages, allCame, cameIn, afterTake, offIn, afterWriteOff, wroteOffIn, takenOf}
-use Rattle.history.specs.Calls.{start, judge, take, listGaps, writeOff, readRecord, writeMessage, withList, startRefusal, batchAnswer, offRefusal, offAnswer}
+use Rattle.history.specs.Calls.{start, judge, take, listGaps, writeOff, readRecord, writeMessage, withList}
+use Rattle.history.specs.Step.{startRefusal, batchAnswer, offRefusal, offAnswer}
 use Rattle.history.specs.CallsLaws.{took-list, off-list}
 use Rattle.history.specs.Histories.{Made, own, elsewhere, Since, pastIn, BoxNow, unstarted, comes, afterCall, allAfter, accepting, batchesAfter, allBatches, Reached, batchesOf}
 use Rattle.history.specs.Updates.{slotOf, segmentIn, isSlot, isOf}
 use Rattle.history.specs.Exactly.{ReadsNewest, no-record, a-record, UpdateSays}
 use Rattle.history.specs.KeptLaws.{same-slot}
 use Rattle.history.specs.RecordLaws.{reads-key, update-says}
-use Rattle.history.specs.Sent.{messageStarts, ShownAsSent}
+use Rattle.history.specs.Sent.{messageStarts, Source, ShownAsSent}
 use Rattle.history.specs.Machine.{comesNew, taking, sequenceNumber}
 
 -- ---- where a message that came is from
-
--- a message of an accepted batch, by its bytes
-pub record Source (list : List ℕ) (batches : List (List ℕ)) (i : ℕ) (m : Message) : Type 0 where
-  pub batch : List ℕ
-  pub accepted : List·Memᴰ batch batches
-  pub listed : segmentOf list (batchLetter batch) ≡ some i
-  pub bytes : List ℕ
-  pub in-batch : List·Memᴰ bytes (messageStarts (countOf batch) (batchData batch))
-  pub is : m ≡ messageOf list (batchLetter batch) bytes
 
 -- every message of the past is one
 abbrev Sourced : List ℕ → List (List ℕ) → List Event → Type 0
@@ -206,6 +201,10 @@ module _ {starts : List ℕ} {lent : Lent} {past : List Event} (r : Reached star
   reached-told =
       subst (λ (now : BoxNow). Told now (batchesOf r)) (r .reaches) (all-told (unstarted (r .memory)) [] (r .calls) (none-came (r .memory .list) []))
 
+  -- a message that was taken is one of an accepted batch
+  pub taken-from : (i : ℕ) (m : Message) → List·Memᴰ m (takenOf i (startOf starts i) past) → Source list (batchesOf r) i m
+  taken-from i m taken = reached-told i m (taken-came i (startOf starts i) past m taken)
+
   module _ (letter i : ℕ) (s : segmentOf list letter ≡ some i) (place : ℕ) (level : Level) where
     abbrev slot : Slot
     slot = contract i place level
@@ -213,7 +212,7 @@ module _ {starts : List ℕ} {lent : Lent} {past : List Event} (r : Reached star
     sent : (key : List ℕ) → listedKey list i place ≡ key → (m : Message) → List·Memᴰ m (takenOf i (startOf starts i) past) → isOf slot (m .what) ≡ true
         → ShownAsSent (batchesOf r) letter key level (sequenceNumber m) (quoteOf (recordForm level) (m .cells))
     sent key key-is m taken of-slot =
-        let source = reached-told i m (taken-came i (startOf starts i) past m taken) in
+        let source = taken-from i m taken in
         let from : ℕ = batchLetter (source .batch) in
         let bytes : List ℕ = source .bytes in
         let is : m ≡ messageOf list from bytes = source .is in

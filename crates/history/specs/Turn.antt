@@ -4,7 +4,8 @@ use mathlib.Core.Path.{_≡_}
 use mathlib.Core.Bool.{true}
 use mathlib.Core.List.{List}
 use lib.ListN.{length}
-use Rattle.sequence.specs.Row.{gapsOf, soundGapRow}
+use Rattle.sequence.specs.Row.{gapsOf}
+use Rattle.sequence.specs.RowLaid.{soundGapRow}
 use Rattle.message.specs.Message.{Message}
 use Rattle.turns.specs.Turns.{Box}
 use Rattle.state.specs.Slots.{recordsWanted}

@@ -3,6 +3,7 @@ use Prim.Native.Nat.{ℕ}
 use mathlib.Core.List.{List, _∷_}
 use lib.Seq.{sets}
 use Rattle.forms.specs.declared.rows.Level.{Level}
+use Rattle.forms.specs.declared.rows.Level.the-variants.{One, Two}
 use Rattle.quote.specs.declared.quote.Quote.{Quote}
 use Rattle.state.specs.declared.answers.Recorded.{Recorded}
 use Rattle.state.specs.declared.answers.Recorded.the-variants.{Record, NoRecord, Refused}
@@ -17,3 +18,8 @@ abbrev pub valuesAfter : Recorded → Level → Quote → List ℕ → List ℕ
 valuesAfter (Record number) level quote values = sets values 0 (valuesOf number level quote)
 valuesAfter NoRecord level quote values = values
 valuesAfter (Refused refusal) level quote values = values
+
+-- the host's header: 15 numbers at level 1, 33 at level 2 (`values-long`)
+abbrev pub valueCount : Level → ℕ
+valueCount One = 15
+valueCount Two = 33

@@ -10,12 +10,7 @@ use Rattle.forms.specs.declared.rows.Level.the-variants.{One, Two}
 use Rattle.forms.specs.Forms.{namedRows}
 use Rattle.quote.specs.declared.quote.Quote.{Quote}
 use Rattle.values.specs.Values.{most, valueRows, rowValues}
-use Rattle.host.specs.Shown.{valuesOf}
-
--- the host's header: 15 numbers at level 1, 33 at level 2 (`values-long`)
-abbrev pub valueCount : Level → ℕ
-valueCount One = 15
-valueCount Two = 33
+use Rattle.host.specs.Shown.{valuesOf, valueCount}
 
 values-long : (number : ℕ) (level : Level) (quote : Quote) → length (valuesOf number level quote) ≡ valueCount level
 unfolding rowValues valueRows namedRows

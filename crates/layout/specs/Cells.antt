@@ -9,6 +9,10 @@ use Rattle.layout.specs.declared.cells.Held.{Held}
 use Rattle.layout.specs.declared.cells.Held.the-variants.{Nothing, Units}
 use Rattle.forms.specs.declared.rows.Row.{Row}
 use Rattle.forms.specs.declared.rows.Row.the-variants.{Key, MarketType, Status, Price, Quantity, Turnover}
+use Prim.Native.Nat.{ℕ}
+use mathlib.Core.Bool.{cond}
+use lib.Dec.{leb}
+use lib.ListN.{length, getD, drop}
 
 -- lent memory: what a cell holds for "none" is all ones
 abbrev pub none : ℕ
@@ -46,3 +50,12 @@ seenCells (row ∷ rows) cells = seenCell row (getD cells 0 0) ∷ seenCells row
 -- lent memory: cells with zeros behind them, as many as the most rows of a form
 abbrev pub zerosBehind : List ℕ → List ℕ
 zerosBehind cells = cells ++ replicate (mostRows - length cells) 0
+
+-- 01 "The message": what a row takes of the key
+abbrev pub keyUsed : Row → ℕ
+keyUsed (Key width) = width
+keyUsed MarketType = 0
+keyUsed Status = 0
+keyUsed (Price width) = 0
+keyUsed (Quantity width) = 0
+keyUsed (Turnover width) = 0

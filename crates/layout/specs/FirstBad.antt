@@ -1,18 +1,19 @@
 -- The row that a refusal names: the first bad one. 01, the table of refusals and its order: rows in turn, 11 before 12 in a row.
 use Prim.Native.Nat.{ℕ, _<_}
 use mathlib.Core.Path.{_≡_}
-use mathlib.Core.List.{List, [], _∷_}
+use mathlib.Core.List.{List}
 use lib.ListN.{getD, take, drop}
 use Rattle.laws.specs.Refused.{fieldNo, rangeNo}
 use Rattle.forms.specs.declared.rows.Row.{Row}
-use Rattle.forms.specs.declared.rows.Row.the-variants.{Key}
 use Rattle.layout.specs.declared.read.RowRead.{RowRead}
 use Rattle.layout.specs.declared.read.RowRead.the-variants.{Cell, Field, Range}
 use Rattle.layout.specs.declared.read.Verdict.{Verdict}
 use Rattle.layout.specs.declared.read.Verdict.the-variants.{Good, Field as FieldAt, Range as RangeAt}
-use Rattle.forms.specs.Rows.{widthOf, total, offsetOf}
+use Rattle.forms.specs.Rows.{total}
 use Rattle.layout.specs.Read.{readRow}
-use Rattle.layout.specs.Write.{RowText, text, malformed, out-of-range, rowText, keyUsed}
+use Rattle.layout.specs.Write.{RowText, rowText, writeRefusal}
+use Rattle.layout.specs.Cells.{keyUsed}
+use Rattle.layout.specs.Says.{fieldAt, rowAt}
 
 -- 01, the table's row 11: FIELD
 abbrev pub field : ℕ
@@ -21,20 +22,6 @@ field = fieldNo
 -- 01, the table's row 12: RANGE
 abbrev pub range : ℕ
 range = rangeNo
-
--- 01, the table of refusals: the paper's number and row of a verdict; none where all rows are good
-abbrev pub verdictNumbers : Verdict → List ℕ
-verdictNumbers Good = []
-verdictNumbers (FieldAt row) = field ∷ row ∷ []
-verdictNumbers (RangeAt row) = range ∷ row ∷ []
-
--- 01 "What may be asked": rows count from 0 as laid out
-abbrev pub rowAt : List Row → ℕ → Row
-rowAt rows k = getD rows k (Key 0)
-
--- 01 "What may be asked": every field of the data is one row: the bytes of row k
-abbrev pub fieldAt : List Row → List ℕ → ℕ → List ℕ
-fieldAt rows bytes k = take (widthOf (rowAt rows k)) (drop (offsetOf rows k) bytes)
 
 -- 01 "The message": what row k reads as
 abbrev pub rowRead : List Row → List ℕ → ℕ → RowRead
@@ -49,12 +36,6 @@ abbrev pub readRefusal : RowRead → ℕ
 readRefusal (Cell cell) = 0
 readRefusal Field = field
 readRefusal Range = range
-
--- 01, the table's rows 11 and 12: a row's refusal by what it is to hold, 0 where there is none
-abbrev pub writeRefusal : RowText → ℕ
-writeRefusal (text characters) = 0
-writeRefusal malformed = field
-writeRefusal out-of-range = range
 
 -- 01, the table's rows 11 and 12: row k's refusal in reading
 abbrev pub refusalRead : List Row → List ℕ → ℕ → ℕ

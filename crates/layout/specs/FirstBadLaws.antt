@@ -19,8 +19,10 @@ use Rattle.layout.specs.declared.read.Verdict.the-variants.{Good, Field 
 use Rattle.forms.specs.Rows.{widthOf, total, offsetOf}
 use Rattle.forms.specs.RowsLaws.{total-suc}
 use Rattle.layout.specs.Read.{rowThen, readRows}
-use Rattle.layout.specs.Write.{RowText, text, malformed, out-of-range, keyUsed, textThen, writeRows}
-use Rattle.layout.specs.FirstBad.{field, range, rowAt, rowRead, rowWritten, readRefusal, writeRefusal, refusalRead, refusalWritten, FirstAt, FirstBad}
+use Rattle.layout.specs.Write.{RowText, text, malformed, out-of-range, textThen, writeRefusal, writeRows}
+use Rattle.layout.specs.Cells.{keyUsed}
+use Rattle.layout.specs.FirstBad.{field, range, rowRead, rowWritten, readRefusal, refusalRead, refusalWritten, FirstAt, FirstBad}
+use Rattle.layout.specs.Says.{rowAt}
 
 -- ---- one verdict
 

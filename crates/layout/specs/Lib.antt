@@ -1,3 +1,5 @@
+pub mod Answers
+pub mod AnswersLaws
 pub mod Cells
 pub mod CellsLaws
 pub mod Read

@@ -7,17 +7,18 @@ use native.Mathlib.Omega.{arith}
 use borrow.Author.Tests.{le-leb, lt-leb}
 use lib.ListN.{length, take, set, drop-of-length-le}
 use lib.Seq.{take-all}
+use Rattle.laws.specs.Refused.{fieldNo, rangeNo}
 use Rattle.print.specs.declared.text.Put.{Put}
-use Rattle.print.specs.declared.text.Put.the-variants as amount
-use Rattle.print.specs.Write.{Written, filled, refused, Wrote, blankText, writtenAs}
+use Rattle.print.specs.Write.{Written, filled, refused, Wrote, putNumber, blankText, writtenAs}
 use Rattle.layout.specs.declared.cells.Held.the-variants.{Nothing, Units}
 use Rattle.forms.specs.declared.rows.Row.{Row}
 use Rattle.layout.specs.declared.write.RowPut.{RowPut}
-use Rattle.layout.specs.declared.write.RowPut.the-variants.{Fits, Field, Range}
+use Rattle.layout.specs.declared.write.RowPut.the-variants.{Fits, Field}
 use Rattle.decimal.specs.declared.Kind.{Kind}
 use Rattle.forms.specs.Rows.{widthOf}
+use Rattle.layout.specs.Answers.{rowPutNumber}
 use Rattle.layout.specs.Cells.{heldIn}
-use Rattle.layout.specs.Write.{PutsRow, putOf, rowText, heldText, ofWritten, ofPut, RowText, text, malformed, out-of-range, keyText, letterText, overFront}
+use Rattle.layout.specs.Write.{PutsRow, rowText, heldText, ofWritten, writeRefusal, RowText, text, malformed, out-of-range, keyText, letterText, overFront}
 use Rattle.wire.specs.Bytes.{allPrintable}
 
 -- bytes that fill a field are all that it holds
@@ -58,12 +59,10 @@ module _ (width : ℕ) (key : List ℕ) (room : width ≤ length key) where
 -- ---- a number
 
 -- what the number writer does to a field is what the row asks
-pub put-number : (w : Written) {before after : List ℕ} (answer : Put) → Wrote w before answer after
-    → PutsRow (ofWritten w) before (ofPut answer) after
-put-number (filled characters) amount.Fits p = record { answers = refl; leaves = p .leaves }
-put-number (filled characters) amount.OutOfRange p = absurd (omega (arith, p .answers))
-put-number refused amount.Fits p = absurd (omega (arith, p .answers))
-put-number refused amount.OutOfRange p = record { answers = refl; leaves = p .leaves }
+pub put-number : (w : Written) {before after : List ℕ} {put : Put} {answer : RowPut} → rowPutNumber answer ≡ putNumber put
+    → Wrote w before put after → PutsRow (ofWritten w) before answer after
+put-number (filled characters) same p = record { answers = same ∙ p .answers; leaves = p .leaves }
+put-number refused same p = record { answers = same ∙ p .answers; leaves = p .leaves }
 
 -- a row of numbers, from what the number writer does to its field: "none", and an amount
 module _ (row : Row) (key : List ℕ) (cell : ℕ) (kind : Kind) (before : List ℕ) (fits : length before ≡ widthOf row)
@@ -73,23 +72,23 @@ module _ (row : Row) (key : List ℕ) (cell : ℕ) (kind : Kind) (before : List 
         → PutsRow (rowText row key cell) before answer after
     puts-none e p = rw (is-number, e, ← fits) p
 
-    pub puts-amount : {answer : Put} {after : List ℕ} (n : ℕ) → heldIn cell ≡ Units n
-        → Wrote (writtenAs kind (length before) n) before answer after → PutsRow (rowText row key cell) before (ofPut answer) after
-    puts-amount n e p = rw (is-number, e, ← fits) (put-number (writtenAs kind (length before) n) _ p)
+    pub puts-amount : {put : Put} {answer : RowPut} {after : List ℕ} → rowPutNumber answer ≡ putNumber put → (n : ℕ) → heldIn cell ≡ Units n
+        → Wrote (writtenAs kind (length before) n) before put after → PutsRow (rowText row key cell) before answer after
+    puts-amount same n e p = rw (is-number, e, ← fits) (put-number (writtenAs kind (length before) n) same p)
 
 -- ---- what one row's answer tells of its text
 
 pub fits-text : (t : RowText) {before after : List ℕ} {answer : RowPut} → PutsRow t before answer after → answer ≡ Fits → t ≡ text after
 fits-text (text characters) p e = ap text (sym (p .leaves))
-fits-text malformed p e = let z : Field ≡ Fits = sym (p .answers) ∙ e in cc
-fits-text out-of-range p e = let z : Range ≡ Fits = sym (p .answers) ∙ e in cc
+fits-text malformed p e = absurd (omega (arith, p .answers, ap rowPutNumber e))
+fits-text out-of-range p e = absurd (omega (arith, p .answers, ap rowPutNumber e))
 
-pub field-text : (t : RowText) → putOf t ≡ Field → t ≡ malformed
-field-text (text characters) e = cc
+pub field-text : (t : RowText) → writeRefusal t ≡ fieldNo → t ≡ malformed
+field-text (text characters) e = absurd (omega arith)
 field-text malformed e = refl
-field-text out-of-range e = cc
+field-text out-of-range e = absurd (omega arith)
 
-pub range-text : (t : RowText) → putOf t ≡ Range → t ≡ out-of-range
-range-text (text characters) e = cc
-range-text malformed e = cc
+pub range-text : (t : RowText) → writeRefusal t ≡ rangeNo → t ≡ out-of-range
+range-text (text characters) e = absurd (omega arith)
+range-text malformed e = absurd (omega arith)
 range-text out-of-range e = refl

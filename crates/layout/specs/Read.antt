@@ -20,6 +20,7 @@ use Rattle.decimal.specs.declared.Kind.{Kind}
 use Rattle.decimal.specs.Kinds.{price, quantity, turnover}
 use Rattle.scan.specs.Read.{readAs}
 use Rattle.forms.specs.Rows.{widthOf}
+use Rattle.layout.specs.Answers.{verdictNumbers}
 use Rattle.layout.specs.Cells.{cellOf}
 
 -- 01, the table's rows 11 and 12: a number's cell, where the text is one
@@ -76,5 +77,5 @@ readRows i (row ∷ rows) bytes =
 -- lent memory: the answer of reading rows, and the lent cells: those of the good rows in front of the first bad one are
 -- stored
 pub record ReadsRows (rows : List Row) (bytes cells : List ℕ) (answer : Verdict) (cells′ : List ℕ) : Type 0 where
-  pub answers : answer ≡ readRows 0 rows bytes .verdict
+  pub answers : verdictNumbers answer ≡ verdictNumbers (readRows 0 rows bytes .verdict)
   pub cells-stored : cells′ ≡ sets cells 0 (readRows 0 rows bytes .cells)

@@ -7,6 +7,11 @@ use native.Mathlib.Numerals.{add-one}
 use Rattle.laws.specs.Lists.{take-min, drop-min, sets-append}
 use lib.ListN.{length, getD, take, drop, set, length-append, length-drop, drop-of-length-le}
 use lib.Seq.{sets, sets-eq, drop-cons, drop-drop, take-at}
+use Rattle.decimal.specs.declared.Kind.{Kind}
+use Rattle.scan.specs.declared.Number.{Number}
+use Rattle.scan.specs.Answers.{numberNumbers}
+use Rattle.scan.specs.AnswersLaws.{number-told}
+use Rattle.scan.specs.Read.{readAs}
 use Rattle.forms.specs.declared.rows.Row.{Row}
 use Rattle.forms.specs.declared.rows.Row.the-variants.{Key}
 use Rattle.layout.specs.declared.read.RowRead.{RowRead}
@@ -14,8 +19,15 @@ use Rattle.layout.specs.declared.read.RowRead.the-variants.{Cell, Field,
 use Rattle.layout.specs.declared.read.Verdict.{Verdict}
 use Rattle.layout.specs.declared.read.Verdict.the-variants.{Good}
 use Rattle.forms.specs.Rows.{widthOf}
+use Rattle.layout.specs.Answers.{rowNumbers, verdictNumbers}
 use Rattle.layout.specs.Cells.{zerosBehind}
-use Rattle.layout.specs.Read.{Outcome, readRows, rowThen, readRow, ReadsRows}
+use Rattle.layout.specs.Read.{ofNumber, numberCell, Outcome, readRows, rowThen, readRow, ReadsRows}
+
+-- what the number reader answers of a field, as its row's
+pub of-numbers : (kind : Kind) (field : List ℕ) (number : Number) {row : List ℕ} → numberNumbers number ≡ numberNumbers (readAs kind field)
+    → row ≡ rowNumbers (ofNumber number) → row ≡ rowNumbers (numberCell kind field)
+of-numbers kind field number same e =
+    e ∙ ap (λ (n : Number). rowNumbers (ofNumber n)) (number-told number (readAs kind field) same)
 
 -- cells read earlier stand in front
 abbrev pub behind : List ℕ → Outcome → Outcome
@@ -70,7 +82,7 @@ pub stands : (rows : List Row) (bytes lent cells : List ℕ) (at i : ℕ) (verdi
     → readRows 0 rows bytes ≡ behind (going .front) (record { cells = []; verdict = verdict }) → ReadsRows rows bytes lent verdict cells
 stands rows bytes lent cells at i verdict going e =
     record {
-      answers = sym (ap (λ (o : Outcome). o .verdict) e);
+      answers = ap (λ (o : Outcome). verdictNumbers (o .verdict)) (sym e);
       cells-stored = going .stored ∙ ap (sets lent 0) (sym (ap (λ (o : Outcome). o .cells) e ∙ append-nil (going .front)));
     }
 

@@ -25,9 +25,9 @@ use Rattle.forms.specs.Rows.{widthOf, keyInFront}
 use Rattle.forms.specs.Forms.{rowsOf, subjectOf}
 use Rattle.forms.specs.FormsLaws.{contract-key}
 use Rattle.layout.specs.CellsLaws.{byte-back, cell-back}
-use Rattle.layout.specs.Cells.{byteIn, heldIn, cellOf, seenCell, seenCells}
+use Rattle.layout.specs.Cells.{byteIn, heldIn, cellOf, seenCell, seenCells, keyUsed}
 use Rattle.layout.specs.Read.{isMarketType, isStatus, letterCell, readRow, numberCell, readRows}
-use Rattle.layout.specs.Write.{text, rowText, heldText, letterText, Laid, writeRows, keyUsed}
+use Rattle.layout.specs.Write.{text, rowText, heldText, letterText, Laid, writeRows}
 use Rattle.wire.specs.Bytes.{printable, allPrintable}
 use Rattle.layout.specs.RowTextLaws.{market-small, status-small, key-is, letter-is, filled-is, text-width}
 use Rattle.layout.specs.WriteLaws.{GoodRow, good-row}

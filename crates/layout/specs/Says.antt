@@ -1,4 +1,4 @@
--- What a row's field says, in the paper's words: 01 "The message", "Numbers in text", and the table's rows 11 and 12.
+-- The field of a row, and what it says, in the paper's words: 01 "The message", "Numbers in text", and the table's rows 11 and 12.
 use Prim.Native.Nat.{ℕ, _≤_}
 use mathlib.Core.Path.{_≡_}
 use mathlib.Core.List.{List}
@@ -13,6 +13,10 @@ use Rattle.forms.specs.declared.rows.Row.the-variants.{Key, MarketType, Status,
 use Rattle.layout.specs.declared.read.RowRead.{RowRead}
 use Rattle.layout.specs.declared.read.RowRead.the-variants.{Cell, Field, Range}
 use Rattle.layout.specs.Cells.{none}
+use Prim.Native.Nat.{ℕ}
+use lib.ListN.{getD, take, drop}
+use Rattle.forms.specs.declared.rows.Row.the-variants.{Key}
+use Rattle.forms.specs.Rows.{widthOf, offsetOf}
 
 -- 01 "The message": a letter's field is its one byte
 abbrev pub letterIn : List ℕ → ℕ
@@ -49,3 +53,11 @@ RowSays Status field answer = LetterSays IsStatus (letterIn field) answer
 RowSays (Price width) field answer = NumberSays price field answer
 RowSays (Quantity width) field answer = NumberSays quantity field answer
 RowSays (Turnover width) field answer = NumberSays turnover field answer
+
+-- 01 "What may be asked": rows count from 0 as laid out
+abbrev pub rowAt : List Row → ℕ → Row
+rowAt rows k = getD rows k (Key 0)
+
+-- 01 "What may be asked": every field of the data is one row: the bytes of row k
+abbrev pub fieldAt : List Row → List ℕ → ℕ → List ℕ
+fieldAt rows bytes k = take (widthOf (rowAt rows k)) (drop (offsetOf rows k) bytes)

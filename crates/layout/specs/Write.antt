@@ -5,9 +5,8 @@ use mathlib.Core.Bool.{Bool, cond, _&&_}
 use mathlib.Core.List.{List, [], _∷_, _++_}
 use lib.Dec.{leb}
 use lib.ListN.{length, getD, take, drop}
+use Rattle.laws.specs.Refused.{fieldNo, rangeNo}
 use Rattle.wire.specs.Bytes.{allPrintable}
-use Rattle.print.specs.declared.text.Put.{Put}
-use Rattle.print.specs.declared.text.Put.the-variants as amount
 use Rattle.print.specs.Write.{blankText, Written, filled, refused, writtenAs}
 use Rattle.layout.specs.declared.cells.Held.{Held}
 use Rattle.layout.specs.declared.cells.Held.the-variants.{Nothing, Units}
@@ -17,11 +16,12 @@ use Rattle.layout.specs.declared.read.Verdict.{Verdict}
 use Rattle.layout.specs.declared.read.Verdict.the-variants.{Good, Field as FieldAt, Range as RangeAt}
 use Rattle.layout.specs.declared.write.RowsWritten.{RowsWritten}
 use Rattle.layout.specs.declared.write.RowPut.{RowPut}
-use Rattle.layout.specs.declared.write.RowPut.the-variants.{Fits, Field, Range}
 use Rattle.decimal.specs.declared.Kind.{Kind}
 use Rattle.decimal.specs.Kinds.{price, quantity, turnover}
+use Rattle.layout.specs.Answers.{verdictNumbers, rowPutNumber}
 use Rattle.layout.specs.Cells.{heldIn}
 use Rattle.layout.specs.Read.{isMarketType, isStatus}
+use Rattle.layout.specs.Cells.{keyUsed}
 
 -- 01, the table's rows 11 and 12: what one row's field is to hold, or what is wrong with what is to be written
 pub data RowText : Type 0 where
@@ -56,15 +56,6 @@ rowText (Price width) key cell = heldText price width (heldIn cell)
 rowText (Quantity width) key cell = heldText quantity width (heldIn cell)
 rowText (Turnover width) key cell = heldText turnover width (heldIn cell)
 
--- 01 "The message": what a row takes of the key
-abbrev pub keyUsed : Row → ℕ
-keyUsed (Key width) = width
-keyUsed MarketType = 0
-keyUsed Status = 0
-keyUsed (Price width) = 0
-keyUsed (Quantity width) = 0
-keyUsed (Turnover width) = 0
-
 -- 01, the order of checks: what writing rows gives: the bytes of the good rows in front of the first bad one, and the
 -- verdict
 pub record Laid : Type 0 where
@@ -84,11 +75,11 @@ writeRows i [] key cells = record { bytes = []; verdict = Good }
 writeRows i (row ∷ rows) key cells =
     textThen (rowText row key (getD cells 0 0)) i (writeRows (suc i) rows (drop (keyUsed row) key) (drop 1 cells))
 
--- 01, the table's rows 11 and 12: the answer for one row
-abbrev pub putOf : RowText → RowPut
-putOf (text characters) = Fits
-putOf malformed = Field
-putOf out-of-range = Range
+-- 01, the table's rows 11 and 12: a row's refusal by what it is to hold, 0 where there is none
+abbrev pub writeRefusal : RowText → ℕ
+writeRefusal (text characters) = 0
+writeRefusal malformed = fieldNo
+writeRefusal out-of-range = rangeNo
 
 -- 01 "What may be asked": a refusal leaves the field as it was
 abbrev pub fieldAfter : RowText → List ℕ → List ℕ
@@ -96,14 +87,9 @@ fieldAfter (text characters) before = characters
 fieldAfter malformed before = before
 fieldAfter out-of-range before = before
 
--- 01, the table's row 12: the answer of the number writer, as a row's
-abbrev pub ofPut : Put → RowPut
-ofPut amount.Fits = Fits
-ofPut amount.OutOfRange = Range
-
 -- 01 "What may be asked": what the writer of one row promises: its answer, and the field afterwards
 pub record PutsRow (t : RowText) (before : List ℕ) (answer : RowPut) (after : List ℕ) : Type 0 where
-  pub answers : answer ≡ putOf t
+  pub answers : rowPutNumber answer ≡ writeRefusal t
   pub leaves : after ≡ fieldAfter t before
 
 -- lent memory: bytes laid over the front of a field, as many as it has room for
@@ -112,7 +98,7 @@ overFront bytes field = take (length field) bytes ++ drop (length bytes) field
 
 -- a word of our own: the answer of writing rows: the bytes stand in front
 pub record WritesRows (rows : Laid) (answer : RowsWritten) : Type 0 where
-  pub answers : answer .verdict ≡ rows .verdict
+  pub answers : verdictNumbers (answer .verdict) ≡ verdictNumbers (rows .verdict)
   pub in-front : take (length (rows .bytes)) (answer .bytes) ≡ rows .bytes
 
 -- 01 "What may be asked": what a refusal leaves as it was
@@ -124,5 +110,5 @@ whereGood (RangeAt i) written before = before
 -- 01 "What may be asked": the answer of writing an update, and the lent data: good rows are laid over its front, a refusal
 -- changes no byte
 pub record WritesUpdate (rows : Laid) (before : List ℕ) (answer : Verdict) (after : List ℕ) : Type 0 where
-  pub answers : answer ≡ rows .verdict
+  pub answers : verdictNumbers answer ≡ verdictNumbers (rows .verdict)
   pub leaves : after ≡ whereGood (rows .verdict) (overFront (rows .bytes) before) before

@@ -15,7 +15,8 @@ use Rattle.layout.specs.declared.read.Verdict.the-variants.{Good}
 use Rattle.forms.specs.Rows.{widthOf, dataLength}
 use Rattle.forms.specs.Sizes.{mostData}
 use Rattle.layout.specs.RowTextLaws.{text-width}
-use Rattle.layout.specs.Write.{RowText, text, malformed, out-of-range, rowText, Laid, textThen, writeRows, keyUsed, WritesRows}
+use Rattle.layout.specs.Write.{RowText, text, malformed, out-of-range, rowText, Laid, textThen, writeRows, WritesRows}
+use Rattle.layout.specs.Cells.{keyUsed}
 
 -- bytes written earlier stand in front
 abbrev pub ahead : List ℕ → Laid → Laid

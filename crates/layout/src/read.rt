@@ -3,6 +3,7 @@ ghost use Prim.Native.Nat.{_≤_};
 ghost use lib.ListN.{length, take};
 ghost use Rattle.forms.specs.Forms.{rowsOf};
 ghost use Rattle.forms.specs.Sizes.{mostRows};
+ghost use Rattle.layout.specs.Answers.{rowNumbers};
 ghost use Rattle.layout.specs.Read.{readRow, ofNumber, isMarketType, isStatus, letterCell, ReadsRows};
 use crate::cells;
 use crate::cells::Held;
@@ -29,7 +30,7 @@ pub enum Verdict {
 }
 
 fn of_number(number: Number) -> RowRead
-    ensures { λ r. ⌜ r ≡ ofNumber number ⌝ }
+    ensures { λ r. ⌜ rowNumbers r ≡ rowNumbers (ofNumber number) ⌝ }
 {
     match number {
         Number::None => RowRead::Cell(cells::cell_of(Held::Nothing)),
@@ -40,7 +41,7 @@ fn of_number(number: Number) -> RowRead
 }
 
 fn market_type(byte: u8) -> RowRead
-    ensures { λ r. ⌜ r ≡ letterCell isMarketType byte ⌝ }
+    ensures { λ r. ⌜ rowNumbers r ≡ rowNumbers (letterCell isMarketType byte) ⌝ }
 {
     if byte == b'N' {
         RowRead::Cell(byte as u64)
@@ -50,7 +51,7 @@ fn market_type(byte: u8) -> RowRead
 }
 
 fn status(byte: u8) -> RowRead
-    ensures { λ r. ⌜ r ≡ letterCell isStatus byte ⌝ }
+    ensures { λ r. ⌜ rowNumbers r ≡ rowNumbers (letterCell isStatus byte) ⌝ }
 {
     if byte == b'S' {
         return RowRead::Cell(byte as u64);
@@ -62,7 +63,7 @@ fn status(byte: u8) -> RowRead
 }
 
 fn read_row(row: Row, field: &[u8]) -> RowRead
-    ensures { λ r. ⌜ r ≡ readRow row (now (field .entry)) ⌝ }
+    ensures { λ r. ⌜ rowNumbers r ≡ rowNumbers (readRow row (now (field .entry))) ⌝ }
 {
     match row {
         Row::Key(_) => RowRead::Cell(0),

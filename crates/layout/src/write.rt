@@ -2,12 +2,14 @@ ghost use mathlib.Core.Path.{_≡_};
 ghost use mathlib.Core.List.{[], _∷_};
 ghost use Prim.Native.Nat.{_≤_};
 ghost use lib.ListN.{length, take};
-ghost use Rattle.print.specs.Write.{blankText};
+ghost use Rattle.print.specs.Write.{blankText, putNumber};
 ghost use Rattle.forms.specs.Forms.{rowsOf};
 ghost use Rattle.forms.specs.Rows.{widthOf, dataLength};
 ghost use Rattle.forms.specs.Sizes.{mostRows, mostData};
+ghost use Rattle.layout.specs.Answers.{rowPutNumber};
 ghost use Rattle.layout.specs.Read.{isMarketType, isStatus};
-ghost use Rattle.layout.specs.Write.{text, keyText, letterText, rowText, ofPut, PutsRow, overFront, keyUsed, writeRows, WritesRows, WritesUpdate};
+ghost use Rattle.layout.specs.Write.{text, keyText, letterText, rowText, PutsRow, overFront, writeRows, WritesRows, WritesUpdate};
+ghost use Rattle.layout.specs.Cells.{keyUsed};
 use crate::cells;
 use crate::cells::Held;
 use crate::read::Verdict;
@@ -76,7 +78,7 @@ fn put_none(field: &mut [u8]) -> RowPut
 }
 
 fn of_put(put: Put) -> RowPut
-    ensures { λ r. ⌜ r ≡ ofPut put ⌝ }
+    ensures { λ r. ⌜ rowPutNumber r ≡ putNumber put ⌝ }
 {
     match put {
         Put::Fits => RowPut::Fits,

@@ -28,8 +28,9 @@ use Rattle.message.specs.declared.head.Head.{Head}
 use Rattle.message.specs.declared.head.Head.the-variants.{Good, Bad}
 use Rattle.message.specs.Good.{GoodMessage, NumberFor, HasNumber, PlaceFor, HasContract}
 use Rattle.message.specs.Fields.{letterOf, secondOf, formIn, lengthOf, numberOf, dataOf}
-use Rattle.message.specs.Head.{headOf}
-use Rattle.message.specs.Message.{TellsOfContract, messageKey, keyPlace, rowsRead, ofSubject, ofNamed, ofVerdict, contentsBy, contentsOf, messageOf}
+use Rattle.message.specs.Rules.{headOf}
+use Rattle.message.specs.Message.{TellsOfContract, messageKey, keyPlace, ofSubject, ofNamed}
+use Rattle.message.specs.Reads.{rowsRead, ofVerdict, contentsBy, contentsOf, messageOf}
 use Rattle.message.specs.MessageLaws.{good-head, bad-head, length-is}
 use Rattle.message.specs.Numbers.{verdictOf, numberIn}
 use Rattle.message.specs.GoodLaws.{good-exact}

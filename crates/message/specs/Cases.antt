@@ -12,8 +12,10 @@ use Rattle.layout.specs.Read.{readRow}
 use Rattle.forms.specs.Sizes.{keyBytes}
 use Rattle.forms.specs.Forms.{namedRows, rowsOf, formsOf, formOf, sumRule}
 use Rattle.message.specs.Fields.{letterOf, secondOf, lengthOf, numberOf, dataOf, sumSent, endByte, formIn, sumIn, rightSum}
-use Rattle.message.specs.Head.{framed, coded, trailed, summed, headOf}
-use Rattle.message.specs.Message.{messageKey, keyPlace, contentsBy, messageOf}
+use Rattle.message.specs.Rules.{headOf}
+use Rattle.message.specs.Tests.{framed, coded, trailed, summed}
+use Rattle.message.specs.Message.{messageKey, keyPlace}
+use Rattle.message.specs.Reads.{contentsBy, messageOf}
 use Rattle.message.specs.Numbers.{whatNumbers}
 
 -- 01 "The contract list": one contract, whose key is one byte throughout, makes 49 bytes with offset 10

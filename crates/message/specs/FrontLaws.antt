@@ -13,9 +13,11 @@ use Rattle.contracts.specs.Lookup.{segmentOf}
 use Rattle.forms.specs.Sizes.{bareLength}
 use Rattle.message.specs.Good.{Framed}
 use Rattle.message.specs.Fields.{dataAt, letterOf, secondOf, lengthOf, numberOf, dataOf, sumSent, endByte, formIn, sumIn, rightSum}
-use Rattle.message.specs.Head.{framed, coded, trailed, summed, headOf}
+use Rattle.message.specs.Rules.{headOf}
+use Rattle.message.specs.Tests.{framed, coded, trailed, summed}
 use Rattle.message.specs.HeadLaws.{framed-exact}
-use Rattle.message.specs.Message.{messageKey, contentsBy, contentsOf, messageOf}
+use Rattle.message.specs.Message.{messageKey}
+use Rattle.message.specs.Reads.{contentsBy, contentsOf, messageOf}
 
 -- the length stands in the first four bytes
 front-length : (s : List ℕ) (n : ℕ) → 4 ≤ n → lengthOf (take n s) ≡ lengthOf s

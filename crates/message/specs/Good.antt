@@ -15,8 +15,7 @@ use Rattle.forms.specs.declared.forms.Subject.the-variants.{Nothing, Contract}
 use Rattle.forms.specs.declared.forms.Sum.{Sum}
 use Rattle.forms.specs.declared.forms.Sum.the-variants.{Zero, Right, RightOrZero}
 use Rattle.forms.specs.declared.rows.Row.{Row}
-use Rattle.layout.specs.FirstBad.{rowAt, fieldAt}
-use Rattle.layout.specs.Says.{RowSays}
+use Rattle.layout.specs.Says.{rowAt, fieldAt, RowSays}
 use Rattle.forms.specs.Sizes.{bareLength}
 use Rattle.forms.specs.Rows.{messageLength}
 use Rattle.forms.specs.Forms.{rowsOf, subjectOf, formsOf}
@@ -81,6 +80,17 @@ HasContract is.PassedOver place = Unit {0}
 abbrev pub KeyListed : List ℕ → ℕ → List ℕ → Type 0
 KeyListed list letter key =
     (i : ℕ) × (k : ℕ) × (i < segmentsOf list) × (letterAt list i ≡ letter) × (k < countAt list i) × (listedKey list i k ≡ key)
+
+-- 01, the table's row 13, of a sound list: where a message tells of a contract, the key is one of the list's (`contract-listed`)
+abbrev pub KeyFor : Subject → List ℕ → ℕ → List ℕ → Type 0
+KeyFor Nothing list letter key = Unit {0}
+KeyFor (Contract level) list letter key = KeyListed list letter key
+
+-- 01, the table's row 13, of a sound list: by what the message tells of
+abbrev pub HasListedKey : Named → List ℕ → ℕ → List ℕ → Type 0
+HasListedKey (is.Form form) list letter key = KeyFor (subjectOf form) list letter key
+HasListedKey is.NoLength list letter key = Unit {0}
+HasListedKey is.PassedOver list letter key = Unit {0}
 
 -- 01, the table's rows 5 to 13: a message that breaks none of their rules
 pub record GoodMessage (list : List ℕ) (letter : ℕ) (bytes : List ℕ) : Type 0 where

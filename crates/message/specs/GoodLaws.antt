@@ -10,12 +10,13 @@ use lib.ListN.{take, drop}
 use lib.Seq.{drop-drop}
 use Rattle.laws.specs.Rules.{Hold}
 use Rattle.laws.specs.RulesLaws.{hold-append}
+use Rattle.layout.specs.declared.read.Verdict.{Verdict}
+use Rattle.layout.specs.declared.read.Verdict.the-variants as verdict
 use Rattle.layout.specs.declared.read.RowRead.{RowRead}
 use Rattle.layout.specs.declared.read.RowRead.the-variants.{Cell, Field, Range}
 use Rattle.forms.specs.declared.rows.Row.{Row}
-use Rattle.layout.specs.FirstBad.{rowAt, fieldAt}
+use Rattle.layout.specs.Says.{rowAt, fieldAt, RowSays}
 use Rattle.layout.specs.Read.{readRow}
-use Rattle.layout.specs.Says.{RowSays}
 use Rattle.layout.specs.SaysLaws.{row-exactly}
 use Rattle.forms.specs.Rows.{widthOf, offsetOf}
 use Rattle.forms.specs.declared.forms.Named.{Named}
@@ -27,13 +28,18 @@ use Rattle.contracts.specs.LookupLaws.{segment-exact, key-exact}
 use Rattle.contracts.specs.Sound.{SoundList}
 use Rattle.laws.specs.Choice.{never}
 use Rattle.forms.specs.Forms.{subjectOf}
-use Rattle.message.specs.Good.{GoodMessage, GoodRows, PlaceFor, HasContract, KeyListed}
-use Rattle.message.specs.Fields.{numberOf, dataOf, formIn}
+use Rattle.message.specs.Good.{GoodMessage, GoodRows, PlaceFor, HasContract, KeyListed, KeyFor, HasListedKey}
+use Rattle.message.specs.Fields.{lengthOf, numberOf, dataOf, formIn}
 use Rattle.message.specs.Head.{headRules}
+use Rattle.message.specs.Rules.{headOf}
 use Rattle.message.specs.HeadLaws.{framed-exact, coded-exact, trailed-exact, length-exact, summed-exact, number-exact}
-use Rattle.message.specs.declared.head.Head.the-variants.{Good}
-use Rattle.message.specs.Message.{messageKey, placeThere, keyPlace, rowsIn, messageOf}
-use Rattle.message.specs.Order.{isFormed, isInRange, rowRules, subjectRules, keyRules, bodyRules, messageRules}
+use Rattle.message.specs.declared.body.What.{What}
+use Rattle.message.specs.declared.head.Head.{Head}
+use Rattle.message.specs.declared.head.Head.the-variants.{Good, Bad}
+use Rattle.message.specs.Message.{messageKey, placeThere, keyPlace, rowsIn, ofNamed}
+use Rattle.message.specs.Reads.{rowsRead, ofVerdict, contentsBy, contentsOf, ofHead, messageOf}
+use Rattle.message.specs.Order.{rowRules, subjectRules, keyRules, bodyRules, messageRules}
+use Rattle.message.specs.Tests.{isFormed, isInRange}
 use Rattle.message.specs.Numbers.{verdictOf}
 use Rattle.message.specs.OrderLaws.{message-first}
 use Rattle.message.specs.RulesLaws.{good-hold, hold-good}
@@ -132,6 +138,25 @@ module _ (list : List ℕ) (letter : ℕ) (bytes : List ℕ) where
     (λ g. message-first list letter bytes ∙ hold-good (messageRules list letter bytes) (rules-exact .1 g)),
   )
 
+-- what a good message is, by its code and length, its number and its key
+pub good-what : (list : List ℕ) (letter : ℕ) (bytes : List ℕ) → GoodMessage list letter bytes
+    → messageOf list letter bytes .what ≡ ofNamed (formIn bytes) (numberOf bytes) (keyPlace list letter (messageKey bytes))
+unfolding messageOf contentsBy
+good-what list letter bytes g = by-head (headOf letter (segmentOf list letter) bytes) (good-exact list letter bytes .1 g)
+  where
+    named : What
+    named = ofNamed (formIn bytes) (numberOf bytes) (keyPlace list letter (messageKey bytes))
+
+    by-rows : (v : Verdict) → verdictOf (ofVerdict v named) ≡ Good → ofVerdict v named ≡ named
+    by-rows verdict.Good e = refl
+    by-rows (verdict.Field row) e = cc
+    by-rows (verdict.Range row) e = cc
+
+    by-head : (h : Head) → verdictOf (ofHead h (lengthOf bytes) (contentsOf list letter bytes) .what) ≡ Good
+        → ofHead h (lengthOf bytes) (contentsOf list letter bytes) .what ≡ named
+    by-head Good e = by-rows (rowsRead bytes .verdict) e
+    by-head (Bad fault) e = cc
+
 -- of a sound list, a key has a place exactly when it is one of the list's
 pub key-listed : (list : List ℕ) → SoundList list → (letter : ℕ) (key : List ℕ) → ((k : ℕ) × (keyPlace list letter key ≡ some k)) ↔ KeyListed list letter key
 unfolding keyPlace
@@ -147,3 +172,14 @@ key-listed list sound letter key = ((λ h. there (segmentOf list letter) refl (h
     back : KeyListed list letter key → (k : ℕ) × (placeThere list key (segmentOf list letter) ≡ some k)
     back h =
         (h .1, rw (segment-exact list (sound .header) letter (h .0) .1 (h .2, h .3)) (key-exact list (h .0) key sound (h .2) (h .1) .1 (h .4, h .5)))
+
+-- 13 of a sound list: the key is one of the list's
+pub contract-listed : (list : List ℕ) → SoundList list → (letter : ℕ) (key : List ℕ) (named : Named)
+    → HasContract named (keyPlace list letter key) ↔ HasListedKey named list letter key
+contract-listed list sound letter key (is.Form form) = by-subject (subjectOf form)
+  where
+    by-subject : (subject : Subject) → PlaceFor subject (keyPlace list letter key) ↔ KeyFor subject list letter key
+    by-subject Nothing = ((λ h. tt), (λ h. tt))
+    by-subject (Contract level) = key-listed list sound letter key
+contract-listed list sound letter key is.NoLength = ((λ h. tt), (λ h. tt))
+contract-listed list sound letter key is.PassedOver = ((λ h. tt), (λ h. tt))

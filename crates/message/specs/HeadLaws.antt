@@ -29,11 +29,12 @@ use Rattle.forms.specs.Inner.{sumNamed}
 use Rattle.message.specs.declared.head.Fault.{Fault}
 use Rattle.message.specs.declared.head.Head.{Head}
 use Rattle.message.specs.declared.head.Head.the-variants.{Good, Bad}
-use Rattle.message.specs.Rules.{firstFault}
+use Rattle.message.specs.Rules.{firstFault, headOf}
 use Rattle.message.specs.RulesLaws.{good-hold, andThen, first-append}
 use Rattle.message.specs.Good.{Framed, Coded, LetterListed, HasLength, HasSum, NumberFor, HasNumber}
 use Rattle.message.specs.Fields.{dataAt, letterOf, secondOf, lengthOf, sumSent, endByte, formIn, sumIn, rightSum, zeroSum}
-use Rattle.message.specs.Head.{framed, isCapital, coded, trailed, takesLength, summed, takesSum, numbersSubject, takesNumber, isSome, sameBytes, frameRules, formRules, headOf}
+use Rattle.message.specs.Head.{frameRules, formRules}
+use Rattle.message.specs.Tests.{framed, isCapital, coded, trailed, takesLength, summed, takesSum, numbersSubject, takesNumber, isSome, sameBytes}
 
 -- 5
 pub framed-exact : (bytes : List ℕ) → framed bytes ≡ true ↔ Framed bytes

@@ -9,7 +9,10 @@ pub mod HeadLaws
 pub mod Message
 pub mod MessageLaws
 pub mod Numbers
+pub mod NumbersLaws
 pub mod Order
 pub mod OrderLaws
 pub mod Rules
 pub mod RulesLaws
+pub mod Tests
+pub mod Reads

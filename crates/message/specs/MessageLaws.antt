@@ -6,21 +6,26 @@ use mathlib.Core.Option.{Option, none, some}
 use Rattle.laws.specs.Choice.{never}
 use Rattle.contracts.specs.Lookup.{segmentOf, placeIn}
 use Rattle.layout.specs.declared.read.Verdict.{Verdict}
+use Rattle.layout.specs.AnswersLaws.{verdict-told}
 use Rattle.layout.specs.Cells.{zerosBehind}
 use Rattle.forms.specs.declared.forms.Form.{Form}
 use Rattle.forms.specs.declared.forms.Named.the-variants as is
 use Rattle.forms.specs.declared.forms.Subject.the-variants.{Nothing}
+use Rattle.forms.specs.AnswersLaws.{tells}
 use Rattle.forms.specs.Forms.{rowsOf, subjectOf}
 use Rattle.forms.specs.FormsLaws.{nothing-rows}
 use Rattle.layout.specs.Read.{Outcome, readRows, ReadsRows}
 use Rattle.message.specs.declared.body.What.{What}
 use Rattle.message.specs.declared.body.What.the-variants as what
+use Rattle.message.specs.declared.body.Outline.{Outline}
 use Rattle.message.specs.declared.head.Fault.{Fault}
 use Rattle.message.specs.declared.head.Head.{Head}
 use Rattle.message.specs.declared.head.Head.the-variants as head
 use Rattle.message.specs.Fields.{formIn, lengthOf, numberOf, dataOf}
-use Rattle.message.specs.Head.{headOf}
-use Rattle.message.specs.Message.{TellsOfContract, messageKey, placeThere, keyPlace, rowsRead, ofPlace, ofVerdict, bare, contentsBy, contentsOf, messageOf, ReadsMessage}
+use Rattle.message.specs.Rules.{headOf}
+use Rattle.message.specs.NumbersLaws.{what-told}
+use Rattle.message.specs.Message.{Message, TellsOfContract, messageKey, placeThere, keyPlace, ofPlace}
+use Rattle.message.specs.Reads.{Outlines, rowsRead, ofVerdict, bare, contentsBy, contentsOf, messageOf, ReadsMessage}
 
 module _ (list : List ℕ) (letter : ℕ) where
   -- a key is looked up in the segment of its letter, where there is one
@@ -45,6 +50,16 @@ module _ (list : List ℕ) (letter : ℕ) where
   unfolding keyPlace
   key-by-segment key e = rw e
 
+-- a message's outline
+abbrev pub outlineOf : Message → Outline
+outlineOf message = record { what = message .what; length = message .length }
+
+pub outlined : {message : Message} {answer : Outline} → answer ≡ outlineOf message → Outlines message answer
+outlined e = rw e (record { tells = tells refl; long = refl })
+
+pub outline-told : {message : Message} {answer : Outline} → Outlines message answer → answer ≡ outlineOf message
+outline-told o = λ i. record { what = what-told (o .tells) i; length = o .long i }
+
 -- a message with a good head, by the place of its key
 module _ (place : Option ℕ) (bytes : List ℕ) (whole : ℕ) (long : whole ≡ lengthOf bytes) where
   -- one with no rows leaves the lent cells as they are
@@ -52,17 +67,17 @@ module _ (place : Option ℕ) (bytes : List ℕ) (whole : ℕ) (long : whole ≡
     pub heartbeat-reads : (form : Form) → formIn bytes ≡ is.Form form → subjectOf form ≡ Nothing
         → ReadsMessage (contentsBy place bytes) (rowsRead bytes .cells) cells (record { what = what.Heartbeat; length = whole }) cells
     unfolding contentsBy
-    heartbeat-reads form e s = rw (long, e, s, nothing-rows form s) (record { told = refl; stored = refl })
+    heartbeat-reads form e s = rw (long, e, s, nothing-rows form s) (record { told = outlined refl; stored = refl })
 
     pub passed-over-reads : formIn bytes ≡ is.PassedOver
         → ReadsMessage (contentsBy place bytes) (rowsRead bytes .cells) cells (record { what = what.PassedOver (numberOf bytes); length = whole }) cells
     unfolding contentsBy
-    passed-over-reads e = rw (long, e) (record { told = refl; stored = refl })
+    passed-over-reads e = rw (long, e) (record { told = outlined refl; stored = refl })
 
     pub no-length-reads : formIn bytes ≡ is.NoLength
         → ReadsMessage (contentsBy place bytes) (rowsRead bytes .cells) cells (record { what = what.PassedOver (numberOf bytes); length = whole }) cells
     unfolding contentsBy
-    no-length-reads e = rw (long, e) (record { told = refl; stored = refl })
+    no-length-reads e = rw (long, e) (record { told = outlined refl; stored = refl })
 
   module _ (w : What) (form : Form) (e : formIn bytes ≡ is.Form form) (s : TellsOfContract form) where
     -- an update's rows are read, and then its key is looked up
@@ -71,7 +86,8 @@ module _ (place : Option ℕ) (bytes : List ℕ) (whole : ℕ) (long : whole ≡
         → ReadsMessage (contentsBy place bytes) (rowsRead bytes .cells) cells (record { what = w; length = whole }) cells′
     unfolding contentsBy
     update-reads verdict cells cells′ read same =
-        record { told = rw (long, e, s .1, ← read .answers, same); stored = rw e (read .cells-stored) }
+        let v = verdict-told verdict (readRows 0 (rowsOf form) (dataOf bytes) .verdict) (read .answers) in
+        record { told = outlined (rw (long, e, s .1, ← v, same)); stored = rw e (read .cells-stored) }
 
     pub update-is : (read : Outcome) → readRows 0 (rowsOf form) (dataOf bytes) ≡ read → w ≡ ofVerdict (read .verdict) (ofPlace (numberOf bytes) form place)
         → contentsBy place bytes ≡ record { what = w; length = whole; cells = zerosBehind (read .cells) }

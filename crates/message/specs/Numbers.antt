@@ -1,11 +1,10 @@
 -- The answers of this crate in the paper's numbers.
 use Prim.Native.Nat.{ℕ}
 use mathlib.Core.List.{List, [], _∷_}
+use mathlib.Core.Option.{Option, none, some}
 use Rattle.laws.specs.Refused.{frameNo, codeNo, trailerNo, lengthNo, checksumNo, numberingNo, fieldNo, rangeNo, contractNo}
-use Rattle.forms.specs.declared.rows.Level.{Level}
-use Rattle.forms.specs.declared.rows.Level.the-variants.{One, Two}
-use Rattle.forms.specs.declared.forms.Subject.{Subject}
-use Rattle.forms.specs.declared.forms.Subject.the-variants as subject
+use Rattle.forms.specs.declared.forms.Form.{Form}
+use Rattle.forms.specs.Answers.{Tells, subjectLevel}
 use Rattle.forms.specs.Forms.{subjectOf}
 use Rattle.message.specs.declared.body.What.{What}
 use Rattle.message.specs.declared.body.What.the-variants.{Heartbeat, PassedOver, Update, Bad}
@@ -26,15 +25,10 @@ faultNumbers (Field row) = fieldNo ∷ row ∷ []
 faultNumbers (Range row) = rangeNo ∷ row ∷ []
 faultNumbers Contract = contractNo ∷ []
 
--- 01 "What may be asked": the level asked for is 1 or 2
-abbrev pub levelNumber : Level → ℕ
-levelNumber One = 1
-levelNumber Two = 2
-
--- 01 "What may be asked": the level of what a message tells of, 0 where there is none
-abbrev pub subjectLevel : Subject → ℕ
-subjectLevel subject.Nothing = 0
-subjectLevel (subject.Contract level) = levelNumber level
+-- 01, the table's rows 5 to 10: 0 where none of them is broken, or the fault's
+abbrev pub headNumbers : Head → List ℕ
+headNumbers head.Good = 0 ∷ []
+headNumbers (head.Bad fault) = faultNumbers fault
 
 -- 01 "The message": 0 for a message with no fault; then the number by which it counts in the sequence, an update's level and
 -- its place
@@ -43,6 +37,17 @@ whatNumbers Heartbeat = 0 ∷ []
 whatNumbers (PassedOver number) = 0 ∷ number ∷ []
 whatNumbers (Update number form place) = 0 ∷ number ∷ subjectLevel (subjectOf form) ∷ place ∷ []
 whatNumbers (Bad fault) = faultNumbers fault
+
+-- a word of our own: the form of an update, which has no number in 01
+abbrev pub formTold : What → Option Form
+formTold Heartbeat = none
+formTold (PassedOver number) = none
+formTold (Update number form place) = some form
+formTold (Bad fault) = none
+
+-- a word of our own: what a message is, by its numbers and its form
+abbrev pub TellsWhat : What → What → Type 0
+TellsWhat = Tells whatNumbers formTold
 
 -- 01, the table of refusals: the fault of a message, if it has one
 abbrev pub verdictOf : What → Head

@@ -1,12 +1,9 @@
 -- All rules of a message in document 01's order: 5 to 10, then 11 and 12 row by row, then 13.
 use Prim.Native.Nat.{ℕ, suc}
-use mathlib.Core.Bool.{Bool, true, false}
 use mathlib.Core.List.{List, [], _∷_, _++_}
 use mathlib.Core.Option.{Option}
 use lib.ListN.{take, drop}
 use Rattle.laws.specs.Rules.{Rule}
-use Rattle.layout.specs.declared.read.RowRead.{RowRead}
-use Rattle.layout.specs.declared.read.RowRead.the-variants as read
 use Rattle.forms.specs.declared.forms.Named.{Named}
 use Rattle.forms.specs.declared.forms.Named.the-variants as is
 use Rattle.forms.specs.declared.forms.Subject.{Subject}
@@ -19,20 +16,10 @@ use Rattle.forms.specs.Rows.{widthOf}
 use Rattle.message.specs.declared.head.Fault.{Fault}
 use Rattle.message.specs.declared.head.Fault.the-variants.{Field, Range, Contract}
 use Rattle.message.specs.Fields.{dataOf, formIn}
-use Rattle.message.specs.Head.{isSome, headRules}
+use Rattle.message.specs.Head.{headRules}
+use Rattle.message.specs.Tests.{isSome}
 use Rattle.message.specs.Message.{messageKey, keyPlace, rowsIn}
-
--- 01, the table's row 11: well formed
-abbrev pub isFormed : RowRead → Bool
-isFormed (read.Cell cell) = true
-isFormed read.Field = false
-isFormed read.Range = true
-
--- 01, the table's row 12: in range
-abbrev pub isInRange : RowRead → Bool
-isInRange (read.Cell cell) = true
-isInRange read.Field = true
-isInRange read.Range = false
+use Rattle.message.specs.Tests.{isFormed, isInRange}
 
 -- 01, the order of checks: rows in turn from row i on, 11 before 12 in a row
 abbrev pub rowRules : ℕ → List Row → List ℕ → List (Rule Fault)

@@ -27,11 +27,12 @@ use Rattle.message.specs.declared.head.Head.the-variants.{Good, Bad}
 use Rattle.contracts.specs.Lookup.{segmentOf}
 use Rattle.forms.specs.Forms.{subjectOf}
 use Rattle.message.specs.Fields.{lengthOf, numberOf, dataOf, formIn}
-use Rattle.message.specs.Head.{headRules, headOf}
-use Rattle.message.specs.Message.{messageKey, keyPlace, rowsIn, rowsRead, ofSubject, ofNamed, ofVerdict, ofHead, contentsBy, contentsOf, messageOf}
+use Rattle.message.specs.Head.{headRules}
+use Rattle.message.specs.Rules.{headOf, firstFault}
+use Rattle.message.specs.Message.{messageKey, keyPlace, rowsIn, ofSubject, ofNamed}
+use Rattle.message.specs.Reads.{rowsRead, ofVerdict, ofHead, contentsBy, contentsOf, messageOf}
 use Rattle.message.specs.Numbers.{verdictOf}
 use Rattle.message.specs.Order.{rowRules, subjectRules, keyRules, bodyRules, messageRules}
-use Rattle.message.specs.Rules.{firstFault}
 use Rattle.message.specs.RulesLaws.{andThen, first-append, bad-broken, broken-bad}
 
 -- a verdict on rows as one on a message

@@ -5,6 +5,11 @@ use Rattle.laws.specs.Rules.{Rule, firstBroken}
 use Rattle.message.specs.declared.head.Fault.{Fault}
 use Rattle.message.specs.declared.head.Head.{Head}
 use Rattle.message.specs.declared.head.Head.the-variants.{Good, Bad}
+use Prim.Native.Nat.{ℕ}
+use mathlib.Core.List.{List}
+use mathlib.Core.Option.{Option}
+use Rattle.laws.specs.Rules.{Rule}
+use Rattle.message.specs.Head.{headRules}
 
 -- 01, the table of refusals: no broken rule is no fault
 abbrev pub headBy : Option Fault → Head
@@ -14,3 +19,7 @@ headBy (some fault) = Bad fault
 -- 01, the order of checks: the first broken rule decides
 abbrev pub firstFault : List (Rule Fault) → Head
 firstFault rules = headBy (firstBroken rules)
+
+-- 01, the order of checks: the first broken one decides
+unfoldable pub headOf : ℕ → Option ℕ → List ℕ → Head
+headOf letter segment bytes = firstFault (headRules letter segment bytes)

@@ -2,13 +2,17 @@
 ghost use mathlib.Core.Path.{_≡_};
 ghost use mathlib.Core.Bool.{true};
 ghost use lib.ListN.{take};
-ghost use Rattle.contracts.specs.Answers.{placeOf};
+ghost use Rattle.laws.specs.Refused.{contractNo};
+ghost use Rattle.contracts.specs.Answers.{placeOf, foundNumbers, lookedUp};
 ghost use Rattle.contracts.specs.Lookup.{segmentOf};
 ghost use Rattle.forms.specs.Sizes.{keyBytes};
 ghost use Rattle.message.specs.Good.{Framed};
 ghost use Rattle.message.specs.Fields.{lengthOf, formIn};
-ghost use Rattle.message.specs.Head.{framed, formRules};
-ghost use Rattle.message.specs.Message.{TellsOfContract, messageKey, placeThere, ofPlace, rowsRead, cellsBy, cellsRead, contentsBy, bare, ofHead, messageOf, outlineOf, ReadsMessage};
+ghost use Rattle.message.specs.Head.{formRules};
+ghost use Rattle.message.specs.Tests.{framed};
+ghost use Rattle.message.specs.Message.{TellsOfContract, messageKey, placeThere, ofPlace};
+ghost use Rattle.message.specs.Reads.{rowsRead, cellsBy, cellsRead, contentsBy, bare, ofHead, messageOf, Outlines, ReadsMessage};
+ghost use Rattle.message.specs.Numbers.{TellsWhat};
 ghost use Rattle.message.specs.Rules.{firstFault};
 use crate::fields;
 use crate::head;
@@ -40,7 +44,7 @@ pub struct Outline {
 
 // The place of a key in a segment, where there is one.
 pub fn find(list: &[u8], segment: Found, key: &[u8]) -> Found
-    ensures { λ r. ⌜ placeOf r ≡ placeThere (now (list .entry)) (now (key .entry)) (placeOf segment) ⌝ }
+    ensures { λ r. ⌜ foundNumbers contractNo r ≡ lookedUp contractNo (placeThere (now (list .entry)) (now (key .entry)) (placeOf segment)) ⌝ }
 {
     match segment {
         Found::At(place) => contracts::place_of(list, place, key),
@@ -60,7 +64,7 @@ fn key_of(data: &[u8]) -> &[u8]
 
 // 13, once the rows are good.
 fn placed(list: &[u8], segment: Found, data: &[u8], number: u32, form: Form) -> What
-    ensures { λ r. ⌜ r ≡ ofPlace number form (placeThere (now (list .entry)) (take keyBytes (now («data» .entry))) (placeOf segment)) ⌝ }
+    ensures { λ r. ⌜ TellsWhat (ofPlace number form (placeThere (now (list .entry)) (take keyBytes (now («data» .entry))) (placeOf segment))) r ⌝ }
 {
     match find(list, segment, key_of(data)) {
         Found::At(place) => What::Update(number, form, place),
@@ -126,7 +130,7 @@ fn contents(
 }
 
 fn bad(fault: Fault, bytes: &[u8]) -> Outline
-    ensures { λ r. ⌜ r ≡ outlineOf (bare (What.Bad fault) (lengthOf (now (bytes .entry)))) ⌝ }
+    ensures { λ r. ⌜ Outlines (bare (What.Bad fault) (lengthOf (now (bytes .entry)))) r ⌝ }
 {
     Outline {
         what: What::Bad(fault),

@@ -1,5 +1,6 @@
 // The fields of a message, each at its place. What stands past the end reads as zero, so that no caller checks first.
 ghost use mathlib.Core.Path.{_≡_};
+ghost use Rattle.forms.specs.Answers.{Tells, namedNumbers, formNamed};
 ghost use Rattle.message.specs.Fields.{letterOf, secondOf, lengthOf, numberOf, formIn};
 use layout::Named;
 
@@ -39,7 +40,7 @@ pub(crate) fn number_of(bytes: &[u8]) -> u32
 }
 
 pub(crate) fn form_in(bytes: &[u8]) -> Named
-    ensures { λ r. ⌜ r ≡ formIn (now (bytes .entry)) ⌝ }
+    ensures { λ r. ⌜ Tells namedNumbers formNamed (formIn (now (bytes .entry))) r ⌝ }
 {
     layout::form_of(letter_of(bytes), second_of(bytes), length_of(bytes))
 }

@@ -5,7 +5,9 @@ ghost use mathlib.Core.List.{[], _∷_};
 ghost use Rattle.contracts.specs.Answers.{placeOf};
 ghost use Rattle.message.specs.Good.{Framed};
 ghost use Rattle.message.specs.Fields.{lengthOf, formIn, sumSent, rightSum};
-ghost use Rattle.message.specs.Head.{framed, isCapital, coded, trailed, takesLength, summed, numbersSubject, takesNumber, frameRules, formRules, sameBytes};
+ghost use Rattle.message.specs.Head.{frameRules, formRules};
+ghost use Rattle.message.specs.Tests.{framed, isCapital, coded, trailed, takesLength, summed, numbersSubject, takesNumber, sameBytes};
+ghost use Rattle.message.specs.Numbers.{headNumbers};
 ghost use Rattle.message.specs.Rules.{firstFault};
 use crate::fields;
 use contracts::Found;
@@ -145,7 +147,7 @@ pub fn takes_number(named: Named, number: u32) -> bool
 
 // The rules 5 to 7 in turn: the first broken one decides.
 pub(crate) fn judge_frame(letter: u8, segment: Found, bytes: &[u8]) -> Head
-    ensures { λ r. ⌜ r ≡ firstFault (frameRules letter (placeOf segment) (now (bytes .entry))) ⌝ }
+    ensures { λ r. ⌜ headNumbers r ≡ headNumbers (firstFault (frameRules letter (placeOf segment) (now (bytes .entry)))) ⌝ }
 {
     if !framed(bytes) {
         return Head::Bad(Fault::Frame);
@@ -162,7 +164,7 @@ pub(crate) fn judge_frame(letter: u8, segment: Found, bytes: &[u8]) -> Head
 // Where these hold, the rules 8 to 10 in turn.
 pub(crate) fn judge_form(bytes: &[u8], named: Named) -> Head
     requires { ⌜ (framed (now bytes) ≡ true) × (named ≡ formIn (now bytes)) ⌝ }
-    ensures { λ r. ⌜ r ≡ firstFault (formRules (now (bytes .entry))) ⌝ }
+    ensures { λ r. ⌜ headNumbers r ≡ headNumbers (firstFault (formRules (now (bytes .entry)))) ⌝ }
 {
     if !takes_length(named) {
         return Head::Bad(Fault::Length);

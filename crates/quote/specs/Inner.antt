@@ -12,7 +12,8 @@ use Rattle.forms.specs.Sizes.{mostRows, keyRowCount}
 use Rattle.quote.specs.declared.quote.Order.{Order}
 use Rattle.quote.specs.declared.quote.Quote.{Quote}
 use Rattle.quote.specs.declared.quote.Places.{Places}
-use Rattle.quote.specs.Quote.{priceIn, quantityIn, turnoverIn, cellOfPrice, cellOfQuantity, noOrder, orderIn, mostOrders}
+use Rattle.quote.specs.Quote.{priceIn, quantityIn, turnoverIn, cellOfPrice, cellOfQuantity, orderIn}
+use Rattle.quote.specs.Shows.{noOrder, mostOrders}
 
 -- a word of our own: the rows of a form; one that it has not is none of the cells
 abbrev pub placesOf : Form → Places

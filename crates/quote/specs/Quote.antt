@@ -15,9 +15,11 @@ use Rattle.quote.specs.declared.quote.Quote.{Quote}
 use Rattle.layout.specs.declared.cells.Held.{Held}
 use Rattle.layout.specs.declared.cells.Held.the-variants.{Nothing, Units}
 use Rattle.forms.specs.declared.forms.Form.{Form}
-use Rattle.forms.specs.Names.{Name, NamedRow, sameName, instrument, symbol, expiry, strike, optionType, marketType, buyPrice, buyQuantity, sellPrice, sellQuantity, lastPrice, tradedQuantity, status, openingPrice, highPrice, lowPrice, closePrice, averagePrice, allBuyers, allSellers, turnover as turnoverName}
+use Rattle.forms.specs.Names.{Name, NamedRow, instrument, symbol, expiry, strike, optionType, marketType, buyPrice, buyQuantity, sellPrice, sellQuantity, lastPrice, tradedQuantity, status, openingPrice, highPrice, lowPrice, closePrice, averagePrice, allBuyers, allSellers, turnover as turnoverName}
+use Rattle.forms.specs.SameName.{sameName}
 use Rattle.forms.specs.Forms.{namedRows}
 use Rattle.layout.specs.Cells.{none as noCell, heldIn, cellOf, byteIn, zerosBehind}
+use Rattle.quote.specs.Shows.{heldPrice, heldQuantity, heldTurnover, noOrder}
 
 -- ---- a number, by its kind
 
@@ -25,11 +27,6 @@ use Rattle.layout.specs.Cells.{none as noCell, heldIn, cellOf, byteIn, zerosBeh
 abbrev pub priceOf : Held → PriceCell
 priceOf Nothing = price.None
 priceOf (Units n) = price.Amount (record { 0 = n })
-
--- 01 "Numbers in text": the same back: the number of a price, or none
-abbrev pub heldPrice : PriceCell → Held
-heldPrice price.None = Nothing
-heldPrice (price.Amount amount) = Units (amount .0)
 
 -- lent memory: the price that a cell holds
 abbrev pub priceIn : ℕ → PriceCell
@@ -44,11 +41,6 @@ abbrev pub quantityOf : Held → QuantityCell
 quantityOf Nothing = quantity.None
 quantityOf (Units n) = quantity.Amount (record { 0 = n })
 
--- 01 "Numbers in text": the same back: the number of a quantity, or none
-abbrev pub heldQuantity : QuantityCell → Held
-heldQuantity quantity.None = Nothing
-heldQuantity (quantity.Amount amount) = Units (amount .0)
-
 -- lent memory: the quantity that a cell holds
 abbrev pub quantityIn : ℕ → QuantityCell
 quantityIn cell = quantityOf (heldIn cell)
@@ -61,11 +53,6 @@ cellOfQuantity q = cellOf (heldQuantity q)
 abbrev pub turnoverOf : Held → TurnoverCell
 turnoverOf Nothing = turnover.None
 turnoverOf (Units n) = turnover.Amount (record { 0 = n })
-
--- 01 "Numbers in text": the same back: the number of a turnover, or none
-abbrev pub heldTurnover : TurnoverCell → Held
-heldTurnover turnover.None = Nothing
-heldTurnover (turnover.Amount amount) = Units (amount .0)
 
 -- lent memory: the turnover that a cell holds
 abbrev pub turnoverIn : ℕ → TurnoverCell
@@ -98,17 +85,9 @@ cellNamed rows name cells = cellAt (rowNamed rows name) cells
 
 -- ---- the orders of a side
 
--- 01 "Numbers in text": an order whose price and quantity are none
-abbrev pub noOrder : Order
-noOrder = record { price = price.None; quantity = quantity.None }
-
 -- 01 "The message": an order is a price and a quantity, a cell each
 abbrev pub orderIn : ℕ → ℕ → Order
 orderIn p q = record { price = priceIn p; quantity = quantityIn q }
-
--- 000 section 4.5, 003 section 4.6: the most orders of a side
-abbrev pub mostOrders : ℕ
-mostOrders = 5
 
 -- 01 "The message": the levels of a side are 0 to 4
 abbrev pub orderLevels : List ℕ

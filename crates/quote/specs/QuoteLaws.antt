@@ -11,7 +11,8 @@ use Rattle.layout.specs.declared.cells.Held.{Held}
 use Rattle.layout.specs.declared.cells.Held.the-variants.{Nothing, Units}
 use Rattle.forms.specs.declared.forms.Form.{Form}
 use Rattle.forms.specs.declared.forms.Form.the-variants.{Heartbeat, LevelOne, LevelTwo}
-use Rattle.forms.specs.Names.{Name, NamedRow, sameName, marketType, buyPrice, buyQuantity, sellPrice, sellQuantity, lastPrice, tradedQuantity, status, openingPrice, highPrice, lowPrice, closePrice, averagePrice, allBuyers, allSellers, turnover as turnoverName}
+use Rattle.forms.specs.Names.{Name, NamedRow, marketType, buyPrice, buyQuantity, sellPrice, sellQuantity, lastPrice, tradedQuantity, status, openingPrice, highPrice, lowPrice, closePrice, averagePrice, allBuyers, allSellers, turnover as turnoverName}
+use Rattle.forms.specs.SameName.{sameName}
 use Rattle.forms.specs.NamesLaws.{same-name}
 use Rattle.forms.specs.Forms.{namedRows, rowsOf}
 use Rattle.layout.specs.Cells.{none as noCell, byteIn, zerosBehind, seenCells}
@@ -24,7 +25,8 @@ use Rattle.quote.specs.declared.quote.TurnoverCell.{TurnoverCell}
 use Rattle.quote.specs.declared.quote.TurnoverCell.the-variants as turnover
 use Rattle.quote.specs.declared.quote.Order.{Order}
 use Rattle.quote.specs.declared.quote.Quote.{Quote}
-use Rattle.quote.specs.Quote.{priceOf, heldPrice, priceIn, cellOfPrice, quantityOf, heldQuantity, quantityIn, cellOfQuantity, turnoverOf, heldTurnover, turnoverIn, cellOfTurnover, next, rowNamed, cellAt, cellNamed, noOrder, mostOrders, orderIn, sideIn, quoteBy, quoteOf, fieldCell, cellsBy, cellsOf, whereSome, whereNamed, seenSide, seenBy, seenQuote}
+use Rattle.quote.specs.Quote.{priceOf, priceIn, cellOfPrice, quantityOf, quantityIn, cellOfQuantity, turnoverOf, turnoverIn, cellOfTurnover, next, rowNamed, cellAt, cellNamed, orderIn, sideIn, quoteBy, quoteOf, fieldCell, cellsBy, cellsOf, whereSome, whereNamed, seenSide, seenBy, seenQuote}
+use Rattle.quote.specs.Shows.{heldPrice, heldQuantity, heldTurnover, noOrder, mostOrders}
 
 -- ---- from cells to the quote and back
 
@@ -85,7 +87,7 @@ named-cell given (row ∷ rows) rest name = go (sameName (row .name) name) refl 
 
     go : (same : Bool) → sameName (row .name) name ≡ same → cellNamed rows name cells ≡ whereNamed rows name (given name) noCell
         → cellNamed (row ∷ rows) name (given (row .name) ∷ cells) ≡ whereNamed (row ∷ rows) name (given name) noCell
-    go true t later = rw t (ap given (same-name (row .name) name t))
+    go true t later = rw t (ap given (same-name (row .name) name .0 t))
     go false t later = rw t (next-cell (rowNamed rows name) (given (row .name)) cells ∙ later ∙ sym (next-some (rowNamed rows name) (given name) noCell))
 
 -- ---- a quote through its cells

@@ -20,14 +20,14 @@ use Rattle.forms.specs.Rows.{widthOf}
 use Rattle.forms.specs.Sizes.{mostRows, keyRowCount}
 use Rattle.forms.specs.Names.{Name, marketType, status}
 use Rattle.forms.specs.Forms.{namedRows, rowsOf}
-use Rattle.layout.specs.Cells.{none, byteIn, seenCell, seenCells, zerosBehind}
+use Rattle.layout.specs.Cells.{none, byteIn, seenCell, seenCells, zerosBehind, keyUsed}
 use Rattle.layout.specs.CellsLaws.{byte-back}
 use Rattle.layout.specs.Read.{isMarketType, isStatus, letterCell, readRow, Outcome, rowThen, readRows}
-use Rattle.layout.specs.Write.{rowText, letterText, Laid, writeRows, keyUsed}
+use Rattle.layout.specs.Write.{rowText, letterText, Laid, writeRefusal, writeRows}
 use Rattle.layout.specs.RowTextLaws.{market-small, status-small, text-held}
 use Rattle.layout.specs.WriteLaws.{GoodRow, good-row}
 use Rattle.layout.specs.RoundTrip.{rows-back}
-use Rattle.layout.specs.FirstBad.{writeRefusal, refusalWritten}
+use Rattle.layout.specs.FirstBad.{refusalWritten}
 use Rattle.layout.specs.FirstBadLaws.{write-first}
 use Rattle.quote.specs.Quote.{rowNamed, quoteOf, cellsBy, cellsOf, seenQuote}
 use Rattle.quote.specs.QuoteLaws.{AllHeld, cells-back, quote-back}

@@ -13,10 +13,44 @@ use Rattle.decimal.specs.Denotes.{Denotes, AllSpaces}
 use Rattle.decimal.specs.Kinds.{price, quantity, turnover}
 use Rattle.layout.specs.declared.cells.Held.{Held}
 use Rattle.layout.specs.declared.cells.Held.the-variants.{Nothing, Units}
-use Rattle.forms.specs.Names.{Name, NamedRow, sameName, marketType, buyPrice, buyQuantity, sellPrice, sellQuantity, lastPrice, tradedQuantity, status, openingPrice, highPrice, lowPrice, closePrice, averagePrice, allBuyers, allSellers, turnover as turnoverName}
+use Rattle.forms.specs.Names.{Name, NamedRow, marketType, buyPrice, buyQuantity, sellPrice, sellQuantity, lastPrice, tradedQuantity, status, openingPrice, highPrice, lowPrice, closePrice, averagePrice, allBuyers, allSellers, turnover as turnoverName}
+use Rattle.forms.specs.SameName.{sameName}
 use Rattle.forms.specs.Rows.{widthOf}
 use Rattle.quote.specs.declared.quote.Quote.{Quote}
-use Rattle.quote.specs.Quote.{heldPrice, heldQuantity, heldTurnover, noOrder, mostOrders}
+use Prim.Native.Nat.{ℕ}
+use mathlib.Core.List.{List, [], _∷_}
+use lib.ListN.{getD}
+use Rattle.quote.specs.declared.quote.PriceCell.{PriceCell}
+use Rattle.quote.specs.declared.quote.PriceCell.the-variants as price
+use Rattle.quote.specs.declared.quote.QuantityCell.{QuantityCell}
+use Rattle.quote.specs.declared.quote.QuantityCell.the-variants as quantity
+use Rattle.quote.specs.declared.quote.TurnoverCell.{TurnoverCell}
+use Rattle.quote.specs.declared.quote.TurnoverCell.the-variants as turnover
+use Rattle.quote.specs.declared.quote.Order.{Order}
+use Rattle.forms.specs.Names.{Name, NamedRow, marketType, buyPrice, buyQuantity, sellPrice, sellQuantity, lastPrice, tradedQuantity, status, openingPrice, highPrice, lowPrice, closePrice, averagePrice, allBuyers, allSellers, turnover as turnoverName}
+
+-- 01 "Numbers in text": the same back: the number of a price, or none
+abbrev pub heldPrice : PriceCell → Held
+heldPrice price.None = Nothing
+heldPrice (price.Amount amount) = Units (amount .0)
+
+-- 01 "Numbers in text": the same back: the number of a quantity, or none
+abbrev pub heldQuantity : QuantityCell → Held
+heldQuantity quantity.None = Nothing
+heldQuantity (quantity.Amount amount) = Units (amount .0)
+
+-- 01 "Numbers in text": the same back: the number of a turnover, or none
+abbrev pub heldTurnover : TurnoverCell → Held
+heldTurnover turnover.None = Nothing
+heldTurnover (turnover.Amount amount) = Units (amount .0)
+
+-- 01 "Numbers in text": an order whose price and quantity are none
+abbrev pub noOrder : Order
+noOrder = record { price = price.None; quantity = quantity.None }
+
+-- 000 section 4.5, 003 section 4.6: the most orders of a side
+abbrev pub mostOrders : ℕ
+mostOrders = 5
 
 -- 01 "The message": the bytes of the field with a name: the rows' widths lead to it; none where no row has the name
 abbrev pub fieldNamed : List NamedRow → List ℕ → Name → Option (List ℕ)

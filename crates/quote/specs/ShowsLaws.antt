@@ -7,10 +7,9 @@ use mathlib.Core.Logic.{inl, inr, ⊎-elim}
 use mathlib.Core.Option.{Option, none, some}
 use native.Mathlib.Omega.{arith}
 use borrow.Author.Tests.{ne-eqb}
-use lib.Dec.{eqb, lit<}
+use lib.Dec.{lit<}
 use lib.ListN.{length, getD, take, drop, replicate, List·getD-append}
 use Rattle.laws.specs.Choice.{clash}
-use Rattle.laws.specs.Tests.{eqb-is, both}
 use Rattle.decimal.specs.declared.Kind.{Kind}
 use Rattle.decimal.specs.Denotes.{AllSpaces}
 use Rattle.decimal.specs.Kinds.{price, quantity, turnover}
@@ -18,8 +17,10 @@ use Rattle.forms.specs.declared.rows.Row.{Row}
 use Rattle.forms.specs.declared.rows.Row.the-variants.{Key, MarketType, Status, Price, Quantity, Turnover}
 use Rattle.forms.specs.declared.forms.Form.{Form}
 use Rattle.forms.specs.declared.forms.Form.the-variants.{Heartbeat, LevelOne, LevelTwo}
-use Rattle.forms.specs.Names.{Name, NamedRow, nameNumber, orderLevel, sameName, marketType, buyPrice, buyQuantity, sellPrice, sellQuantity, lastPrice, tradedQuantity, status, openingPrice, highPrice, lowPrice, closePrice, averagePrice, allBuyers, allSellers, turnover as turnoverName}
+use Rattle.forms.specs.Names.{Name, NamedRow, marketType, buyPrice, buyQuantity, sellPrice, sellQuantity, lastPrice, tradedQuantity, status, openingPrice, highPrice, lowPrice, closePrice, averagePrice, allBuyers, allSellers, turnover as turnoverName}
+use Rattle.forms.specs.SameName.{nameNumber, sameName}
 use Rattle.forms.specs.Sizes.{mostRows}
+use Rattle.forms.specs.NamesLaws.{same-name}
 use Rattle.forms.specs.Forms.{namedRows, rowsOf}
 use Rattle.forms.specs.Rows.{widthOf}
 use Rattle.wire.specs.Number.{numberAt}
@@ -33,8 +34,8 @@ use Rattle.layout.specs.Read.{readRow, readRows}
 use Rattle.layout.specs.Says.{NumberSays, RowSays}
 use Rattle.layout.specs.SaysLaws.{row-exactly}
 use Rattle.quote.specs.declared.quote.Order.{Order}
-use Rattle.quote.specs.Quote.{priceOf, heldPrice, priceIn, quantityOf, heldQuantity, quantityIn, turnoverOf, heldTurnover, turnoverIn, next, rowNamed, cellAt, cellNamed, noOrder, orderIn, mostOrders, orderLevels, quoteBy, quoteOf}
-use Rattle.quote.specs.Shows.{fieldNamed, ShowsNumber, Shows, ShowsLetter, ShowsFields}
+use Rattle.quote.specs.Quote.{priceOf, priceIn, quantityOf, quantityIn, turnoverOf, turnoverIn, next, rowNamed, cellAt, cellNamed, orderIn, orderLevels, quoteBy, quoteOf}
+use Rattle.quote.specs.Shows.{heldPrice, heldQuantity, heldTurnover, noOrder, mostOrders, fieldNamed, ShowsNumber, Shows, ShowsLetter, ShowsFields}
 
 -- ---- one field
 
@@ -99,10 +100,6 @@ kinds =
 abbrev kindNamed : Name → Row
 kindNamed name = getD kinds (nameNumber name) (Key 0)
 
-same-kind : (a b : Name) → sameName a b ≡ true → kindNamed a ≡ kindNamed b
-same-kind a b e =
-    ap (λ (n : ℕ). getD kinds n (Key 0)) (eqb-is (nameNumber a) (nameNumber b) .0 (both (eqb (nameNumber a) (nameNumber b)) (eqb (orderLevel a) (orderLevel b)) e .0))
-
 -- each row is of its name's kind
 abbrev Kinded : List NamedRow → Type 0
 Kinded rows = map (λ r. kindOf (r .row)) rows ≡ map (λ r. kindNamed (r .name)) rows
@@ -131,7 +128,7 @@ module _ (row : NamedRow) (rows : List NamedRow) (kinded : Kinded (row ∷ rows)
   by-name : (rest : Option (List ℕ)) (cells : List ℕ) → Found (kindNamed name) rest (rowNamed rows name) cells → (b : Bool) → sameName (row .name) name ≡ b
       → Found (kindNamed name) (cond b (some field) rest) (cond b (some 0) (next (rowNamed rows name))) (cell ∷ cells)
   by-name rest cells h true is =
-      (omega arith, subst (λ (kind : Row). ShownAs kind field cell) (here ∙ same-kind (row .name) name is) (row-shows (row .row) field cell (row-exactly (row .row) field (Cell cell) .0 reads)))
+      (omega arith, subst (λ (kind : Row). ShownAs kind field cell) (here ∙ ap kindNamed (same-name (row .name) name .0 is)) (row-shows (row .row) field cell (row-exactly (row .row) field (Cell cell) .0 reads)))
   by-name rest cells h false is = behind (kindNamed name) rest (rowNamed rows name) cell cells h
 
 found : (rows : List NamedRow) → Kinded rows → (i : ℕ) (bytes : List ℕ) → readRows i (plain rows) bytes .verdict ≡ Good → (name : Name)

@@ -15,7 +15,8 @@ use Rattle.quote.specs.declared.quote.Order.{Order}
 use Rattle.quote.specs.declared.quote.Quote.{Quote}
 use Rattle.forms.specs.Sizes.{mostRows}
 use Rattle.forms.specs.Forms.{namedRows}
-use Rattle.quote.specs.Quote.{noOrder, mostOrders, orderIn, cellOfPrice, cellOfQuantity, cellOfTurnover, quoteOf, cellsOf}
+use Rattle.quote.specs.Quote.{orderIn, cellOfPrice, cellOfQuantity, cellOfTurnover, quoteOf, cellsOf}
+use Rattle.quote.specs.Shows.{noOrder, mostOrders}
 use Rattle.quote.specs.Inner.{Room, placesOf, putAt, puts, ordersIn, side, quoteAt, orderCells, tradeCells, dayCells, totalCells}
 
 -- ---- a side, order by order

@@ -11,9 +11,10 @@ use Rattle.state.specs.declared.answers.WrittenOff.{WrittenOff}
 use Rattle.quotebox.specs.declared.record.Reading.{Reading}
 use Rattle.state.specs.Answers.{startedNumbers, listedNumbers, writtenOffNumbers, answered, leftBy}
 use Rattle.state.specs.Memory.{Lent}
-use Rattle.quotebox.specs.Start.{startBroken, lentStarted}
-use Rattle.quotebox.specs.Record.{readingNumbers, recordRules, recordOfKey, recordNumber, recordValues, quoteAt, quoteBeside}
-use Rattle.quotebox.specs.Calls.{gapsOfLetter, listRules, listValues, runsPut, writeOffRules, runValues, lowestRun, lentWrittenOff}
+use Rattle.quotebox.specs.StartActs.{startBroken, lentStarted}
+use Rattle.quotebox.specs.Record.{readingNumbers, recordOfKey, recordNumber, recordValues, quoteAt, quoteBeside}
+use Rattle.quotebox.specs.CallRules.{recordRules, gapsOfLetter, listRules, writeOffRules}
+use Rattle.quotebox.specs.Calls.{listValues, runsPut, runValues, lowestRun, lentWrittenOff}
 
 -- 01 "What may be asked": start. "Sequence and gaps": each listed segment begins at its start number; no contract has a record
 pub record StartedBox (lent : Lent) (starts : List ℕ) (answer : Started) (lent′ : Lent) : Type 0 where

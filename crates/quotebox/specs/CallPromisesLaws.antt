@@ -14,25 +14,31 @@ use Rattle.contracts.specs.Lookup.{segmentOf}
 use Rattle.contracts.specs.LookupLaws.{segment-has}
 use Rattle.forms.specs.declared.rows.Level.{Level}
 use Rattle.forms.specs.declared.rows.Level.the-variants.{One, Two}
-use Rattle.sequence.specs.Gaps.{Gaps, wanted, begun, wroteOff}
+use Rattle.sequence.specs.Gaps.{Gaps, wanted}
+use Rattle.sequence.specs.Changes.{begun, wroteOff}
 use Rattle.sequence.specs.GapsLaws.{begun-sound, wroteOff-sound}
-use Rattle.sequence.specs.Row.{gapsOf, flat, laid, soundGapRow}
+use Rattle.sequence.specs.Row.{gapsOf}
+use Rattle.sequence.specs.RowLaid.{flat, laid, soundGapRow}
 use Rattle.sequence.specs.RowLaws.{laid-gaps, laid-sound, length-flat, sound-row-exactly}
 use Rattle.state.specs.declared.refusal.Refusal.{Refusal}
 use Rattle.state.specs.declared.answers.Started.{Started}
 use Rattle.state.specs.declared.answers.Listed.{Listed}
 use Rattle.state.specs.declared.answers.WrittenOff.{WrittenOff}
 use Rattle.quotebox.specs.declared.record.Reading.{Reading}
-use Rattle.state.specs.Memory.{Lent, lends, gapRowCells, gapRowsWanted, gapRowOf, withGapRow}
-use Rattle.state.specs.Slots.{Slot, SlotListed, slotAt, recordsWanted, SameBehind}
+use Rattle.state.specs.Memory.{Lent, lends, gapRowCells, gapRowsWanted, gapRowOf}
+use Rattle.state.specs.MemoryRows.{withGapRow}
+use Rattle.state.specs.Slots.{Slot, SlotListed, recordsWanted, SameBehind}
+use Rattle.state.specs.Places.{slotAt}
 use Rattle.state.specs.SlotsLaws.{slot-inside, slot-some}
 use Rattle.state.specs.RowsLaws.{length-with, row-put, behind-kept, row-kept, sound-with}
 use Rattle.state.specs.State.{segmentRules}
 use Rattle.state.specs.GoodState.{GoodState}
 use Rattle.state.specs.StateLaws.{is-some, state-held, letter-listed, row-there, row-sound}
-use Rattle.quotebox.specs.Start.{startBroken, lentStarted, startOf, startRules, GoodStart, startedRow, startedRows, rowsStarted, recordsCleared}
+use Rattle.quotebox.specs.Start.{startOf, startRules, GoodStart}
+use Rattle.quotebox.specs.StartActs.{startBroken, lentStarted, startedRow, startedRows, rowsStarted, recordsCleared}
 use Rattle.quotebox.specs.StartLaws.{start-exact, started-lengths, started-row}
-use Rattle.quotebox.specs.Calls.{gapsOfLetter, listRules, listValues, runsPut, writeOffRules, runValues, lowestRun, lentWrittenOff}
+use Rattle.quotebox.specs.Calls.{listValues, runsPut, runValues, lowestRun, lentWrittenOff}
+use Rattle.quotebox.specs.CallRules.{gapsOfLetter, listRules, writeOffRules}
 use Rattle.state.specs.Answers.{leftBy}
 use Rattle.quotebox.specs.CallsLaws.{off-left}
 use Rattle.quotebox.specs.CallPromises.{StartedBox, ListedRuns, WroteOffRun, ReadRecord}

@@ -13,9 +13,11 @@ use Rattle.laws.specs.Rules.{firstBroken}
 use Rattle.laws.specs.RulesLaws.{front-broken, last-holds, last-broken}
 use Rattle.laws.specs.Order.{order}
 use Rattle.contracts.specs.Lookup.{segmentOf}
-use Rattle.sequence.specs.Gaps.{Gaps, wanted, wroteOff}
+use Rattle.sequence.specs.Gaps.{Gaps, wanted}
+use Rattle.sequence.specs.Changes.{wroteOff}
 use Rattle.sequence.specs.Answers.{listAnswer, writeOffAnswer, lowest, runsListed}
-use Rattle.sequence.specs.Row.{gapsOf, laid}
+use Rattle.sequence.specs.Row.{gapsOf}
+use Rattle.sequence.specs.RowLaid.{laid}
 use Rattle.sequence.specs.Runs.{Run}
 use Rattle.sequence.specs.Promises.{ListedGaps, WroteOff}
 use Rattle.sequence.specs.declared.GapsListed.{GapsListed as RowListed}
@@ -32,11 +34,13 @@ use Rattle.state.specs.declared.answers.Listed.{Listed}
 use Rattle.state.specs.declared.answers.WrittenOff.{WrittenOff}
 use Rattle.state.specs.Answers.{listedNumbers, answered, leftBy}
 use Rattle.state.specs.Refusals.{Rule, refusalNumbers}
-use Rattle.state.specs.Memory.{Lent, lends, gapRowOf, withGapRow, gapRowIn, gapRowOfLetter, withGapRowIn}
-use Rattle.quotebox.specs.Start.{startBroken, lentStarted, rowsStarted, recordsCleared}
+use Rattle.state.specs.Memory.{Lent, lends, gapRowOf, gapRowIn, gapRowOfLetter}
+use Rattle.state.specs.MemoryRows.{withGapRow, withGapRowIn}
+use Rattle.quotebox.specs.StartActs.{startBroken, lentStarted, rowsStarted, recordsCleared}
 use Rattle.state.specs.State.{segmentRules}
-use Rattle.quotebox.specs.Calls.{gapsOfLetter, listRules, listValues, runsPut, writeOffRules, runValues, lowestRun, lentWrittenOff}
-use Rattle.quotebox.specs.Record.{recordRules, recordOfKey, recordNumber, recordValues, blank, quoteAt, quoteBeside, ReadsAt}
+use Rattle.quotebox.specs.Calls.{listValues, runsPut, runValues, lowestRun, lentWrittenOff}
+use Rattle.quotebox.specs.CallRules.{gapsOfLetter, listRules, writeOffRules, recordRules}
+use Rattle.quotebox.specs.Record.{recordOfKey, recordNumber, recordValues, blank, quoteAt, quoteBeside, ReadsAt}
 use Rattle.quotebox.specs.CallPromises.{StartedBox, ListedRuns, WroteOffRun, ReadRecord}
 
 -- ---- a record

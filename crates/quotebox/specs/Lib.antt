@@ -6,3 +6,5 @@ pub mod Record
 pub mod RecordLaws
 pub mod Start
 pub mod StartLaws
+pub mod StartActs
+pub mod CallRules

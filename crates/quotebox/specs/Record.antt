@@ -1,5 +1,5 @@
--- Reading a record: 01 "What may be asked", and its order of checks.
-use Prim.Native.Nat.{ℕ, _+_, _-_, _<_}
+-- What reading a record answers, as it computes: 01 "What may be asked".
+use Prim.Native.Nat.{ℕ, _+_, _<_}
 use mathlib.Core.Path.{_≡_}
 use mathlib.Core.Bool.{cond}
 use mathlib.Core.List.{List, [], _∷_, _++_}
@@ -15,23 +15,17 @@ use Rattle.quote.specs.declared.quote.Quote.{Quote}
 use Rattle.layout.specs.Cells.{none as noneCell, zerosBehind}
 use Rattle.quote.specs.Quote.{quoteOf}
 use Rattle.contracts.specs.Lookup.{segmentOf}
-use Rattle.message.specs.Head.{isSome}
 use Rattle.message.specs.Message.{keyPlace}
 use Rattle.state.specs.declared.refusal.Refusal.{Refusal}
-use Rattle.state.specs.declared.refusal.Refusal.the-variants.{Contract}
 use Rattle.quotebox.specs.declared.record.Reading.{Reading}
 use Rattle.quotebox.specs.declared.record.Place.{Place}
 use Rattle.quotebox.specs.declared.record.Place.the-variants.{At, Refused}
-use Rattle.state.specs.Refusals.{Rule}
-use Rattle.state.specs.Answers.{recordedNumbers}
+use Rattle.state.specs.Refusals.{refusalNumbers}
+use Rattle.state.specs.Answers.{recordedNumbers, answered}
 use Rattle.state.specs.Memory.{Lent}
-use Rattle.state.specs.Slots.{Slot, contract, slotAt, slotIn, recordRows}
-use Rattle.state.specs.State.{segmentRules}
-
--- 01, the order of checks: "Record: 6, then 13"
-unfoldable pub recordRules : Lent → ℕ → List ℕ → List Rule
-recordRules lent letter key =
-    segmentRules lent letter ++ (record { holds = isSome (keyPlace (lent .list) letter key); refusal = Contract 0 } ∷ [])
+use Rattle.state.specs.Slots.{Slot, contract}
+use Rattle.state.specs.Places.{slotAt, slotIn, recordRows}
+use Rattle.quotebox.specs.CallRules.{recordRules}
 
 -- lent memory: the slot of a key's record of a level, by the key's place in the segment of the letter
 abbrev pub slotThere : List ℕ → ℕ → Level → Option ℕ → Slot
@@ -42,12 +36,16 @@ slotThere list letter level (some place) = slotIn (segmentOf list letter) place 
 unfoldable pub recordOfKey : List ℕ → ℕ → List ℕ → Level → ℕ
 recordOfKey list letter key level = slotAt list (slotThere list letter level (keyPlace list letter key))
 
--- 01, the order of checks: the record's place where no rule is broken, or else the first broken rule's refusal
-abbrev pub Finds : Lent → ℕ → List ℕ → Level → Place → Type 0
-Finds lent letter key level (At at) =
-    (firstBroken (recordRules lent letter key) ≡ none) × (at ≡ recordOfKey (lent .list) letter key level)
-    × (at + recordRows level < length (lent .records))
-Finds lent letter key level (Refused refusal) = firstBroken (recordRules lent letter key) ≡ some refusal
+-- 01, the order of checks: where the record begins that is asked for, or the refusal
+abbrev pub placeNumbers : Place → List ℕ
+placeNumbers (At at) = 0 ∷ at ∷ []
+placeNumbers (Refused refusal) = refusalNumbers refusal
+
+-- 01, the order of checks: the record's place where no rule is broken, and then it stands in lent memory; or else the first
+-- broken rule's refusal
+pub record Finds (lent : Lent) (letter : ℕ) (key : List ℕ) (level : Level) (answer : Place) : Type 0 where
+  pub says : placeNumbers answer ≡ answered (firstBroken (recordRules lent letter key)) (recordOfKey (lent .list) letter key level ∷ [])
+  pub inside : firstBroken (recordRules lent letter key) ≡ none → recordOfKey (lent .list) letter key level + recordRows level < length (lent .records)
 
 -- lent memory: a record begins with its update's number
 abbrev pub recordNumber : List ℕ → ℕ → ℕ

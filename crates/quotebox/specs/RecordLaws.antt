@@ -7,6 +7,7 @@ use mathlib.Core.Option.{Option, none, some}
 use native.Mathlib.Omega.{arith}
 use lib.ListN.{length, take, drop, replicate, length-drop}
 use lib.Seq.{paste, length-take-le}
+use Rattle.laws.specs.Choice.{clash}
 use Rattle.laws.specs.Rules.{firstBroken}
 use Rattle.laws.specs.RulesLaws.{front-broken, last-holds, last-broken}
 use Rattle.contracts.specs.File.{contractsBefore, contractsOf}
@@ -18,16 +19,20 @@ use Rattle.forms.specs.declared.rows.Level.{Level}
 use Rattle.forms.specs.declared.rows.Level.the-variants.{One, Two}
 use Rattle.forms.specs.Forms.{namedRows, rowsOf}
 use Rattle.forms.specs.Sizes.{mostRows, keyRowCount}
-use Rattle.message.specs.Head.{isSome}
+use Rattle.message.specs.Tests.{isSome}
 use Rattle.message.specs.Message.{placeThere, keyPlace}
 use Rattle.state.specs.Memory.{Lent}
-use Rattle.state.specs.Slots.{slotAt, slotIn, recordRows, recordAt, contractCells}
+use Rattle.state.specs.Slots.{contractCells}
+use Rattle.state.specs.Places.{slotAt, slotIn, recordRows, recordAt}
 use Rattle.state.specs.declared.refusal.Refusal.{Refusal}
 use Rattle.state.specs.declared.refusal.Refusal.the-variants.{Contract}
 use Rattle.state.specs.Refusals.{Rule}
+use Rattle.state.specs.AnswersLaws.{accepted-by, refused-by}
 use Rattle.state.specs.State.{segmentRules}
 use Rattle.state.specs.StateLaws.{state-held}
-use Rattle.quotebox.specs.Record.{recordRules, slotThere, recordOfKey, cellsAt}
+use Rattle.quotebox.specs.declared.record.Place.the-variants as place
+use Rattle.quotebox.specs.Record.{slotThere, recordOfKey, Finds, cellsAt}
+use Rattle.quotebox.specs.CallRules.{recordRules}
 
 zeros-behind : (level : Level) → drop {A = ℕ} (keyRowCount + recordRows level) (replicate mostRows 0) ≡ replicate (mostRows - (keyRowCount + recordRows level)) 0
 unfolding recordRows rowsOf namedRows
@@ -88,3 +93,31 @@ module _ (lent : Lent) (letter : ℕ) (key : List ℕ) where
           let cells = state-held lent letter e .records-lent in
           let inside = contract-inside in
           omega (arith, record-inside (contractsBefore (lent .list) i + place) level)
+
+-- ---- the record that is found
+
+module _ (lent : Lent) (letter : ℕ) (key : List ℕ) (level : Level) where
+  abbrev checks : Option Refusal
+  checks = firstBroken (recordRules lent letter key)
+
+  abbrev here : ℕ
+  here = recordOfKey (lent .list) letter key level
+
+  abbrev pub FoundAt : ℕ → Type 0
+  FoundAt at = (checks ≡ none) × (at ≡ here) × (at + recordRows level < length (lent .records))
+
+  pub finds-at : checks ≡ none → {at : ℕ} → at ≡ here → at + recordRows level < length (lent .records) → Finds lent letter key level (place.At at)
+  finds-at e same there = record { says = rw (e, same); inside = λ _. rw (← same) there }
+
+  pub finds-refused : (r : Refusal) → checks ≡ some r → Finds lent letter key level (place.Refused r)
+  finds-refused r e = record { says = rw e; inside = λ n. absurd (clash (cc)) }
+
+module _ {lent : Lent} {letter : ℕ} {key : List ℕ} {level : Level} where
+  pub found-at : {at : ℕ} → Finds lent letter key level (place.At at) → FoundAt lent letter key level at
+  found-at {at} f =
+      let t = accepted-by (checks lent letter key level) (here lent letter key level ∷ []) (at ∷ []) (f .says) in
+      let same : at ≡ here lent letter key level = cc (t .1) in
+      (t .0, same, rw same (f .inside (t .0)))
+
+  pub found-refused : {r : Refusal} → Finds lent letter key level (place.Refused r) → checks lent letter key level ≡ some r
+  found-refused {r} f = refused-by (checks lent letter key level) (here lent letter key level ∷ []) r (f .says)

@@ -15,18 +15,20 @@ use Rattle.laws.specs.RulesLaws.{none-hold}
 use Rattle.laws.specs.Order.{order}
 use Rattle.contracts.specs.BelowLaws.{each-passes, all-pass}
 use Rattle.contracts.specs.File.{segmentsOf}
-use Rattle.contracts.specs.Sound.{sound}
+use Rattle.contracts.specs.SoundTests.{sound}
 use Rattle.contracts.specs.SoundLaws.{sound-exact}
-use Rattle.sequence.specs.Gaps.{begun}
+use Rattle.sequence.specs.Changes.{begun}
 use Rattle.sequence.specs.RowLaws.{laid-length}
 use Rattle.state.specs.declared.refusal.Refusal.the-variants.{Numbering, List as ListOf}
 use Rattle.state.specs.Refusals.{Rule}
-use Rattle.state.specs.Memory.{gapRowCells, gapRowsWanted, gapRowOf, withGapRow}
+use Rattle.state.specs.Memory.{gapRowCells, gapRowsWanted, gapRowOf}
+use Rattle.state.specs.MemoryRows.{withGapRow}
 use Rattle.state.specs.State.{memoryRules}
 use Rattle.state.specs.Slots.{recordsWanted}
 use Rattle.state.specs.RowsLaws.{row-laid, row-behind}
 use Rattle.state.specs.StateLaws.{memory-lent}
-use Rattle.quotebox.specs.Start.{startOf, eachStarts, startRules, GoodStart, startedRow, startedRows}
+use Rattle.quotebox.specs.Start.{startOf, eachStarts, startRules, GoodStart}
+use Rattle.quotebox.specs.StartActs.{startedRow, startedRows}
 
 module _ (list starts : List ℕ) (rows records : ℕ) where
   abbrev numbers : Rule

@@ -3,7 +3,7 @@ ghost use mathlib.Core.Path.{_≡_};
 ghost use Prim.Native.Nat.{_+_, _<_};
 ghost use lib.ListN.{length};
 ghost use Rattle.state.specs.Memory.{lends};
-ghost use Rattle.state.specs.Slots.{recordRows};
+ghost use Rattle.state.specs.Places.{recordRows};
 ghost use Rattle.quotebox.specs.Record.{cellsAt, Finds, blank, ReadsAt};
 ghost use Rattle.quotebox.specs.CallPromises.{ReadRecord};
 use contracts::Found;

@@ -5,8 +5,9 @@ ghost use Prim.Native.Nat.{_*_, _≤_};
 ghost use lib.ListN.{length, drop, replicate};
 ghost use Rattle.laws.specs.Rules.{firstBroken};
 ghost use Rattle.state.specs.Memory.{lends, gapRowCells};
-ghost use Rattle.state.specs.State.{checkedRefusal};
-ghost use Rattle.quotebox.specs.Start.{startOf, eachStarts, startRules, startedRows};
+ghost use Rattle.state.specs.Answers.{checkedNumbers, checkedBy};
+ghost use Rattle.quotebox.specs.Start.{startOf, eachStarts, startRules};
+ghost use Rattle.quotebox.specs.StartActs.{startedRows};
 ghost use Rattle.quotebox.specs.CallPromises.{StartedBox};
 use state::Checked;
 use state::Refusal;
@@ -36,7 +37,7 @@ fn each_starts(starts: &[u32], segments: usize) -> bool
 }
 
 fn check_start(list: &[u8], starts: &[u32], rows: usize, records: usize) -> Checked
-    ensures { λ r. ⌜ checkedRefusal r ≡ firstBroken (startRules (now (list .entry)) (now (starts .entry)) rows records) ⌝ }
+    ensures { λ r. ⌜ checkedNumbers r ≡ checkedBy (firstBroken (startRules (now (list .entry)) (now (starts .entry)) rows records)) ⌝ }
 {
     if !contracts::sound(list) {
         return Checked::Refused(Refusal::List);

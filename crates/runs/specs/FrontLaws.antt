@@ -15,8 +15,9 @@ use Rattle.contracts.specs.File.{segmentsOf}
 use Rattle.contracts.specs.Lookup.{segmentOf}
 use Rattle.contracts.specs.LookupLaws.{segment-has}
 use Rattle.contracts.specs.Sound.{Header}
-use Rattle.sequence.specs.Row.{soundGapRow}
-use Rattle.state.specs.Memory.{Lent, lends, gapRowCells, gapRowsWanted, gapRowOf, withGapRow, gapRowsSound, gapRowIn, gapRowOfLetter, withGapRowIn, withGapRowOfLetter}
+use Rattle.sequence.specs.RowLaid.{soundGapRow}
+use Rattle.state.specs.Memory.{Lent, lends, gapRowCells, gapRowsWanted, gapRowOf, gapRowIn, gapRowOfLetter}
+use Rattle.state.specs.MemoryRows.{withGapRow, gapRowsSound, withGapRowIn, withGapRowOfLetter}
 use Rattle.state.specs.State.{stateRules}
 use Rattle.runs.specs.Rows.{most}
 

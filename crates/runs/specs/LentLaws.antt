@@ -12,7 +12,7 @@ use Rattle.laws.specs.Lists.{take-min, drop-min}
 use Rattle.laws.specs.Order.{order}
 use Rattle.contracts.specs.File.{segmentsOf}
 use Rattle.contracts.specs.HeaderLaws.{header-exact}
-use Rattle.contracts.specs.Sound.{headerSound}
+use Rattle.contracts.specs.SoundTests.{headerSound}
 use Rattle.forms.specs.declared.rows.Level.{Level}
 use Rattle.state.specs.declared.answers.Started.{Started}
 use Rattle.state.specs.declared.answers.Judged.{Judged}

@@ -6,7 +6,7 @@ use mathlib.Core.Bool.{true}
 use mathlib.Core.List.{List}
 use lib.ListN.{length}
 use Rattle.contracts.specs.File.{segmentsOf}
-use Rattle.contracts.specs.Sound.{headerSound, sound}
+use Rattle.contracts.specs.SoundTests.{headerSound, sound}
 use Rattle.forms.specs.declared.rows.Level.{Level}
 use Rattle.state.specs.declared.answers.Started.{Started}
 use Rattle.state.specs.declared.answers.Judged.{Judged}

@@ -12,7 +12,7 @@ use lib.ListN.{length, getD}
 use Rattle.laws.specs.Rules.{firstBroken}
 use Rattle.laws.specs.RulesLaws.{unlike, front-broken}
 use Rattle.contracts.specs.File.{segmentsOf}
-use Rattle.contracts.specs.Sound.{headerSound}
+use Rattle.contracts.specs.SoundTests.{headerSound}
 use Rattle.forms.specs.declared.rows.Level.{Level}
 use Rattle.state.specs.declared.answers.Started.{Started}
 use Rattle.state.specs.declared.answers.Judged.{Judged}
@@ -23,15 +23,16 @@ use Rattle.state.specs.declared.refusal.Refusal.{Refusal}
 use Rattle.state.specs.declared.refusal.Refusal.the-variants.{Memory}
 use Rattle.state.specs.Answers.{startedNumbers, judgedNumbers, listedNumbers, writtenOffNumbers, answered}
 use Rattle.turns.specs.Turns.{actedNumbers}
-use Rattle.batch.specs.Batch.{batchRules, batchActs}
+use Rattle.batch.specs.Batch.{batchRules}
+use Rattle.batch.specs.Acts.{batchActs}
 use Rattle.state.specs.AnswersLaws.{started-told, judged-told, listed-told, written-off-told, recorded-told, refused-by}
-use Rattle.quotebox.specs.Calls.{listRules, writeOffRules}
+use Rattle.quotebox.specs.CallRules.{listRules, writeOffRules, recordRules}
 use Rattle.quotebox.specs.CallPromises.{StartedBox, ListedRuns, WroteOffRun, ReadRecord}
 use Rattle.quotebox.specs.CallPromisesLaws.{one-started, one-listed, one-written-off, one-reading, start-refusal, list-refusal, off-refusal}
 use Rattle.state.specs.Memory.{Lent, lends, gapRowsWanted}
 use Rattle.state.specs.State.{stateRules, memoryRules, segmentRules}
 use Rattle.batch.specs.Promises.{JudgedBatch, TookBatch}
-use Rattle.quotebox.specs.Record.{readingNumbers, recordRules}
+use Rattle.quotebox.specs.Record.{readingNumbers}
 use Rattle.state.specs.Refusals.{Rule, refusalNumbers}
 use Rattle.quotebox.specs.StartLaws.{memory-decides}
 use Rattle.state.specs.StateLaws.{state-broken}

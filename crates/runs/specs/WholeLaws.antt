@@ -14,12 +14,14 @@ use Rattle.laws.specs.Rules.{firstBroken}
 use Rattle.contracts.specs.Lookup.{segmentOf}
 use Rattle.contracts.specs.HeaderLaws.{header-exact}
 use Rattle.contracts.specs.File.{segmentsOf}
-use Rattle.contracts.specs.Sound.{Header, headerSound, sound}
+use Rattle.contracts.specs.Sound.{Header}
+use Rattle.contracts.specs.SoundTests.{headerSound, sound}
 use Rattle.contracts.specs.SoundLaws.{sound-header}
 use Rattle.forms.specs.declared.rows.Level.{Level}
-use Rattle.sequence.specs.Gaps.{Gaps, wanted, wroteOff}
-use Rattle.sequence.specs.Row.{laid}
-use Rattle.message.specs.Head.{isSome}
+use Rattle.sequence.specs.Gaps.{Gaps, wanted}
+use Rattle.sequence.specs.Changes.{wroteOff}
+use Rattle.sequence.specs.RowLaid.{laid}
+use Rattle.message.specs.Tests.{isSome}
 use Rattle.message.specs.Message.{keyPlace}
 use Rattle.state.specs.declared.answers.Started.{Started}
 use Rattle.state.specs.declared.answers.Judged.{Judged}
@@ -30,13 +32,17 @@ use Rattle.state.specs.declared.refusal.Refusal.{Refusal}
 use Rattle.state.specs.declared.refusal.Refusal.the-variants.{Code, Contract, Memory, NoGap, List as ListOf}
 use Rattle.state.specs.Answers.{startedNumbers, judgedNumbers, listedNumbers, writtenOffNumbers, answered, leftBy}
 use Rattle.turns.specs.Turns.{Acted, acted, refused, messagesAct, actedNumbers}
-use Rattle.batch.specs.Batch.{unlessBroken, batchRules, batchActs, batchLetter, countOf, batchData, lentAfter}
-use Rattle.state.specs.Memory.{Lent, lends, withGapRowOfLetter, gapRowOfLetter, gapRowsWanted}
-use Rattle.quotebox.specs.Calls.{gapsOfLetter, listRules, listValues, runsPut, writeOffRules, runValues, lowestRun, lentWrittenOff}
+use Rattle.batch.specs.Batch.{batchRules, batchLetter, countOf, batchData}
+use Rattle.batch.specs.Acts.{unlessBroken, batchActs, lentAfter}
+use Rattle.state.specs.Memory.{Lent, lends, gapRowOfLetter, gapRowsWanted}
+use Rattle.state.specs.MemoryRows.{withGapRowOfLetter}
+use Rattle.quotebox.specs.Calls.{listValues, runsPut, runValues, lowestRun, lentWrittenOff}
+use Rattle.quotebox.specs.CallRules.{gapsOfLetter, listRules, writeOffRules, recordRules}
 use Rattle.quotebox.specs.CallPromises.{StartedBox, ListedRuns, WroteOffRun, ReadRecord}
-use Rattle.quotebox.specs.Record.{readingNumbers, recordRules, recordOfKey, recordNumber, recordValues, quoteAt, quoteBeside}
+use Rattle.quotebox.specs.Record.{readingNumbers, recordOfKey, recordNumber, recordValues, quoteAt, quoteBeside}
 use Rattle.batch.specs.Promises.{JudgedBatch, TookBatch}
-use Rattle.quotebox.specs.Start.{startRules, startBroken, startedRows, rowsStarted, recordsCleared, lentStarted}
+use Rattle.quotebox.specs.Start.{startRules}
+use Rattle.quotebox.specs.StartActs.{startBroken, startedRows, rowsStarted, recordsCleared, lentStarted}
 use Rattle.state.specs.State.{segmentRules}
 use Rattle.state.specs.Refusals.{Rule, refusalNumbers}
 use Rattle.runs.specs.Rows.{most}

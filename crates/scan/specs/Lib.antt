@@ -1,4 +1,5 @@
 pub mod Answers
+pub mod AnswersLaws
 pub mod CapLaws
 pub mod DigitLaws
 pub mod EndsLaws

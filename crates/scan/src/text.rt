@@ -4,6 +4,7 @@ use crate::Number;
 use decimal::Kind;
 ghost use mathlib.Core.Path.{_≡_};
 ghost use Prim.Native.Nat.{_+_, _-_, _*_, _^_, _/_, _%_, _<_};
+ghost use Rattle.scan.specs.Answers.{numberNumbers};
 ghost use Rattle.scan.specs.Read.{readAs, onSpace, onPoint, onDigit, ranged, answer};
 ghost use Rattle.scan.specs.Kept.{cap, phaseOf, fineness, joined, moved, Stepped};
 
@@ -166,7 +167,7 @@ fn scaled(amount: u64, noughts: usize) -> u64
 // An amount that counts the place of the last of so many digits behind the point, in the kind's unit.
 fn ranged(amount: u64, digits: usize, kind: Kind) -> Number
     requires { ⌜ kind .most + 1 < 2 ^ 64 ⌝ }
-    ensures { λ r. ⌜ r ≡ ranged kind amount digits ⌝ }
+    ensures { λ r. ⌜ numberNumbers r ≡ numberNumbers (ranged kind amount digits) ⌝ }
 {
     if digits > kind.places {
         return Number::OutOfRange;
@@ -290,7 +291,7 @@ fn joined(kept: Kept) -> State
 // What the text is when it ends.
 fn answer(state: State, kind: Kind) -> Number
     requires { ⌜ kind .most + 1 < 2 ^ 64 ⌝ }
-    ensures { λ r. ⌜ r ≡ answer kind state ⌝ }
+    ensures { λ r. ⌜ numberNumbers r ≡ numberNumbers (answer kind state) ⌝ }
 {
     match state {
         State::Before => Number::None,
@@ -305,7 +306,7 @@ fn answer(state: State, kind: Kind) -> Number
 // Any width, any kind whose largest amount a cell can hold.
 pub fn read(text: &[u8], kind: Kind) -> Number
     requires { ⌜ kind .most + 1 < 2 ^ 64 ⌝ }
-    ensures { λ r. ⌜ r ≡ readAs kind (now (text .entry)) ⌝ }
+    ensures { λ r. ⌜ numberNumbers r ≡ numberNumbers (readAs kind (now (text .entry))) ⌝ }
 {
     let mut kept = Kept {
         phase: Phase::Before,

@@ -6,9 +6,11 @@ use native.Mathlib.Omega.{arith}
 use borrow.Author.Tests.{le-leb, lt-leb}
 use lib.ListN.{length, take, drop}
 use Rattle.sequence.specs.Runs.{Run, run}
-use Rattle.sequence.specs.Gaps.{withRuns, withoutLowest, wanted}
+use Rattle.sequence.specs.Gaps.{wanted}
+use Rattle.sequence.specs.Changes.{withRuns, withoutLowest}
 use Rattle.sequence.specs.Answers.{listAnswer, writeOffAnswer, lowest, refusedNoGap, writtenOff, runsListed}
-use Rattle.sequence.specs.Row.{cells, head, gapsOf, runsOf, laid}
+use Rattle.sequence.specs.Row.{cells, head, gapsOf, runsOf}
+use Rattle.sequence.specs.RowLaid.{laid}
 use Rattle.sequence.specs.RowLaws.{length-runs, laid-self, flat-runs}
 use Rattle.sequence.specs.Steps.{instead, replaced}
 use Rattle.sequence.specs.Promises.{WroteOff, ListedGaps}

@@ -9,8 +9,10 @@ use lib.ListN.{length, getD, set, take, drop, length-append, length-drop, take-a
 use lib.Seq.{take-at, drop-at, drop-cons, getD-at, append-snoc, length-take-le, take-suc}
 use Rattle.laws.specs.Moves.{stores-at}
 use Rattle.sequence.specs.Runs.{Run, _to_, run}
-use Rattle.sequence.specs.Gaps.{most, withRuns}
-use Rattle.sequence.specs.Row.{cells, cell, flat, count, gapsOf, runsOf, laid, soundGapRow}
+use Rattle.sequence.specs.Gaps.{most}
+use Rattle.sequence.specs.Changes.{withRuns}
+use Rattle.sequence.specs.Row.{cells, count, gapsOf, runsOf}
+use Rattle.sequence.specs.RowLaid.{cell, flat, laid, soundGapRow}
 use Rattle.sequence.specs.RowLaws.{length-flat, flat-append, length-runs, count-runs, parts, sound-row-exactly}
 use Rattle.sequence.specs.Steps.{moved, instead, replaced, divided, Stands}
 

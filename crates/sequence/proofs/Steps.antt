@@ -11,7 +11,8 @@ use lib.ListN.{length, take, drop, take-append-drop}
 use lib.Seq.{drop-cons}
 use Rattle.laws.specs.Tests.{or-true, or-none}
 use Rattle.laws.specs.Order.{order}
-use Rattle.sequence.specs.Runs.{Run, _to_, run, names, missing, span, join, parted, without}
+use Rattle.sequence.specs.Runs.{Run, _to_, run, names, missing}
+use Rattle.sequence.specs.Changes.{span, join, parted, without}
 use Rattle.sequence.specs.Apart.{Apart, none, next}
 use Rattle.sequence.specs.RunsLaws.{names-in, names-above, named, missing-append, meet-apart, no-room, join-last, join-apart}
 use Rattle.sequence.specs.SoundLaws.{at-run}

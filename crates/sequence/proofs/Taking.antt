@@ -7,14 +7,16 @@ use native.Mathlib.Omega.{arith}
 use borrow.Author.Tests.{lt-ltb, le-ltb}
 use lib.ListN.{length, set, length-append}
 use Rattle.laws.specs.Tests.{or-true}
-use Rattle.sequence.specs.Runs.{Run, _to_, run, names, missing, join, parted}
+use Rattle.sequence.specs.Runs.{Run, _to_, run, names, missing}
+use Rattle.sequence.specs.Changes.{join, parted, runsAfter, after, withRuns}
 use Rattle.sequence.specs.Apart.{Apart}
 use Rattle.sequence.specs.RunsLaws.{names-in, named, join-none}
-use Rattle.sequence.specs.Gaps.{Gaps, most, takes, runsAfter, after, withRuns}
+use Rattle.sequence.specs.Gaps.{Gaps, most, takes}
 use Rattle.sequence.specs.Answers.{takeAnswer, took, takenNumbers}
 use Rattle.sequence.specs.GapsLaws.{took-taken, took-full, took-old}
 use Rattle.sequence.specs.SoundLaws.{sound-apart, at-run}
-use Rattle.sequence.specs.Row.{gapsOf, runsOf, laid, soundGapRow}
+use Rattle.sequence.specs.Row.{gapsOf, runsOf}
+use Rattle.sequence.specs.RowLaid.{laid, soundGapRow}
 use Rattle.sequence.specs.RowLaws.{laid-self, sound-row-exactly}
 use Rattle.sequence.proofs.Cells.{sound-stands, length-instead}
 use Rattle.sequence.specs.Steps.{instead, replaced, Placed, Missed, Skipped}

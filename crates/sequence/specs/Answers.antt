@@ -8,8 +8,9 @@ use lib.Dec.{leb}
 use lib.ListN.{length, drop}
 use Rattle.laws.specs.Refused.{gapsNo, memoryNo, noGapNo}
 use Rattle.sequence.specs.Runs.{Run}
-use Rattle.sequence.specs.Gaps.{Gaps, takes, after, full, wanted}
-use Rattle.sequence.specs.Row.{flat}
+use Rattle.sequence.specs.Gaps.{Gaps, takes, wanted}
+use Rattle.sequence.specs.Changes.{after, full}
+use Rattle.sequence.specs.RowLaid.{flat}
 use Rattle.sequence.specs.declared.Taken.{Taken}
 use Rattle.sequence.specs.declared.WriteOff.{WriteOff}
 use Rattle.sequence.specs.declared.WriteOff.the-variants.{Removed, NoGap}

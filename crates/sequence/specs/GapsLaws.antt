@@ -13,11 +13,12 @@ use lib.ListN.{length, getD}
 use Rattle.laws.specs.Tests.{and-false, or-false, same-test}
 use Rattle.laws.specs.Choice.{either}
 use Rattle.laws.specs.Order.{order, same}
-use Rattle.sequence.specs.Runs.{Run, _to_, run, names, missing, runsIn, span, join}
+use Rattle.sequence.specs.Runs.{Run, _to_, run, names, missing, runsIn}
+use Rattle.sequence.specs.Changes.{span, join, begun, runsAfter, after, full, withoutLowest, wroteOff}
 use Rattle.sequence.specs.Apart.{Apart, none, next}
 use Rattle.sequence.specs.RunsLaws.{apart-from, apart-up, none-below, none-above, without-apart, without-itself, without-others, join-none, join-apart, missing-join, names-in, named, same-runs}
 use Rattle.sequence.specs.RunsCountLaws.{runs-counted}
-use Rattle.sequence.specs.Gaps.{Gaps, most, begun, takes, runsAfter, after, full, withoutLowest, wroteOff}
+use Rattle.sequence.specs.Gaps.{Gaps, most, takes}
 use Rattle.sequence.specs.Answers.{writeOffAnswer, lowest, refusedNoGap, writtenOff, takeAnswer, refusedGaps, oneOld, oneTaken, took}
 use Rattle.sequence.specs.Sound.{SoundGaps}
 use Rattle.sequence.specs.SoundLaws.{sound-apart, apart-sound}

@@ -12,3 +12,6 @@ pub mod Answers
 pub mod Steps
 pub mod Promises
 pub mod PromisesLaws
+pub mod SoundTests
+pub mod Changes
+pub mod RowLaid

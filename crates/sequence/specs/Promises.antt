@@ -4,9 +4,10 @@ use Prim.Native.Nat.{ℕ}
 use mathlib.Core.Path.{_≡_}
 use mathlib.Core.List.{List}
 use lib.ListN.{length, replicate}
-use Rattle.sequence.specs.Gaps.{begun, wroteOff}
+use Rattle.sequence.specs.Changes.{begun, wroteOff}
 use Rattle.sequence.specs.Answers.{listAnswer, writeOffAnswer, takeAnswer, took, takenNumbers, writeOffNumbers, listedNumbers, runsListed}
-use Rattle.sequence.specs.Row.{cells, gapsOf, laid}
+use Rattle.sequence.specs.Row.{cells, gapsOf}
+use Rattle.sequence.specs.RowLaid.{laid}
 use Rattle.sequence.specs.declared.Taken.{Taken}
 use Rattle.sequence.specs.declared.WriteOff.{WriteOff}
 use Rattle.sequence.specs.declared.GapsListed.{GapsListed}

@@ -3,9 +3,10 @@ use Prim.Native.Nat.{ℕ, _<_}
 use mathlib.Core.Path.{_≡_, refl}
 use mathlib.Core.Bool.{true}
 use mathlib.Core.List.{List}
-use Rattle.sequence.specs.Gaps.{begun}
+use Rattle.sequence.specs.Changes.{begun}
 use Rattle.sequence.specs.GapsLaws.{begun-sound, took-sound, wroteOff-sound}
-use Rattle.sequence.specs.Row.{gapsOf, soundGapRow}
+use Rattle.sequence.specs.Row.{gapsOf}
+use Rattle.sequence.specs.RowLaid.{soundGapRow}
 use Rattle.sequence.specs.RowLaws.{laid-sound, sound-row-exactly}
 use Rattle.sequence.specs.Promises.{Began, Took, WroteOff}
 use Rattle.sequence.specs.declared.Taken.{Taken}

@@ -14,7 +14,8 @@ use Rattle.sequence.specs.Runs.{Run}
 use Rattle.sequence.specs.Gaps.{Gaps, most, wanted}
 use Rattle.sequence.specs.Sound.{SoundGaps}
 use Rattle.sequence.specs.SoundLaws.{sound-exactly}
-use Rattle.sequence.specs.Row.{cells, head, cell, pairs, flat, count, gapsOf, laid, soundGapRow}
+use Rattle.sequence.specs.Row.{cells, head, pairs, count, gapsOf}
+use Rattle.sequence.specs.RowLaid.{cell, flat, laid, soundGapRow}
 
 -- ---- runs as numbers
 

@@ -12,7 +12,8 @@ use lib.Dec.{leb, ltb}
 use Rattle.laws.specs.Tests.{and-false, and-true, or-false, or-assoc, both, same-test}
 use Rattle.laws.specs.Choice.{either}
 use Rattle.laws.specs.Order.{order}
-use Rattle.sequence.specs.Runs.{Run, _to_, names, missing, span, meet, join, without}
+use Rattle.sequence.specs.Runs.{Run, _to_, names, missing}
+use Rattle.sequence.specs.Changes.{span, meet, join, without}
 use Rattle.sequence.specs.Apart.{Apart, none, next}
 
 -- ---- what runs name

@@ -1,10 +1,7 @@
 -- Sound gaps: 01, the table of refusals, 18.
 use Prim.Native.Nat.{ℕ, suc, _+_, _-_, _≤_, _<_}
-use mathlib.Core.Bool.{Bool, true, _&&_}
-use mathlib.Core.List.{List, [], _∷_}
-use lib.Dec.{leb, ltb}
 use lib.ListN.{length}
-use Rattle.sequence.specs.Runs.{Run, run}
+use Rattle.sequence.specs.Runs.{run}
 use Rattle.sequence.specs.Gaps.{Gaps, most}
 
 -- 01, the table's row 18, given where one of these fails: start not 0, highest not under start - 1, not over 64 runs, no run's
@@ -16,16 +13,3 @@ pub record SoundGaps (g : Gaps) : Type 0 where
   pub proper : (i : ℕ) → i < length (g .runs) → run (g .runs) i .first ≤ run (g .runs) i .last
   pub ascending : (i : ℕ) → suc i < length (g .runs) → run (g .runs) i .last + 1 < run (g .runs) (suc i) .first
   pub inside : (i : ℕ) → i < length (g .runs) → (g .start ≤ run (g .runs) i .first) × (run (g .runs) i .last ≤ g .highest)
-
--- 01, the table's row 18, its runs as a test, which goes through them once: each may begin from a number on, two above the last
--- before it
-abbrev pub soundRuns : ℕ → List Run → ℕ → Bool
-soundRuns from [] highest = true
-soundRuns from (r ∷ rs) highest =
-    leb from (r .first) && leb (r .first) (r .last) && leb (r .last) highest && soundRuns (r .last + 2) rs highest
-
--- 01, the table's row 18, as a test
-abbrev pub soundGaps : Gaps → Bool
-soundGaps g =
-    ltb 0 (g .start) && leb (g .start - 1) (g .highest) && leb (length (g .runs)) most
-    && soundRuns (g .start) (g .runs) (g .highest)

@@ -15,7 +15,8 @@ use Rattle.laws.specs.Tests.{and-false, all-four}
 use Rattle.sequence.specs.Runs.{Run, _to_, run}
 use Rattle.sequence.specs.Apart.{Apart, none, next}
 use Rattle.sequence.specs.Gaps.{Gaps, most}
-use Rattle.sequence.specs.Sound.{SoundGaps, soundRuns, soundGaps}
+use Rattle.sequence.specs.Sound.{SoundGaps}
+use Rattle.sequence.specs.SoundTests.{soundRuns, soundGaps}
 
 -- ---- runs that stand apart, one by one
 

@@ -6,8 +6,10 @@ use mathlib.Core.List.{List, [], _∷_, _++_}
 use lib.ListN.{length, take, drop}
 use lib.Seq.{paste}
 use Rattle.sequence.specs.Runs.{Run, _to_, run, names, missing}
-use Rattle.sequence.specs.Gaps.{most, withRuns}
-use Rattle.sequence.specs.Row.{cells, count, gapsOf, runsOf, laid, soundGapRow}
+use Rattle.sequence.specs.Gaps.{most}
+use Rattle.sequence.specs.Changes.{withRuns}
+use Rattle.sequence.specs.Row.{cells, count, gapsOf, runsOf}
+use Rattle.sequence.specs.RowLaid.{laid, soundGapRow}
 use Rattle.sequence.specs.declared.late.Place.{Place}
 use Rattle.sequence.specs.declared.late.Place.the-variants.{At, Nowhere}
 

@@ -6,7 +6,8 @@ use crate::runs;
 ghost use mathlib.Core.Path.{_≡_};
 ghost use mathlib.Core.Bool.{true};
 ghost use Prim.Native.Nat.{_≤_};
-ghost use Rattle.sequence.specs.Row.{gapsOf, runsOf, soundGapRow};
+ghost use Rattle.sequence.specs.Row.{gapsOf, runsOf};
+ghost use Rattle.sequence.specs.RowLaid.{soundGapRow};
 ghost use Rattle.sequence.specs.Steps.{Placed, Missed};
 ghost use Rattle.sequence.specs.Promises.{Took};
 

@@ -9,8 +9,9 @@ ghost use mathlib.Core.List.{_++_};
 ghost use Prim.Native.Nat.{_+_, _*_, _≤_};
 ghost use lib.ListN.{length, take, drop};
 ghost use Rattle.sequence.specs.Gaps.{most};
-ghost use Rattle.sequence.specs.Sound.{soundRuns};
-ghost use Rattle.sequence.specs.Row.{cells, head, gapsOf, runsOf, soundGapRow};
+ghost use Rattle.sequence.specs.SoundTests.{soundRuns};
+ghost use Rattle.sequence.specs.Row.{cells, head, gapsOf, runsOf};
+ghost use Rattle.sequence.specs.RowLaid.{soundGapRow};
 ghost use Rattle.sequence.specs.Promises.{Began, Took, WroteOff, ListedGaps};
 
 // The numbers of a row, and how many runs it has room for.

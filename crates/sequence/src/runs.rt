@@ -8,8 +8,10 @@ ghost use mathlib.Core.List.{[], _∷_, _++_};
 ghost use Prim.Native.Nat.{_+_, _-_, _≤_, _<_};
 ghost use lib.ListN.{length};
 ghost use Rattle.sequence.specs.Runs.{_to_, run};
-ghost use Rattle.sequence.specs.Gaps.{most, withRuns};
-ghost use Rattle.sequence.specs.Row.{cells, count, gapsOf, runsOf, laid};
+ghost use Rattle.sequence.specs.Gaps.{most};
+ghost use Rattle.sequence.specs.Changes.{withRuns};
+ghost use Rattle.sequence.specs.Row.{cells, count, gapsOf, runsOf};
+ghost use Rattle.sequence.specs.RowLaid.{laid};
 ghost use Rattle.sequence.specs.Steps.{moved, replaced, divided, Stands};
 
 // How many runs stand.

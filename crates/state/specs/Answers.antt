@@ -1,4 +1,5 @@
--- The answers of the public calls by document 01's numbers: 0 and the values of an accepted call, or a refusal's.
+-- The answers of the public calls, and of the checks before them, by document 01's numbers: 0 and the values of what is
+-- accepted, or a refusal's.
 use Prim.Native.Nat.{ℕ}
 use mathlib.Core.List.{List, [], _∷_}
 use mathlib.Core.Option.{Option, none, some}
@@ -9,6 +10,8 @@ use Rattle.state.specs.declared.answers.Listed.{Listed}
 use Rattle.state.specs.declared.answers.WrittenOff.{WrittenOff}
 use Rattle.state.specs.declared.answers.Recorded.{Recorded}
 use Rattle.state.specs.declared.answers.Written.{Written}
+use Rattle.state.specs.declared.state.Checked.{Checked}
+use Rattle.state.specs.declared.state.Asked.{Asked}
 use Rattle.state.specs.Refusals.{refusalNumbers}
 
 -- 01 "What may be asked": start, which answers nothing more
@@ -42,10 +45,24 @@ abbrev pub writtenNumbers : Written → List ℕ
 writtenNumbers (Written.Message length) = 0 ∷ length ∷ []
 writtenNumbers (Written.Refused refusal) = refusalNumbers refusal
 
+-- 01, the order of checks: one that refuses nothing answers nothing more
+abbrev pub checkedNumbers : Checked → List ℕ
+checkedNumbers Checked.Good = 0 ∷ []
+checkedNumbers (Checked.Refused refusal) = refusalNumbers refusal
+
+-- 01, the order of checks: the segment that is asked for, by its place in the list
+abbrev pub askedNumbers : Asked → List ℕ
+askedNumbers (Asked.Segment segment) = 0 ∷ segment ∷ []
+askedNumbers (Asked.Refused refusal) = refusalNumbers refusal
+
 -- 01, the table of refusals: the numbers of the first broken rule's refusal, or else 0 and the values of an accepted call
 abbrev pub answered : Option Refusal → List ℕ → List ℕ
 answered (some refusal) values = refusalNumbers refusal
 answered none values = 0 ∷ values
+
+-- 01, the table of refusals: the numbers of a check, which answers no values
+abbrev pub checkedBy : Option Refusal → List ℕ
+checkedBy refusal = answered refusal []
 
 -- 01 "What may be asked": "A refusal leaves all lent memory as before"
 abbrev pub leftBy : {A : Type 0} → Option Refusal → A → A → A

@@ -2,10 +2,11 @@
 use Prim.Native.Nat.{ℕ}
 use mathlib.Core.Path.{_≡_, refl, sym, ap}
 use mathlib.Core.Bool.{cond}
-use mathlib.Core.List.{List, _∷_}
+use mathlib.Core.List.{List, [], _∷_}
 use mathlib.Core.Option.{Option, none, some}
 use lib.Dec.{eqb}
 use lib.ListN.{getD}
+use Rattle.laws.specs.Told.{told}
 use Rattle.state.specs.declared.refusal.Refusal.{Refusal}
 use Rattle.state.specs.declared.answers.Judged.{Judged}
 use Rattle.state.specs.declared.answers.Started.{Started}
@@ -13,9 +14,11 @@ use Rattle.state.specs.declared.answers.Listed.{Listed}
 use Rattle.state.specs.declared.answers.WrittenOff.{WrittenOff}
 use Rattle.state.specs.declared.answers.Recorded.{Recorded}
 use Rattle.state.specs.declared.answers.Written.{Written}
+use Rattle.state.specs.declared.state.Checked.{Checked}
+use Rattle.state.specs.declared.state.Checked.the-variants as checked
 use Rattle.state.specs.Refusals.{refusalNumbers}
-use Rattle.state.specs.RefusalsLaws.{told, refusalOf, accepts, refusal-back, refusal-told, never}
-use Rattle.state.specs.Answers.{judgedNumbers, startedNumbers, listedNumbers, writtenOffNumbers, recordedNumbers, writtenNumbers, answered}
+use Rattle.state.specs.RefusalsLaws.{refusalOf, accepts, refusal-back, refusal-told, never}
+use Rattle.state.specs.Answers.{judgedNumbers, startedNumbers, listedNumbers, writtenOffNumbers, recordedNumbers, writtenNumbers, checkedNumbers, answered, checkedBy}
 
 -- ---- which rule was broken
 
@@ -28,6 +31,17 @@ refused-by (some s) values r e = ap some (refusal-told s r (sym e))
 pub accepted-by : (o : Option Refusal) (values answer : List ℕ) → 0 ∷ answer ≡ answered o values → (o ≡ none) × (answer ≡ values)
 accepted-by none values answer e = (refl, (cc))
 accepted-by (some s) values answer e = absurd (never s answer (sym e))
+
+-- ---- checks
+
+-- the refusal that a check answers, where there is one
+abbrev pub checkedRefusal : Checked → Option Refusal
+checkedRefusal checked.Good = none
+checkedRefusal (checked.Refused refusal) = some refusal
+
+pub checked-told : (c : Checked) (o : Option Refusal) → checkedNumbers c ≡ checkedBy o → checkedRefusal c ≡ o
+checked-told checked.Good o e = sym (accepted-by o [] [] e .0)
+checked-told (checked.Refused r) o e = sym (refused-by o [] r e)
 
 -- ---- answers
 

@@ -6,7 +6,7 @@ use mathlib.Core.List.{List}
 use lib.ListN.{length}
 use Rattle.contracts.specs.File.{segmentsOf}
 use Rattle.contracts.specs.Sound.{Header}
-use Rattle.sequence.specs.Row.{soundGapRow}
+use Rattle.sequence.specs.RowLaid.{soundGapRow}
 use Rattle.state.specs.Memory.{Lent, gapRowsWanted, gapRowOf}
 use Rattle.state.specs.Slots.{recordsWanted}
 

@@ -9,3 +9,5 @@ pub mod State
 pub mod GoodState
 pub mod StateLaws
 pub mod SlotsLaws
+pub mod Places
+pub mod MemoryRows

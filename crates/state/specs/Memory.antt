@@ -1,13 +1,11 @@
 -- Lent memory: the contract list, gap rows of 132 numbers a listed segment, and records (`Slots`); all in list order.
-use Prim.Native.Nat.{ℕ, _+_, _*_}
-use mathlib.Core.Bool.{Bool}
-use mathlib.Core.List.{List, [], _++_}
+use Prim.Native.Nat.{ℕ, _*_}
+use mathlib.Core.List.{List, []}
 use mathlib.Core.Option.{Option, none, some}
 use lib.ListN.{take, drop}
-use Rattle.contracts.specs.Below.{allBelow}
 use Rattle.contracts.specs.File.{segmentsOf}
 use Rattle.contracts.specs.Lookup.{segmentOf}
-use Rattle.sequence.specs.Row.{cells, soundGapRow}
+use Rattle.sequence.specs.Row.{cells}
 
 -- 01 "What may be asked": what a call is lent: "Calls after start are handed the list, gap rows and records again"
 pub record Lent : Type 0 where
@@ -31,14 +29,6 @@ gapRowsWanted list = gapRowCells * segmentsOf list
 abbrev pub gapRowOf : List ℕ → ℕ → List ℕ
 gapRowOf rows i = take gapRowCells (drop (gapRowCells * i) rows)
 
--- lent memory: the gap rows with another row in the place of segment i's
-abbrev pub withGapRow : List ℕ → ℕ → List ℕ → List ℕ
-withGapRow rows i row = take (gapRowCells * i) rows ++ row ++ drop (gapRowCells * i + gapRowCells) rows
-
--- 01, the table's row 18: every listed segment's gap row is sound
-abbrev pub gapRowsSound : ℕ → List ℕ → Bool
-gapRowsSound n rows = allBelow n (λ i. soundGapRow (gapRowOf rows i))
-
 -- lent memory: the gap row of a segment, where there is one
 abbrev pub gapRowIn : List ℕ → Option ℕ → List ℕ
 gapRowIn rows none = []
@@ -47,12 +37,3 @@ gapRowIn rows (some segment) = gapRowOf rows segment
 -- lent memory: the gap row of the segment that has the letter
 abbrev pub gapRowOfLetter : List ℕ → ℕ → List ℕ → List ℕ
 gapRowOfLetter list letter rows = gapRowIn rows (segmentOf list letter)
-
--- lent memory: the gap rows with another row for a segment, and as they are where there is none
-abbrev pub withGapRowIn : List ℕ → List ℕ → Option ℕ → List ℕ
-withGapRowIn rows row none = rows
-withGapRowIn rows row (some segment) = withGapRow rows segment row
-
--- lent memory: the gap rows with another row for the segment that has the letter
-abbrev pub withGapRowOfLetter : List ℕ → ℕ → List ℕ → List ℕ → List ℕ
-withGapRowOfLetter list letter rows row = withGapRowIn rows row (segmentOf list letter)

@@ -1,6 +1,7 @@
 -- 01, the table of refusals.
 use Prim.Native.Nat.{ℕ}
 use mathlib.Core.List.{List, [], _∷_}
+use lib.ListN.{getD}
 use Rattle.laws.specs.Rules.{Rule as RuleOf}
 use Rattle.laws.specs.Refused.{sizeNo, packedNo, flagNo, countNo, frameNo, codeNo, trailerNo, lengthNo, checksumNo, numberingNo, fieldNo, rangeNo, contractNo, gapsNo, memoryNo, listNo, noGapNo, stateNo}
 use Rattle.message.specs.declared.head.Fault.{Fault}
@@ -40,6 +41,10 @@ ofFault fault.Numbering i = Numbering i
 ofFault (fault.Field row) i = Field i row
 ofFault (fault.Range row) i = Range i row
 ofFault fault.Contract i = Contract i
+
+-- 01, the table of refusals: the numbers of a message's fault, with the message's place in the batch
+abbrev pub inMessage : ℕ → List ℕ → List ℕ
+inMessage i fault = getD fault 0 0 ∷ i ∷ getD fault 1 0 ∷ 0 ∷ []
 
 -- a word of our own: a rule, and the refusal of what breaks it
 abbrev pub Rule : Type 0

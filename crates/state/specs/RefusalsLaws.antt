@@ -6,14 +6,13 @@ use mathlib.Core.List.{List, _∷_}
 use native.Mathlib.Omega.{arith}
 use lib.Dec.{eqb}
 use lib.ListN.{getD}
+use Rattle.laws.specs.Told.{told}
 use Rattle.state.specs.declared.refusal.Refusal.{Refusal}
 use Rattle.state.specs.declared.refusal.Refusal.the-variants.{Size, Packed, Flag, Count, Frame, Code, Trailer, Length, Checksum, Numbering, Field, Range, Contract, Gaps, Memory, List as ListOf, NoGap, State}
-use Rattle.state.specs.Refusals.{refusalNumbers}
-
--- a way back makes values with the same numbers the same
-module _ {A : Type 0} (numbers : A → List ℕ) (back : List ℕ → A) (again : (a : A) → back (numbers a) ≡ a) where
-  pub told : (a b : A) → numbers a ≡ numbers b → a ≡ b
-  told a b e = sym (again a) ∙ (ap back e ∙ again b)
+use Rattle.message.specs.declared.head.Fault.{Fault}
+use Rattle.message.specs.declared.head.Fault.the-variants as fault
+use Rattle.message.specs.Numbers.{faultNumbers}
+use Rattle.state.specs.Refusals.{refusalNumbers, ofFault, inMessage}
 
 -- the refusal of a number, with its message, row and cells wanted
 abbrev numbered : ℕ → ℕ → ℕ → ℕ → Refusal
@@ -54,6 +53,21 @@ refusal-back State = (refl, refl)
 
 pub refusal-told : (r s : Refusal) → refusalNumbers r ≡ refusalNumbers s → r ≡ s
 refusal-told = told refusalNumbers refusalOf (λ r. refusal-back r .0)
+
+-- a fault's refusal has the fault's own number and row
+pub fault-numbers : (f : Fault) (i : ℕ) → refusalNumbers (ofFault f i) ≡ inMessage i (faultNumbers f)
+fault-numbers fault.Frame i = refl
+fault-numbers fault.Code i = refl
+fault-numbers fault.Trailer i = refl
+fault-numbers fault.Length i = refl
+fault-numbers fault.Checksum i = refl
+fault-numbers fault.Numbering i = refl
+fault-numbers (fault.Field row) i = refl
+fault-numbers (fault.Range row) i = refl
+fault-numbers fault.Contract i = refl
+
+pub fault-told : (r : Refusal) (f : Fault) (i : ℕ) → refusalNumbers r ≡ inMessage i (faultNumbers f) → r ≡ ofFault f i
+fault-told r f i e = refusal-told r (ofFault f i) (e ∙ sym (fault-numbers f i))
 
 -- no refusal's numbers are an accepted call's
 pub never : (r : Refusal) (values : List ℕ) → refusalNumbers r ≡ 0 ∷ values → ⊥

@@ -1,16 +1,18 @@
 -- Laws of lent memory: a gap row put in its place is the only one that changes.
 use Prim.Native.Nat.{ℕ, _+_, _-_, _*_, _≤_, _<_}
-use mathlib.Core.Path.{_≡_, ap, ap₂, sym, _∙_}
+use mathlib.Core.Path.{_≡_, refl, ap, ap₂, sym, _∙_}
 use mathlib.Core.List.{List, _++_, append-assoc}
 use mathlib.Core.Bool.{true}
 use mathlib.Core.Logic.{⊎-elim}
+use mathlib.Core.Option.{Option, none, some}
 use native.Mathlib.Omega.{arith}
-use lib.ListN.{length, take, drop, length-append, length-drop}
+use lib.ListN.{length, take, drop, length-append, length-drop, take-append-drop}
 use lib.Seq.{take-at, drop-at, drop-drop, length-take-le, drop-append-le, take-append-le, drop-append-add}
 use Rattle.laws.specs.Order.{order, same}
 use Rattle.laws.specs.Lists.{part-of-front}
-use Rattle.sequence.specs.Row.{soundGapRow}
-use Rattle.state.specs.Memory.{gapRowCells, gapRowOf, withGapRow}
+use Rattle.sequence.specs.RowLaid.{soundGapRow}
+use Rattle.state.specs.Memory.{gapRowCells, gapRowOf, gapRowIn}
+use Rattle.state.specs.MemoryRows.{withGapRow, withGapRowIn}
 
 -- a row laid behind those before it
 pub row-laid : (before d row : List ℕ) (i : ℕ) → length before ≡ gapRowCells * i
@@ -78,3 +80,16 @@ module _ (rows : List ℕ) (i : ℕ) (row : List ℕ) (room : gapRowCells * i + 
       → soundGapRow (gapRowOf (withGapRow rows i row) j) ≡ true
   sound-with n each sound j h =
       ⊎-elim (λ (e : j ≡ i). rw (e, row-put) sound) (λ (d : j ≡ i → ⊥). ap soundGapRow (row-kept j d) ∙ each j h) (same j i)
+
+-- a segment's gap row, put back as it was
+row-back : (rows : List ℕ) (i : ℕ) → withGapRow rows i (gapRowOf rows i) ≡ rows
+row-back rows i =
+    let at : ℕ = gapRowCells * i in
+    append-assoc (take at rows) (gapRowOf rows i) (drop (at + gapRowCells) rows)
+    ∙ ap (λ (r : List ℕ). take at rows ++ (gapRowOf rows i ++ r)) (sym (drop-drop gapRowCells at rows))
+    ∙ ap (λ (r : List ℕ). take at rows ++ r) (take-append-drop gapRowCells (drop at rows))
+    ∙ take-append-drop at rows
+
+pub rows-back : (rows : List ℕ) (segment : Option ℕ) → withGapRowIn rows (gapRowIn rows segment) segment ≡ rows
+rows-back rows none = refl
+rows-back rows (some i) = row-back rows i

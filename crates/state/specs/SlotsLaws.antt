@@ -17,7 +17,8 @@ use Rattle.forms.specs.declared.forms.Form.the-variants.{Heartbeat, LevelOne, L
 use Rattle.forms.specs.declared.forms.Subject.the-variants.{Contract}
 use Rattle.forms.specs.Forms.{namedRows, rowsOf, recordForm, subjectOf}
 use Rattle.forms.specs.Sizes.{mostRows, keyRowCount}
-use Rattle.state.specs.Slots.{Slot, contract, SlotListed, slotAt, slotCells, recordsWanted, recordOf, recordRows, recordAt, levelCells, contractCells}
+use Rattle.state.specs.Slots.{Slot, contract, SlotListed, recordsWanted, levelCells, contractCells}
+use Rattle.state.specs.Places.{slotAt, slotCells, recordOf, recordRows, recordAt}
 
 pub rows-few : (level : Level) → recordRows level ≤ 32
 unfolding recordRows rowsOf namedRows

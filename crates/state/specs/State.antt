@@ -8,22 +8,15 @@ use lib.ListN.{length}
 use Rattle.laws.specs.Rules.{firstBroken}
 use Rattle.contracts.specs.File.{segmentsOf}
 use Rattle.contracts.specs.Lookup.{segmentOf}
-use Rattle.contracts.specs.Sound.{headerSound}
-use Rattle.message.specs.Head.{isSome}
-use Rattle.state.specs.declared.refusal.Refusal.{Refusal}
+use Rattle.contracts.specs.SoundTests.{headerSound}
+use Rattle.message.specs.Tests.{isSome}
 use Rattle.state.specs.declared.refusal.Refusal.the-variants.{Code, Memory, List as ListOf, State}
-use Rattle.state.specs.declared.state.Checked.{Checked}
-use Rattle.state.specs.declared.state.Checked.the-variants as checked
 use Rattle.state.specs.declared.state.Asked.{Asked}
-use Rattle.state.specs.declared.state.Asked.the-variants as asked
 use Rattle.state.specs.Refusals.{Rule}
-use Rattle.state.specs.Memory.{Lent, gapRowsWanted, gapRowsSound}
+use Rattle.state.specs.Answers.{askedNumbers, answered}
+use Rattle.state.specs.Memory.{Lent, gapRowsWanted}
+use Rattle.state.specs.MemoryRows.{gapRowsSound}
 use Rattle.state.specs.Slots.{recordsWanted}
-
--- 01, the table of refusals: the refusal that a check answers, where there is one
-abbrev pub checkedRefusal : Checked → Option Refusal
-checkedRefusal checked.Good = none
-checkedRefusal (checked.Refused refusal) = some refusal
 
 -- 01, the table's row 15 for so many cells lent: "Where both are short, 15 names the gap rows and not the records"
 abbrev pub memoryRules : List ℕ → ℕ → ℕ → List Rule
@@ -44,8 +37,12 @@ unfoldable pub segmentRules : Lent → ℕ → List Rule
 segmentRules lent letter =
     stateRules lent ++ (record { holds = isSome (segmentOf (lent .list) letter); refusal = Code 0 } ∷ [])
 
+-- 01, the order of checks: the segment of a letter, where it is listed
+abbrev pub segmentValues : Option ℕ → List ℕ
+segmentValues none = []
+segmentValues (some segment) = segment ∷ []
+
 -- 01, the order of checks: the segment of the letter where no rule is broken, or the first broken rule's refusal
 abbrev pub Asks : Lent → ℕ → Asked → Type 0
-Asks lent letter (asked.Segment segment) =
-    (firstBroken (segmentRules lent letter) ≡ none) × (segmentOf (lent .list) letter ≡ some segment)
-Asks lent letter (asked.Refused refusal) = firstBroken (segmentRules lent letter) ≡ some refusal
+Asks lent letter answer =
+    askedNumbers answer ≡ answered (firstBroken (segmentRules lent letter)) (segmentValues (segmentOf (lent .list) letter))

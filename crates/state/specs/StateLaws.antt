@@ -10,21 +10,23 @@ use borrow.Author.Tests.{le-leb, leb-true}
 use lib.ListN.{length}
 use Rattle.laws.specs.Rules.{firstBroken, Hold}
 use Rattle.laws.specs.RulesLaws.{none-hold, hold-none, front-broken, last-holds, last-broken, last-held}
-use Rattle.contracts.specs.Below.{sumBelow}
+use Rattle.contracts.specs.File.{sumBelow, segmentsOf, countAt, contractsOf}
 use Rattle.contracts.specs.BelowLaws.{each-passes, all-pass, sum-same}
-use Rattle.contracts.specs.File.{segmentsOf, countAt, contractsOf}
 use Rattle.contracts.specs.FileLaws.{before-sum}
 use Rattle.contracts.specs.HeaderLaws.{header-exact}
 use Rattle.contracts.specs.Lookup.{segmentOf}
 use Rattle.contracts.specs.LookupLaws.{segment-has}
-use Rattle.contracts.specs.Sound.{headerSound}
-use Rattle.sequence.specs.Row.{soundGapRow}
-use Rattle.message.specs.Head.{isSome}
+use Rattle.contracts.specs.SoundTests.{headerSound}
+use Rattle.sequence.specs.RowLaid.{soundGapRow}
+use Rattle.message.specs.Tests.{isSome}
 use Rattle.state.specs.declared.refusal.Refusal.{Refusal}
 use Rattle.state.specs.declared.refusal.Refusal.the-variants.{Code, List as ListOf, State}
+use Rattle.state.specs.declared.state.Asked.the-variants as asked
 use Rattle.state.specs.Refusals.{Rule}
-use Rattle.state.specs.Memory.{Lent, gapRowCells, gapRowsWanted, gapRowOf, gapRowsSound}
-use Rattle.state.specs.State.{stateRules, memoryRules, segmentRules}
+use Rattle.state.specs.Memory.{Lent, gapRowCells, gapRowsWanted, gapRowOf}
+use Rattle.state.specs.MemoryRows.{gapRowsSound}
+use Rattle.state.specs.AnswersLaws.{accepted-by, refused-by}
+use Rattle.state.specs.State.{stateRules, memoryRules, segmentRules, segmentValues, Asks}
 use Rattle.state.specs.Slots.{recordsWanted, contractCells}
 use Rattle.state.specs.GoodState.{GoodState}
 
@@ -53,6 +55,14 @@ memory-lent list rows records h = (leb-true (gapRowsWanted list) rows (h .0), le
 pub is-some : (o : Option ℕ) → isSome o ≡ true → (i : ℕ) × (o ≡ some i)
 is-some none e = absurd (true≢false (sym e))
 is-some (some i) e = (i, refl)
+
+one-value : (o : Option ℕ) (i : ℕ) → i ∷ [] ≡ segmentValues o → o ≡ some i
+one-value none i e = cc
+one-value (some j) i e = cc
+
+-- a segment that may be asked for
+abbrev pub AskedFor : Lent → ℕ → ℕ → Type 0
+AskedFor lent letter i = (firstBroken (segmentRules lent letter) ≡ none) × (segmentOf (lent .list) letter ≡ some i)
 
 module _ (lent : Lent) where
   abbrev soundness : Rule
@@ -135,6 +145,22 @@ module _ (lent : Lent) where
     pub letter-listed : firstBroken (segmentRules lent letter) ≡ none → isSome (segmentOf (lent .list) letter) ≡ true
     unfolding segmentRules
     letter-listed e = last-held (stateRules lent) listed e .1
+
+    -- what is answered of it
+
+    pub asks-segment : firstBroken (segmentRules lent letter) ≡ none → (i : ℕ) → segmentOf (lent .list) letter ≡ some i → Asks lent letter (asked.Segment i)
+    asks-segment e i s = rw (e, s)
+
+    pub asks-refused : (r : Refusal) → firstBroken (segmentRules lent letter) ≡ some r → Asks lent letter (asked.Refused r)
+    asks-refused r e = rw e
+
+    pub asked-segment : (i : ℕ) → Asks lent letter (asked.Segment i) → AskedFor lent letter i
+    asked-segment i a =
+        let t = accepted-by (firstBroken (segmentRules lent letter)) (segmentValues (segmentOf (lent .list) letter)) (i ∷ []) a in
+        (t .0, one-value (segmentOf (lent .list) letter) i (t .1))
+
+    pub asked-refused : (r : Refusal) → Asks lent letter (asked.Refused r) → firstBroken (segmentRules lent letter) ≡ some r
+    asked-refused r a = refused-by (firstBroken (segmentRules lent letter)) (segmentValues (segmentOf (lent .list) letter)) r a
 
     -- the row of a segment that is asked for is there, and sound
     module _ (e : firstBroken (segmentRules lent letter) ≡ none) (i : ℕ) (s : segmentOf (lent .list) letter ≡ some i) where

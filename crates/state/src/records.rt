@@ -1,7 +1,7 @@
 // Where a contract's records stand in lent memory.
 ghost use mathlib.Core.Path.{_≡_};
 ghost use Prim.Native.Nat.{_<_};
-ghost use Rattle.state.specs.Slots.{recordRows, recordAt};
+ghost use Rattle.state.specs.Places.{recordRows, recordAt};
 use layout::Level;
 
 // The cells of a contract's records: a number, then a cell a row; level 1, and behind it level 2, which has the most.

@@ -1,6 +1,7 @@
 // Every refusal of document 01's table, with what it returns besides its number.
 ghost use mathlib.Core.Path.{_≡_};
-ghost use Rattle.state.specs.Refusals.{ofFault, refusalNumbers};
+ghost use Rattle.message.specs.Numbers.{faultNumbers};
+ghost use Rattle.state.specs.Refusals.{inMessage, refusalNumbers};
 use message::Fault;
 
 pub enum Refusal {
@@ -29,7 +30,7 @@ pub enum Refusal {
 
 // What is wrong with message i.
 pub fn of_fault(fault: Fault, i: usize) -> Refusal
-    ensures { λ r. ⌜ r ≡ ofFault fault i ⌝ }
+    ensures { λ r. ⌜ refusalNumbers r ≡ inMessage i (faultNumbers fault) ⌝ }
 {
     match fault {
         Fault::Frame => Refusal::Frame(i),

@@ -2,7 +2,8 @@
 ghost use mathlib.Core.Path.{_≡_};
 ghost use Prim.Native.Nat.{_+_, _*_, _≤_};
 ghost use lib.ListN.{length};
-ghost use Rattle.state.specs.Memory.{gapRowCells, gapRowOf, withGapRow};
+ghost use Rattle.state.specs.Memory.{gapRowCells, gapRowOf};
+ghost use Rattle.state.specs.MemoryRows.{withGapRow};
 use sequence::CELLS;
 
 // A segment's gap row, laid over another.

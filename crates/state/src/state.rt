@@ -3,8 +3,10 @@ ghost use mathlib.Core.Path.{_≡_};
 ghost use Prim.Native.Nat.{_*_, _≤_};
 ghost use lib.ListN.{length};
 ghost use Rattle.laws.specs.Rules.{firstBroken};
-ghost use Rattle.state.specs.Memory.{lends, gapRowCells, gapRowsSound};
-ghost use Rattle.state.specs.State.{stateRules, memoryRules, checkedRefusal, Asks};
+ghost use Rattle.state.specs.Memory.{lends, gapRowCells};
+ghost use Rattle.state.specs.MemoryRows.{gapRowsSound};
+ghost use Rattle.state.specs.Answers.{checkedNumbers, checkedBy};
+ghost use Rattle.state.specs.State.{stateRules, memoryRules, Asks};
 use crate::records;
 use crate::refusal::Refusal;
 use contracts::Found;
@@ -22,7 +24,7 @@ pub enum Asked {
 
 // 15 for gap rows and then for records, by the numbers of cells lent.
 pub fn check_memory(list: &[u8], rows: usize, records: usize) -> Checked
-    ensures { λ r. ⌜ checkedRefusal r ≡ firstBroken (memoryRules (now (list .entry)) rows records) ⌝ }
+    ensures { λ r. ⌜ checkedNumbers r ≡ checkedBy (firstBroken (memoryRules (now (list .entry)) rows records)) ⌝ }
 {
     let rows_wanted = sequence::CELLS * contracts::segments(list);
     if rows < rows_wanted {
@@ -53,7 +55,7 @@ fn rows_sound(rows: &[u32], segments: usize) -> bool
 }
 
 pub fn check_state(list: &[u8], rows: &[u32], records: &[u64]) -> Checked
-    ensures { λ r. ⌜ checkedRefusal r ≡ firstBroken (stateRules (lends (now (list .entry)) (now (rows .entry)) (now (records .entry)))) ⌝ }
+    ensures { λ r. ⌜ checkedNumbers r ≡ checkedBy (firstBroken (stateRules (lends (now (list .entry)) (now (rows .entry)) (now (records .entry))))) ⌝ }
 {
     if !contracts::header_sound(list) {
         return Checked::Refused(Refusal::List);

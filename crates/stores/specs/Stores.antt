@@ -8,7 +8,8 @@ use lib.Seq.{sets}
 use Rattle.forms.specs.declared.rows.Level.the-variants.{Two}
 use Rattle.forms.specs.declared.forms.Subject.{Subject}
 use Rattle.forms.specs.declared.forms.Subject.the-variants.{Nothing, Contract}
-use Rattle.state.specs.Slots.{levelCells, recordAt, recordOf}
+use Rattle.state.specs.Slots.{levelCells}
+use Rattle.state.specs.Places.{recordAt, recordOf}
 use Rattle.stores.specs.Stored.{stored}
 
 -- a word of our own: the cells of a store: its record's place, how many cells the record has, and those of a level 2 record, which

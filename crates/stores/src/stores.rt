@@ -5,7 +5,7 @@ ghost use lib.ListN.{length};
 ghost use lib.Seq.{sets};
 ghost use Rattle.forms.specs.Forms.{subjectOf};
 ghost use Rattle.forms.specs.Sizes.{mostRows};
-ghost use Rattle.state.specs.Slots.{recordOf, recordAt};
+ghost use Rattle.state.specs.Places.{recordOf, recordAt};
 ghost use Rattle.stores.specs.Stores.{storeCells, StoreKept, KeptFor, Fits, AllFit, storedAt, madeOf, made};
 use layout::Form;
 use layout::Level;

@@ -2,13 +2,13 @@
 use Prim.Native.Nat.{ℕ, suc, _+_, _*_, _≤_}
 use mathlib.Core.Path.{_≡_}
 use mathlib.Core.Bool.{Bool, true, false}
-use mathlib.Core.List.{List}
+use mathlib.Core.List.{List, [], _∷_}
 use mathlib.Core.Option.{Option, some}
 use lib.ListN.{length}
 use Rattle.contracts.specs.File.{contractsBefore}
 use Rattle.contracts.specs.Lookup.{segmentOf}
 use Rattle.contracts.specs.Sound.{Header}
-use Rattle.sequence.specs.Row.{soundGapRow}
+use Rattle.sequence.specs.RowLaid.{soundGapRow}
 use Rattle.message.specs.Fields.{lengthOf}
 use Rattle.turns.specs.declared.act.Act.{Act}
 use Rattle.turns.specs.declared.act.Act.the-variants.{Taken, Old, Heartbeat, Refused}
@@ -17,9 +17,17 @@ use Rattle.turns.specs.declared.act.InTurn.{InTurn}
 use Rattle.turns.specs.declared.act.Step.{Step}
 use Rattle.state.specs.declared.answers.Judged.{Judged}
 use Rattle.state.specs.Answers.{judgedNumbers}
+use Rattle.state.specs.Refusals.{refusalNumbers}
 use Rattle.turns.specs.Turns.{Box, Acted, acted, refused, numberActs, messageActs, messagesAct, actedNumbers}
 use Rattle.state.specs.Slots.{recordsWanted}
 use Rattle.stores.specs.Stores.{storeCells, made, AllFit, Room, Keeps}
+
+-- 01 "What may be asked": what becomes of a message, as one of those taken, old and heartbeats; or its refusal
+abbrev pub actNumbers : Act → List ℕ
+actNumbers Taken = 0 ∷ 1 ∷ 0 ∷ 0 ∷ []
+actNumbers Old = 0 ∷ 0 ∷ 1 ∷ 0 ∷ []
+actNumbers Heartbeat = 0 ∷ 0 ∷ 0 ∷ 1 ∷ []
+actNumbers (Refused refusal) = refusalNumbers refusal
 
 -- 01 "What may be asked": how many messages were taken, old and heartbeats, with one message more
 abbrev pub counted : Act → Counts → Counts
@@ -64,6 +72,7 @@ actedAs (Refused refusal) box = refused refusal
 
 -- a word of our own: a number acts on a row, whatever the records and counts are
 pub record NumberActs (row : List ℕ) (i number : ℕ) (act : Act) (row′ : List ℕ) : Type 0 where
+  pub says : (changed : List ℕ → List ℕ) (records : List ℕ) → actNumbers act ≡ actedNumbers (numberActs (boxAt row records none) i number changed)
   pub acts : (changed : List ℕ → List ℕ) (records : List ℕ) (counts : Counts)
       → numberActs (boxAt row records counts) i number changed ≡ actedAs act (boxAt row′ (changedBy act changed records) (counted act counts))
   pub sound : soundGapRow row′ ≡ true
@@ -82,6 +91,7 @@ pub record Ready (list : List ℕ) (letter : ℕ) (segment : Option ℕ) (before
 
 -- a word of our own: message i acts, whatever the records and counts are
 pub record MessageActs (list : List ℕ) (letter : ℕ) (row stores : List ℕ) (kept i : ℕ) (bytes : List ℕ) (step : Step) (row′ stores′ : List ℕ) : Type 0 where
+  pub says : (records : List ℕ) → actNumbers (step .act) ≡ actedNumbers (messageActs list letter (boxAt row records none) i bytes)
   pub changes : List ℕ → List ℕ
   pub acts : (records : List ℕ) (counts : Counts)
       → messageActs list letter (boxAt row records counts) i bytes ≡ actedAs (step .act) (boxAt row′ (changes records) (counted (step .act) counts))
@@ -105,5 +115,6 @@ pub record JudgedMessages (list : List ℕ) (letter : ℕ) (row : List ℕ) (cel
       → Left list (Room cells (length bytes)) records box (turn .kept) row′ stores′
 
 -- a word of our own: what the messages are answered, and how many stores are kept
-abbrev pub turnOf : Judged → ℕ → InTurn
-turnOf answer kept = record { answer = answer; kept = kept }
+pub record Turned (answer : Judged) (kept : ℕ) (turn : InTurn) : Type 0 where
+  pub says : judgedNumbers (turn .answer) ≡ judgedNumbers answer
+  pub kept-are : turn .kept ≡ kept

@@ -5,11 +5,12 @@ use mathlib.Core.Bool.{true, false≢true}
 use mathlib.Core.List.{List}
 use lib.ListN.{length}
 use Rattle.sequence.specs.declared.Taken.{Taken}
-use Rattle.sequence.specs.Gaps.{after}
+use Rattle.sequence.specs.Changes.{after}
 use Rattle.sequence.specs.GapsLaws.{took-taken, took-old, taken-exactly, old-exactly, full-exactly}
 use Rattle.sequence.specs.Promises.{Took}
 use Rattle.sequence.specs.PromisesLaws.{took-row}
-use Rattle.sequence.specs.Row.{gapsOf, laid, soundGapRow}
+use Rattle.sequence.specs.Row.{gapsOf}
+use Rattle.sequence.specs.RowLaid.{laid, soundGapRow}
 use Rattle.sequence.specs.RowLaws.{laid-self, sound-row-exactly}
 use Rattle.turns.specs.declared.act.Act.{Act}
 use Rattle.turns.specs.declared.act.Act.the-variants as act
@@ -19,15 +20,17 @@ use Rattle.message.specs.declared.head.Fault.{Fault}
 use Rattle.message.specs.declared.head.Head.the-variants.{Good}
 use Rattle.message.specs.CallerLaws.{all-there}
 use Rattle.message.specs.Fields.{lengthOf}
-use Rattle.message.specs.Message.{Message, messageOf}
+use Rattle.message.specs.Message.{Message}
+use Rattle.message.specs.Reads.{messageOf}
 use Rattle.message.specs.MessageLaws.{length-is}
-use Rattle.message.specs.Numbers.{verdictOf}
+use Rattle.message.specs.Numbers.{faultNumbers, verdictOf}
 use Rattle.state.specs.declared.refusal.Refusal.{Refusal}
 use Rattle.state.specs.declared.refusal.Refusal.the-variants.{Gaps}
-use Rattle.turns.specs.Acts.{boxAt, changedBy, NumberActs, MessageActs}
-use Rattle.turns.specs.Turns.{Box, numberActs, whatActs, messageActs}
+use Rattle.turns.specs.Acts.{none, boxAt, changedBy, NumberActs, MessageActs}
+use Rattle.turns.specs.Turns.{Box, numberActs, whatActs, messageActs, actedNumbers}
 use Rattle.state.specs.Slots.{recordsWanted}
-use Rattle.state.specs.Refusals.{ofFault}
+use Rattle.state.specs.Refusals.{refusalNumbers, inMessage}
+use Rattle.state.specs.RefusalsLaws.{fault-numbers, fault-told}
 use Rattle.stores.specs.Stores.{storeCells, Keeps}
 use Rattle.stores.specs.StoresLaws.{none-kept}
 
@@ -42,15 +45,15 @@ module _ (row row′ : List ℕ) (i number : ℕ) (sound : soundGapRow row ≡ t
   number-acts Taken.Taken t =
       let e = taken-exactly (gapsOf row) number .0 (sym (t .says)) in
       let left : row′ ≡ laid row (after (gapsOf row) number) = t .left ∙ ap (laid row) (took-taken (gapsOf row) number (e .0) (e .1) .1) in
-      record { acts = λ changed records counts. simp (e .0, e .1, left); sound = took-row sound t }
+      record { says = λ changed records. simp (e .0, e .1); acts = λ changed records counts. simp (e .0, e .1, left); sound = took-row sound t }
   number-acts Taken.Old t =
       let e = old-exactly (gapsOf row) number .0 (sym (t .says)) in
       let all = sound-row-exactly row .0 sound in
       let left : row′ ≡ row = t .left ∙ ap (laid row) (took-old (gapsOf row) number e .1) ∙ laid-self row (all .0) (all .1) in
-      record { acts = λ changed records counts. simp (e, left); sound = took-row sound t }
+      record { says = λ changed records. simp e; acts = λ changed records counts. simp (e, left); sound = took-row sound t }
   number-acts Taken.Full t =
       let e = full-exactly (gapsOf row) number .0 (sym (t .says)) in
-      record { acts = λ changed records counts. simp (e .0, e .1); sound = took-row sound t }
+      record { says = λ changed records. simp (e .0, e .1); acts = λ changed records counts. simp (e .0, e .1); sound = took-row sound t }
 
 -- what a message is decides what it does
 module _ (list : List ℕ) (letter : ℕ) (bytes : List ℕ) (message : Message) (is : message ≡ messageOf list letter bytes) {w : What} (e : message .what ≡ w) where
@@ -76,6 +79,7 @@ module _ (list : List ℕ) (letter : ℕ) (bytes : List ℕ) (message : Message)
         → MessageActs list letter row stores kept i bytes (record { act = a; length = message .length; kept = kept′ }) row′ stores′
     numbered a number changed g by row′ n kept′ stores′ k =
         record {
+          says = λ records. n .says changed records ∙ ap actedNumbers (sym (acts-as (boxAt row records none) i ∙ by (boxAt row records none)));
           changes = changedBy a changed;
           acts = λ records counts. acts-as (boxAt row records counts) i ∙ by (boxAt row records counts) ∙ n .acts changed records counts;
           sound = n .sound;
@@ -91,6 +95,7 @@ module _ (list : List ℕ) (letter : ℕ) (bytes : List ℕ) (message : Message)
       pub heartbeat-acts : w ≡ what.Heartbeat → MessageActs list letter row stores kept i bytes (record { act = act.Heartbeat; length = message .length; kept = kept }) row stores
       heartbeat-acts h =
           record {
+            says = λ records. rw (acts-as (boxAt row records none) i, h);
             changes = λ records. records;
             acts = λ records counts. acts-as (boxAt row records counts) i ∙ rw h;
             sound = sound;
@@ -99,12 +104,13 @@ module _ (list : List ℕ) (letter : ℕ) (bytes : List ℕ) (message : Message)
             keeps = none-changed;
           }
 
-      pub bad-acts : (fault : Fault) → w ≡ what.Bad fault → (refusal : Refusal) → refusal ≡ ofFault fault i
+      pub bad-acts : (fault : Fault) → w ≡ what.Bad fault → (refusal : Refusal) → refusalNumbers refusal ≡ inMessage i (faultNumbers fault)
           → MessageActs list letter row stores kept i bytes (record { act = act.Refused refusal; length = message .length; kept = kept }) row stores
       bad-acts fault h refusal f =
           record {
+            says = λ records. rw (acts-as (boxAt row records none) i, h) (f ∙ sym (fault-numbers fault i));
             changes = λ records. records;
-            acts = λ records counts. acts-as (boxAt row records counts) i ∙ rw (h, f);
+            acts = λ records counts. acts-as (boxAt row records counts) i ∙ rw (h, fault-told refusal fault i f);
             sound = sound;
             length-is = whole;
             inside = λ p. absurd (false≢true p);

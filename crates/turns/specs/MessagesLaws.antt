@@ -8,19 +8,29 @@ use native.Mathlib.Omega.{arith}
 use borrow.Author.Tests.{eq-eqb, ne-eqb}
 use lib.ListN.{length, drop, take, length-drop}
 use lib.Seq.{drop-drop, take-all}
-use Rattle.sequence.specs.Row.{soundGapRow}
+use Rattle.sequence.specs.RowLaid.{soundGapRow}
 use Rattle.message.specs.Fields.{lengthOf}
 use Rattle.turns.specs.declared.act.Act.{Act}
 use Rattle.turns.specs.declared.act.Act.the-variants.{Taken, Old, Heartbeat, Refused}
 use Rattle.turns.specs.declared.act.Counts.{Counts}
 use Rattle.turns.specs.declared.act.Step.{Step}
+use Rattle.turns.specs.declared.act.InTurn.{InTurn}
+use Rattle.state.specs.declared.answers.Judged.{Judged}
 use Rattle.state.specs.declared.answers.Judged.the-variants as judged
+use Rattle.state.specs.AnswersLaws.{judged-told}
 use Rattle.state.specs.declared.refusal.Refusal.{Refusal}
 use Rattle.state.specs.declared.refusal.Refusal.the-variants.{Count}
-use Rattle.turns.specs.Acts.{counted, none, total, boxAt, passed, actedAs, MessageActs, JudgedMessages, turnOf}
+use Rattle.turns.specs.Acts.{counted, none, total, boxAt, passed, actedAs, MessageActs, JudgedMessages, Turned}
 use Rattle.turns.specs.Turns.{Box, Acted, acted, refused, messageActs, messagesAct, actedNumbers}
 use Rattle.state.specs.Slots.{recordsWanted}
 use Rattle.stores.specs.Stores.{storeCells, made, AllFit, leastUpdate, Room}
+
+-- what the messages are answered, with the stores kept
+abbrev turnOf : Judged → ℕ → InTurn
+turnOf answer kept = record { answer = answer; kept = kept }
+
+pub turned-told : {answer : Judged} {kept : ℕ} {turn : InTurn} → Turned answer kept turn → turn ≡ turnOf answer kept
+turned-told {answer} {turn = turn} t = λ i. record { answer = judged-told (turn .answer) answer (t .says) i; kept = t .kept-are i }
 
 pub not-both : {refusal : Refusal} {box : Box} → refused refusal ≡ acted box → ⊥
 not-both e = let z : _≡_ {A = ℕ} 0 1 = cc in omega arith

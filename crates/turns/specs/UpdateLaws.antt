@@ -21,14 +21,16 @@ use Rattle.forms.specs.Rows.{messageLength}
 use Rattle.forms.specs.Sizes.{mostRows, keyRowCount}
 use Rattle.message.specs.declared.body.What.the-variants as what
 use Rattle.message.specs.CallerLaws.{IsUpdate, update-told, head-good, cells-stored}
-use Rattle.message.specs.Message.{Message, TellsOfContract, messageKey, cellsBy, cellsRead, rowsRead, messageOf}
+use Rattle.message.specs.Message.{Message, TellsOfContract, messageKey}
+use Rattle.message.specs.Reads.{cellsBy, cellsRead, rowsRead, messageOf}
 use Rattle.message.specs.MessageLaws.{key-found, length-is}
 use Rattle.message.specs.Numbers.{verdictOf}
 use Rattle.turns.specs.declared.act.Act.{Act}
 use Rattle.turns.specs.declared.act.Act.the-variants.{Taken}
 use Rattle.turns.specs.Acts.{InFront, changedBy}
 use Rattle.turns.specs.Turns.{updated}
-use Rattle.state.specs.Slots.{Slot, contract, slotAt, slotIn, recordOf, recordRows, recordsWanted, recordAt}
+use Rattle.state.specs.Slots.{Slot, contract, recordsWanted}
+use Rattle.state.specs.Places.{slotAt, slotIn, recordOf, recordRows, recordAt}
 use Rattle.state.specs.SlotsLaws.{contract-form, record-inside, record-long, rows-kept, rows-few}
 use Rattle.stores.specs.Stores.{storeCells, leastUpdate, KeptFor, Keeps}
 use Rattle.stores.specs.StoresLaws.{one-kept}

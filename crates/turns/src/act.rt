@@ -3,8 +3,8 @@ ghost use mathlib.Core.Path.{_≡_};
 ghost use mathlib.Core.Bool.{true};
 ghost use Prim.Native.Nat.{_<_};
 ghost use Rattle.contracts.specs.Answers.{placeOf};
-ghost use Rattle.sequence.specs.Row.{soundGapRow};
-ghost use Rattle.turns.specs.Acts.{counted, none, total, Ready, NumberActs, MessageActs, JudgedMessages, turnOf};
+ghost use Rattle.sequence.specs.RowLaid.{soundGapRow};
+ghost use Rattle.turns.specs.Acts.{counted, none, total, Ready, NumberActs, MessageActs, JudgedMessages, Turned};
 ghost use lib.ListN.{length};
 use contracts::Found;
 use layout::MOST_ROWS;
@@ -115,7 +115,7 @@ fn counted(counts: Counts, act: Act) -> Counts
 }
 
 fn answered(answer: Judged, kept: usize) -> InTurn
-    ensures { λ r. ⌜ r ≡ turnOf answer kept ⌝ }
+    ensures { λ r. ⌜ Turned answer kept r ⌝ }
 {
     InTurn { answer, kept }
 }

@@ -14,7 +14,8 @@ use Rattle.forms.specs.Forms.{namedRows, recordForm}
 use Rattle.forms.specs.Sizes.{mostRows, keyRowCount}
 use Rattle.quote.specs.declared.quote.Order.{Order}
 use Rattle.quote.specs.declared.quote.Quote.{Quote}
-use Rattle.quote.specs.Quote.{priceOf, heldPrice, quantityOf, heldQuantity, turnoverOf, heldTurnover, noOrder, orderLevels, rowNamed}
+use Rattle.quote.specs.Quote.{priceOf, quantityOf, turnoverOf, orderLevels, rowNamed}
+use Rattle.quote.specs.Shows.{heldPrice, heldQuantity, heldTurnover, noOrder}
 
 -- ---- a value
 

@@ -11,13 +11,14 @@ use Rattle.forms.specs.declared.rows.Level.{Level}
 use Rattle.forms.specs.declared.rows.Level.the-variants.{One, Two}
 use Rattle.layout.specs.declared.cells.Held.{Held}
 use Rattle.layout.specs.declared.cells.Held.the-variants.{Nothing, Units}
-use Rattle.forms.specs.Names.{Name, NamedRow, sameName, marketType, buyPrice, buyQuantity, sellPrice, sellQuantity, lastPrice, tradedQuantity, status, openingPrice, highPrice, lowPrice, closePrice, averagePrice, allBuyers, allSellers, turnover as turnoverName}
+use Rattle.forms.specs.Names.{Name, NamedRow, marketType, buyPrice, buyQuantity, sellPrice, sellQuantity, lastPrice, tradedQuantity, status, openingPrice, highPrice, lowPrice, closePrice, averagePrice, allBuyers, allSellers, turnover as turnoverName}
+use Rattle.forms.specs.SameName.{sameName}
 use Rattle.forms.specs.Forms.{keyRows, namedRows, rowsOf, recordForm}
 use Rattle.forms.specs.Sizes.{mostRows, keyRowCount}
 use Rattle.layout.specs.Cells.{cellOf}
 use Rattle.quote.specs.declared.quote.Quote.{Quote}
 use Rattle.quote.specs.Quote.{priceOf, quantityOf, turnoverOf, next, rowNamed, cellAt, cellNamed, orderLevels, orderIn, sideIn, quoteBy, quoteOf, cellsOf}
-use Rattle.state.specs.Slots.{recordRows}
+use Rattle.state.specs.Places.{recordRows}
 use Rattle.state.specs.SlotsLaws.{rows-few}
 use Rattle.values.specs.Values.{valueOf, heldOf, letterOf, first, most, valueRows, rowValues, valueAt, orderFrom, quoteFrom, quoteIn}
 

@@ -1,7 +1,7 @@
 -- Writing a message: 01 "The message", "The checksum", "Numbers in text", and the writer's order of checks.
 use Prim.Native.Nat.{ℕ, _+_, _≤_}
 use mathlib.Core.Path.{_≡_}
-use mathlib.Core.Bool.{Bool, true, false, _&&_}
+use mathlib.Core.Bool.{true, false}
 use mathlib.Core.List.{List, [], _∷_, _++_}
 use lib.Dec.{leb}
 use lib.ListN.{length, drop}
@@ -11,43 +11,26 @@ use Rattle.wire.specs.Checksum.{checksumOf}
 use Rattle.quote.specs.declared.quote.Quote.{Quote}
 use Rattle.layout.specs.declared.read.Verdict.{Verdict}
 use Rattle.layout.specs.declared.read.Verdict.the-variants as verdict
-use Rattle.forms.specs.declared.rows.Level.{Level}
 use Rattle.forms.specs.declared.rows.Row.{Row}
 use Rattle.quote.specs.Quote.{cellsOf}
 use Rattle.forms.specs.declared.forms.Chosen.{Chosen}
 use Rattle.forms.specs.declared.forms.Chosen.the-variants as chosen
-use Rattle.forms.specs.declared.forms.Named.the-variants as is
 use Rattle.forms.specs.declared.forms.Sum.{Sum}
 use Rattle.forms.specs.declared.forms.Sum.the-variants.{Zero, Right, RightOrZero}
-use Rattle.forms.specs.Forms.{rowsOf, sumRule, writtenForm}
+use Rattle.forms.specs.Forms.{rowsOf, sumRule}
 use Rattle.forms.specs.Rows.{messageLength}
 use Rattle.forms.specs.Sizes.{bareLength}
 use Rattle.layout.specs.Write.{Laid, writeRows, overFront, whereGood}
 use Rattle.message.specs.Fields.{zeroSum}
-use Rattle.message.specs.Head.{takesNumber}
 use Rattle.state.specs.declared.answers.Written.{Written}
 use Rattle.state.specs.declared.refusal.Refusal.the-variants.{Code as CodeOver, Numbering, Field, Range, Memory}
 use Rattle.state.specs.declared.state.Checked.{Checked}
 use Rattle.writer.specs.declared.writing.Code.{Code}
-use Rattle.state.specs.Answers.{writtenNumbers, answered, leftBy}
+use Rattle.state.specs.Answers.{writtenNumbers, answered, leftBy, checkedNumbers, checkedBy}
 use Rattle.state.specs.Refusals.{Rule}
-use Rattle.state.specs.State.{checkedRefusal}
+use Rattle.writer.specs.Chosen.{inTable, numbered}
 
 -- ---- the checks
-
--- 01 "What may be asked": the form that is written for a code and a level; a heartbeat's level isn't looked at
-abbrev pub formWritten : Code → Level → Chosen
-formWritten code level = writtenForm (code .0) (code .1) level
-
--- 01, the table's row 6: the code is one of the table
-abbrev pub inTable : Chosen → Bool
-inTable (chosen.Form form) = true
-inTable chosen.NoForm = false
-
--- 01, the table's row 10: the number that a message of the form may have
-abbrev pub numbered : Chosen → ℕ → Bool
-numbered (chosen.Form form) number = takesNumber (is.Form form) number
-numbered chosen.NoForm number = true
 
 -- 01, the writer's order of checks: "code not in the table (6), 10"; "its message number is 0, as for every call without a
 -- batch"
@@ -134,7 +117,7 @@ messagePut code number bytes out = messageBytes code number bytes ++ drop (lengt
 
 -- a word of our own: rows laid over scratch memory
 pub record LaysRows (rows : Laid) (before : List ℕ) (answer : Checked) (after : List ℕ) : Type 0 where
-  pub answers : checkedRefusal answer ≡ firstBroken (rowsRules (rows .verdict))
+  pub answers : checkedNumbers answer ≡ checkedBy (firstBroken (rowsRules (rows .verdict)))
   pub leaves : after ≡ whereGood (rows .verdict) (overFront (rows .bytes) before) before
 
 -- a word of our own: a message with this data, where there is room

@@ -25,18 +25,18 @@ use Rattle.forms.specs.Forms.{rowsOf, sumRule}
 use Rattle.forms.specs.Rows.{dataLength}
 use Rattle.forms.specs.Sizes.{bareLength}
 use Rattle.quote.specs.Quote.{cellsOf}
+use Rattle.layout.specs.AnswersLaws.{verdict-told}
 use Rattle.layout.specs.Write.{Laid, overFront, whereGood, WritesUpdate, writeRows}
 use Rattle.layout.specs.WriteLaws.{good-length}
 use Rattle.layout.specs.PutLaws.{laid-whole}
-use Rattle.message.specs.Head.{takesNumber}
+use Rattle.message.specs.Tests.{takesNumber}
 use Rattle.state.specs.declared.answers.Written.{Written}
 use Rattle.state.specs.declared.refusal.Refusal.{Refusal}
 use Rattle.state.specs.declared.refusal.Refusal.the-variants.{Code as CodeOver, Numbering, Memory}
 use Rattle.state.specs.declared.state.Checked.{Checked}
 use Rattle.writer.specs.declared.writing.Code.{Code}
-use Rattle.state.specs.Answers.{leftBy, answered}
+use Rattle.state.specs.Answers.{leftBy, answered, checkedNumbers, checkedBy}
 use Rattle.state.specs.Refusals.{Rule}
-use Rattle.state.specs.State.{checkedRefusal}
 use Rattle.writer.specs.Writer.{codeRules, rowsWritten, cellsWritten, dataWritten, rowsRules, roomRules, lengthWritten, writeRules, headBytes, sumWritten, endByte, beforeTrailer, messageBytes, messagePut, LaysRows, PutsMessage}
 use Rattle.writer.specs.WriterPromises.{WroteForm}
 
@@ -53,10 +53,12 @@ module _ (form : Form) (number : ℕ) where
 
 -- the rows of a form
 pub form-rows : (form : Form) (key : List ℕ) (quote : Quote) {before after : List ℕ} {v : Verdict} {answer : Checked}
-    → WritesUpdate (writeRows 0 (rowsOf form) key (cellsOf form quote)) before v after → checkedRefusal answer ≡ firstBroken (rowsRules v)
+    → WritesUpdate (writeRows 0 (rowsOf form) key (cellsOf form quote)) before v after → checkedNumbers answer ≡ checkedBy (firstBroken (rowsRules v))
     → LaysRows (dataWritten (chosen.Form form) key quote) before answer after
 unfolding dataWritten
-form-rows form key quote wrote told = record { answers = told ∙ ap (λ v. firstBroken (rowsRules v)) (wrote .answers); leaves = wrote .leaves }
+form-rows form key quote {v = v} wrote told =
+    let same = verdict-told v (writeRows 0 (rowsOf form) key (cellsOf form quote) .verdict) (wrote .answers) in
+    record { answers = told ∙ ap (λ (w : Verdict). checkedBy (firstBroken (rowsRules w))) same; leaves = wrote .leaves }
 
 pub rows-pass : (v : Verdict) → firstBroken (rowsRules v) ≡ none → v ≡ verdict.Good
 rows-pass verdict.Good e = refl

@@ -10,7 +10,8 @@ use Rattle.state.specs.declared.answers.Written.{Written}
 use Rattle.forms.specs.declared.forms.Chosen.{Chosen}
 use Rattle.writer.specs.declared.writing.Code.{Code}
 use Rattle.state.specs.Answers.{writtenNumbers, answered, leftBy}
-use Rattle.writer.specs.Writer.{formWritten, writeRules, lengthWritten, dataWritten, messagePut}
+use Rattle.writer.specs.Writer.{writeRules, lengthWritten, dataWritten, messagePut}
+use Rattle.writer.specs.Chosen.{formWritten}
 
 -- 01 "What may be asked": write a message. The writer answers its length, and no byte past the message is written
 pub record WroteForm (form : Chosen) (code : Code) (number : ℕ) (key : List ℕ) (quote : Quote) (out : List ℕ) (answer : Written) (out′ : List ℕ) : Type 0 where

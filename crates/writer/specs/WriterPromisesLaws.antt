@@ -20,7 +20,8 @@ use Rattle.writer.specs.declared.writing.Code.{Code}
 use Rattle.state.specs.AnswersLaws.{written-told, refused-by, accepted-by}
 use Rattle.state.specs.Answers.{leftBy}
 use Rattle.state.specs.Refusals.{Rule}
-use Rattle.writer.specs.Writer.{formWritten, codeRules, dataWritten, rowsRules, roomRules, lengthWritten, writeRules, GoodWrite, messageBytes, messagePut}
+use Rattle.writer.specs.Writer.{codeRules, dataWritten, rowsRules, roomRules, lengthWritten, writeRules, GoodWrite, messageBytes, messagePut}
+use Rattle.writer.specs.Chosen.{formWritten}
 use Rattle.writer.specs.WriterLaws.{rows-pass, long-data, message-long}
 use Rattle.writer.specs.WriterPromises.{WroteMessage}
 

@@ -6,7 +6,7 @@ ghost use lib.ListN.{length, take};
 ghost use lib.Seq.{sets};
 ghost use Rattle.laws.specs.Rules.{firstBroken};
 ghost use Rattle.forms.specs.Sizes.{mostData};
-ghost use Rattle.state.specs.State.{checkedRefusal};
+ghost use Rattle.state.specs.Answers.{checkedNumbers, checkedBy};
 ghost use Rattle.writer.specs.Writer.{rowsRules, dataWritten, headBytes, sumWritten, endByte, LaysRows, PutsMessage};
 ghost use Rattle.writer.specs.WriterPromises.{WroteForm, WroteMessage};
 use layout::Chosen;
@@ -31,7 +31,7 @@ const HEAD: usize = 8;
 const END: u8 = 13;
 
 fn of_verdict(verdict: Verdict) -> Checked
-    ensures { λ r. ⌜ checkedRefusal r ≡ firstBroken (rowsRules verdict) ⌝ }
+    ensures { λ r. ⌜ checkedNumbers r ≡ checkedBy (firstBroken (rowsRules verdict)) ⌝ }
 {
     match verdict {
         Verdict::Good => Checked::Good,

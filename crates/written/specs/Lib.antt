@@ -1,3 +1,5 @@
+pub mod Heartbeats
+pub mod HeartbeatsLaws
 pub mod ReadBack
 pub mod ReadBackLaws
 pub mod ReadBackStepsLaws

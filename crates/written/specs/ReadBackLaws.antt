@@ -8,7 +8,7 @@ use mathlib.Core.Option.{Option, none, some}
 use native.Mathlib.Omega.{arith}
 use borrow.Author.Tests.{ne-eqb}
 use lib.Dec.{eqb}
-use lib.ListN.{length, take, drop, length-drop}
+use lib.ListN.{length, take}
 use Rattle.laws.specs.Rules.{firstBroken}
 use Rattle.laws.specs.Choice.{either}
 use Rattle.contracts.specs.Lookup.{segmentOf, placeIn}
@@ -27,9 +27,10 @@ use Rattle.forms.specs.Forms.{rowsOf, recordForm}
 use Rattle.forms.specs.FormsLaws.{record-subject}
 use Rattle.forms.specs.Sizes.{keyBytes}
 use Rattle.layout.specs.Write.{Laid, writeRows}
-use Rattle.sequence.specs.Gaps.{Gaps, takes, full, after}
-use Rattle.sequence.specs.Row.{gapsOf, laid}
-use Rattle.message.specs.Fields.{lengthOf}
+use Rattle.sequence.specs.Gaps.{Gaps, takes}
+use Rattle.sequence.specs.Changes.{full, after}
+use Rattle.sequence.specs.Row.{gapsOf}
+use Rattle.sequence.specs.RowLaid.{laid}
 use Rattle.message.specs.HeadLaws.{number-exact}
 use Rattle.message.specs.Message.{keyPlace}
 use Rattle.message.specs.MessageLaws.{key-found}
@@ -41,29 +42,26 @@ use Rattle.state.specs.declared.answers.Written.{Written}
 use Rattle.writer.specs.declared.writing.Code.{Code}
 use Rattle.state.specs.Answers.{judgedNumbers}
 use Rattle.turns.specs.Turns.{Box, acted, messageActs, actedNumbers, numberActs}
-use Rattle.batch.specs.Batch.{batchActs, boxOf, batchLetter, lentAfter}
+use Rattle.batch.specs.Batch.{batchLetter}
+use Rattle.batch.specs.Acts.{batchActs, boxOf, lentAfter}
 use Rattle.stores.specs.Stored.{stored}
 use Rattle.state.specs.Memory.{Lent}
-use Rattle.state.specs.Slots.{slotAt, slotIn, recordOf, recordRows}
-use Rattle.batch.specs.BatchLaws.{messages-decide}
+use Rattle.state.specs.Places.{slotAt, slotIn, recordOf, recordRows}
 use Rattle.state.specs.AnswersLaws.{recorded-told, judged-told}
 use Rattle.quotebox.specs.CallPromises.{ReadRecord}
-use Rattle.quotebox.specs.Calls.{gapsOfLetter}
+use Rattle.quotebox.specs.CallRules.{gapsOfLetter, recordRules}
 use Rattle.state.specs.GoodState.{GoodState}
-use Rattle.batch.specs.GoodLaws.{front-exact}
-use Rattle.state.specs.StateLaws.{state-exact, good-unrefused, segment-holds}
-use Rattle.turns.specs.MessagesLaws.{messages-next, messages-end}
+use Rattle.state.specs.StateLaws.{good-unrefused, segment-holds}
 use Rattle.batch.specs.Promises.{JudgedBatch, TookBatch}
-use Rattle.quotebox.specs.Record.{recordRules, slotThere, recordOfKey, recordNumber, cellsAt}
+use Rattle.quotebox.specs.Record.{slotThere, recordOfKey, recordNumber, cellsAt}
 use Rattle.quotebox.specs.RecordLaws.{key-holds, record-found, record-lent}
 use Rattle.state.specs.State.{segmentRules}
 use Rattle.batch.specs.TookLaws.{state-good}
-use Rattle.writer.specs.Writer.{formWritten}
+use Rattle.writer.specs.Chosen.{formWritten}
 use Rattle.writer.specs.WriterPromises.{WroteMessage}
 use Rattle.written.specs.ReadBack.{batchOf}
-use Rattle.written.specs.ReadBackStepsLaws.{count-one, data-is, batch-front, number-stored, cells-stored}
-use Rattle.written.specs.WrittenFieldsLaws.{letter-written}
-use Rattle.written.specs.WrittenUpdateLaws.{written, rows-good, number-fits, message-there, all-of-it, written-short, message-is}
+use Rattle.written.specs.ReadBackStepsLaws.{batch-acts, number-stored, cells-stored}
+use Rattle.written.specs.WrittenUpdateLaws.{written, rows-good, number-fits, message-is}
 
 -- a listed contract's record may be asked for, and lies in the records lent
 module _ (lent : Lent) (state : GoodState lent) (letter : ℕ) (key : List ℕ) (place : ℕ) (listed : keyPlace (lent .list) letter key ≡ some place) where
@@ -101,7 +99,7 @@ module _ (code : Code) (level : Level) (number : ℕ) (key : List ℕ) (quote : 
     good : rows-laid .verdict ≡ verdict.Good
     good = rows-good code level number key quote out out′ n form update wrote
 
-    numbered : 1 ≤ number
+    pub numbered : 1 ≤ number
     numbered = rw (record-subject level) at (number-exact (is.Form form) number .0 (number-fits code level number key quote out out′ n form update wrote))
 
     abbrev message : List ℕ
@@ -130,7 +128,7 @@ module _ (code : Code) (level : Level) (number : ℕ) (key : List ℕ) (quote : 
 
       acts : messageActs (lent .list) letter box 0 message ≡ numberActs box 0 number changed
       unfolding messageActs
-      acts = rw (message-is code level number key quote out out′ n form update wrote (level, record-subject level) few key-long (lent .list) place listed, record-subject level)
+      acts = rw (message-is code level number key quote out out′ n form update wrote (level, record-subject level) key-long few (lent .list) place listed, record-subject level)
 
       module _ (room : takes gaps number ≡ true → full gaps number ≡ false) where
         -- what the message leaves
@@ -148,15 +146,8 @@ module _ (code : Code) (level : Level) (number : ℕ) (key : List ℕ) (quote : 
         unfolding gapsOfLetter
         number-old t = rw t
 
-        batch-acts : (box′ : Box) → numberActs box 0 number changed ≡ acted box′ → batchActs lent batch ≡ acted box′
-        batch-acts box′ e =
-            let b : List ℕ = batchOf message in
-            let short : length message ≤ 32767 = omega (arith, written-short code level number key quote out out′ n form update wrote) in
-            let none-left : length (drop (lengthOf message) message) ≡ 0 = omega (arith, length-drop (lengthOf message) message, all-of-it code level number key quote out out′ n form update wrote) in
-            ap (λ (m : List ℕ). batchActs lent (batchOf m)) (message-there code level number key quote out out′ n form update wrote)
-            ∙ messages-decide lent b (state-exact lent .1 state) (front-exact b .1 (batch-front message short))
-            ∙ rw (count-one message short, data-is message short, letter-written code number (rows-laid .bytes))
-            (messages-next (lent .list) letter 0 0 box message box′ (acts ∙ e) ∙ messages-end (lent .list) letter 1 box′ (drop (lengthOf message) message) none-left)
+        batch-does : (box′ : Box) → numberActs box 0 number changed ≡ acted box′ → batchActs lent batch ≡ acted box′
+        batch-does box′ e = batch-acts code level number key quote out out′ n form update wrote lent state box′ (acts ∙ e)
 
         -- its number is taken, or it is old
         abbrev pub expected : Judged
@@ -164,8 +155,8 @@ module _ (code : Code) (level : Level) (number : ℕ) (key : List ℕ) (quote : 
 
         numbers-are : actedNumbers (batchActs lent batch) ≡ judgedNumbers expected
         numbers-are =
-            ⊎-elim (λ (t : takes gaps number ≡ true). rw (batch-acts after-taken (number-taken t), t))
-            (λ (t : takes gaps number ≡ false). rw (batch-acts after-old (number-old t), t))
+            ⊎-elim (λ (t : takes gaps number ≡ true). rw (batch-does after-taken (number-taken t), t))
+            (λ (t : takes gaps number ≡ false). rw (batch-does after-old (number-old t), t))
             (either (takes gaps number))
 
         -- judged, the batch is accepted
@@ -190,7 +181,7 @@ module _ (code : Code) (level : Level) (number : ℕ) (key : List ℕ) (quote : 
             place-is = sym (ap (λ (o : Option ℕ). slotAt (lent .list) (slotThere (lent .list) letter level o)) listed)
 
             left-then : lent′ ≡ lentAfter lent (batchLetter batch) (acted after-taken)
-            left-then = took .left ∙ ap (lentAfter lent (batchLetter batch)) (batch-acts after-taken (number-taken taken))
+            left-then = took .left ∙ ap (lentAfter lent (batchLetter batch)) (batch-does after-taken (number-taken taken))
 
             list-then : lent′ .list ≡ lent .list
             list-then = ap (λ (l : Lent). l .list) left-then

@@ -1,4 +1,4 @@
--- What a batch that holds just a written update does, and what stands in its record then.
+-- What a batch that holds just a written message does, and what stands in an update's record then.
 use Prim.Native.Nat.{ℕ, suc, _+_, _≤_, _<_}
 use mathlib.Core.Path.{_≡_, refl, ap, sym, _∙_}
 use mathlib.Core.List.{List, [], _∷_, _++_, append-assoc}
@@ -8,19 +8,37 @@ use borrow.Author.Tests.{lt-ltb}
 use lib.ListN.{length, getD, take, drop, replicate, length-append, length-drop}
 use lib.Seq.{sets-eq, getD-at, take-at, drop-at, length-take-le, append-snoc}
 use Rattle.wire.specs.NumberLaws.{read-back}
+use Rattle.quote.specs.declared.quote.Quote.{Quote}
 use Rattle.forms.specs.declared.rows.Level.{Level}
 use Rattle.forms.specs.declared.rows.Level.the-variants.{One, Two}
 use Rattle.layout.specs.Cells.{zerosBehind, seenCells}
 use Rattle.forms.specs.declared.rows.Row.{Row}
+use Rattle.forms.specs.declared.forms.Form.{Form}
+use Rattle.forms.specs.declared.forms.Chosen.the-variants as chosen
 use Rattle.forms.specs.Forms.{namedRows, rowsOf, recordForm}
 use Rattle.forms.specs.Sizes.{keyRowCount}
-use Rattle.batch.specs.Batch.{flagOf, sizeOf, countOf, batchData}
+use Rattle.message.specs.Fields.{letterOf, lengthOf}
+use Rattle.state.specs.declared.answers.Written.{Written}
+use Rattle.state.specs.GoodState.{GoodState}
+use Rattle.state.specs.Memory.{Lent}
+use Rattle.state.specs.StateLaws.{state-exact}
+use Rattle.turns.specs.MessagesLaws.{messages-next, messages-end}
+use Rattle.turns.specs.Turns.{Box, acted, messageActs}
+use Rattle.batch.specs.Batch.{flagOf, sizeOf, countOf, batchData, batchLetter}
+use Rattle.batch.specs.Acts.{boxOf, batchActs}
+use Rattle.batch.specs.BatchLaws.{messages-decide}
+use Rattle.batch.specs.GoodLaws.{front-exact}
 use Rattle.stores.specs.Stored.{stored}
-use Rattle.state.specs.Slots.{recordOf, recordRows}
+use Rattle.state.specs.Places.{recordOf, recordRows}
 use Rattle.state.specs.SlotsLaws.{rows-kept}
 use Rattle.batch.specs.Good.{GoodFront}
 use Rattle.quotebox.specs.Record.{recordNumber, cellsAt}
+use Rattle.writer.specs.declared.writing.Code.{Code}
+use Rattle.writer.specs.Chosen.{formWritten}
+use Rattle.writer.specs.WriterPromises.{WroteMessage}
 use Rattle.written.specs.ReadBack.{batchOf}
+use Rattle.written.specs.WrittenFieldsLaws.{letter-written}
+use Rattle.written.specs.WrittenUpdateLaws.{written, message-there, all-of-it, written-short}
 
 -- ---- the batch
 
@@ -42,6 +60,34 @@ module _ (message : List ℕ) (short : length message ≤ 32767) where
   batch-front =
       let n = size-is in
       record { begun = omega arith; small = omega arith; whole = omega arith; plain = omega arith; some-messages = omega (arith, count-one) }
+
+-- what a written message does where it stands alone, the batch does
+module _ (code : Code) (level : Level) (number : ℕ) (key : List ℕ) (quote : Quote) (out out′ : List ℕ) (n : ℕ)
+    (form : Form) (chose : formWritten code level ≡ chosen.Form form) (wrote : WroteMessage code level number key quote out (Written.Message n) out′)
+  where
+    abbrev alone : List ℕ
+    alone = written code level number key quote out out′ n form chose wrote
+
+    alone-short : length alone ≤ 32767
+    alone-short = omega (arith, written-short code level number key quote out out′ n form chose wrote)
+
+    alone-letter : letterOf alone ≡ code .0
+    alone-letter = letter-written code number _
+
+    pub batch-is : batchOf (take n out′) ≡ batchOf alone
+    batch-is = ap batchOf (message-there code level number key quote out out′ n form chose wrote)
+
+    pub letter-is : batchLetter (batchOf (take n out′)) ≡ code .0
+    letter-is = ap batchLetter batch-is ∙ ap letterOf (data-is alone alone-short) ∙ alone-letter
+
+    pub batch-acts : (lent : Lent) → GoodState lent → (box′ : Box) → messageActs (lent .list) (code .0) (boxOf lent (code .0)) 0 alone ≡ acted box′
+        → batchActs lent (batchOf (take n out′)) ≡ acted box′
+    batch-acts lent state box′ acts =
+        let none-left : length (drop (lengthOf alone) alone) ≡ 0 = omega (arith, length-drop (lengthOf alone) alone, all-of-it code level number key quote out out′ n form chose wrote) in
+        ap (batchActs lent) batch-is
+        ∙ messages-decide lent (batchOf alone) (state-exact lent .1 state) (front-exact (batchOf alone) .1 (batch-front alone alone-short))
+        ∙ rw (count-one alone alone-short, data-is alone alone-short, alone-letter)
+        (messages-next (lent .list) (code .0) 0 0 (boxOf lent (code .0)) alone box′ acts ∙ messages-end (lent .list) (code .0) 1 box′ (drop (lengthOf alone) alone) none-left)
 
 -- ---- the record
 

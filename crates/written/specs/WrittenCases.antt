@@ -16,7 +16,8 @@ use Rattle.forms.specs.Sizes.{mostRows, keyBytes}
 use Rattle.layout.specs.Write.{rowText}
 use Rattle.writer.specs.declared.writing.Code.{Code}
 use Rattle.state.specs.Answers.{answered}
-use Rattle.writer.specs.Writer.{formWritten, dataWritten, lengthWritten, writeRules, messageBytes}
+use Rattle.writer.specs.Writer.{dataWritten, lengthWritten, writeRules, messageBytes}
+use Rattle.writer.specs.Chosen.{formWritten}
 
 -- 01 "The contract list": a key of 39 bytes, each an A
 abbrev pub key : List ℕ

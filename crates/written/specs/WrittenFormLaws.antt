@@ -14,7 +14,7 @@ use Rattle.forms.specs.declared.forms.Chosen.the-variants as chosen
 use Rattle.forms.specs.Forms.{rowsOf, subjectOf, recordForm, Entry, entry, table, formsIn, formsOf, formOf, hasLevel, writtenBy, writtenForm}
 use Rattle.forms.specs.FormsLaws.{contract-written, table-told}
 use Rattle.forms.specs.Rows.{messageLength}
-use Rattle.message.specs.Head.{isCapital}
+use Rattle.message.specs.Tests.{isCapital}
 
 -- the form that is written is one of the code's
 one-of-them : (forms : List Form) (level : Level) (form : Form) → writtenBy forms level ≡ chosen.Form form → List·Memᴰ form forms

@@ -13,13 +13,12 @@ use Rattle.quote.specs.declared.quote.Quote.{Quote}
 use Rattle.forms.specs.declared.forms.Form.{Form}
 use Rattle.forms.specs.declared.rows.Row.{Row}
 use Rattle.forms.specs.declared.rows.Row.the-variants.{Key, MarketType, Status, Price, Quantity, Turnover}
-use Rattle.layout.specs.Cells.{heldIn, cellOf}
-use Rattle.layout.specs.FirstBad.{rowAt}
-use Rattle.quote.specs.Quote.{noOrder, heldPrice, heldQuantity, heldTurnover}
+use Rattle.layout.specs.Cells.{heldIn, cellOf, keyUsed}
+use Rattle.layout.specs.Says.{rowAt}
+use Rattle.quote.specs.Shows.{noOrder, heldPrice, heldQuantity, heldTurnover}
 use Rattle.forms.specs.Forms.{namedRows, rowsOf}
 use Rattle.forms.specs.Names.{Name, named, instrument, symbol, expiry, strike, optionType, marketType, buyPrice, buyQuantity, sellPrice, sellQuantity, lastPrice, tradedQuantity, status, openingPrice, highPrice, lowPrice, closePrice, averagePrice, allBuyers, allSellers, turnover}
 use Rattle.forms.specs.Rows.{total}
-use Rattle.layout.specs.Write.{keyUsed}
 
 -- 01 "The message": what a row is written from, its part of the key apart: a letter's byte, or a number that may be none
 pub data Value : Type 0 where

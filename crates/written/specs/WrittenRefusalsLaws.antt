@@ -30,14 +30,15 @@ use Rattle.forms.specs.FormsLaws.{nothing-rows}
 use Rattle.forms.specs.Rows.{messageLength}
 use Rattle.forms.specs.Sizes.{keyBytes}
 use Rattle.layout.specs.Write.{writeRows}
-use Rattle.message.specs.Head.{takesNumber}
+use Rattle.message.specs.Tests.{takesNumber}
 use Rattle.state.specs.declared.answers.Written.{Written}
 use Rattle.state.specs.declared.refusal.Refusal.{Refusal}
 use Rattle.state.specs.declared.refusal.Refusal.the-variants.{Code as CodeOver, Numbering, Field, Range, Memory}
 use Rattle.writer.specs.declared.writing.Code.{Code}
 use Rattle.state.specs.Answers.{writtenNumbers, answered}
 use Rattle.state.specs.AnswersLaws.{written-told, refused-by, accepted-by}
-use Rattle.writer.specs.Writer.{formWritten, inTable, numbered, dataWritten, rowsRules, lengthWritten, writeRules}
+use Rattle.writer.specs.Writer.{dataWritten, rowsRules, lengthWritten, writeRules}
+use Rattle.writer.specs.Chosen.{formWritten, inTable, numbered}
 use Rattle.writer.specs.WriterPromises.{WroteMessage}
 use Rattle.written.specs.WrittenRefusals.{MalformedAt, OutOfRangeAt, AllFine, First}
 use Rattle.written.specs.WrittenRowsLaws.{field-exact, range-exact, fine-exact}

@@ -22,15 +22,16 @@ use Rattle.forms.specs.declared.forms.Form.{Form}
 use Rattle.forms.specs.declared.forms.Form.the-variants.{Heartbeat, LevelOne, LevelTwo}
 use Rattle.forms.specs.declared.rows.Row.{Row}
 use Rattle.forms.specs.declared.rows.Row.the-variants.{Key, MarketType, Status, Price, Quantity, Turnover}
-use Rattle.layout.specs.Cells.{none, heldIn, cellOf}
-use Rattle.layout.specs.FirstBad.{rowAt, writeRefusal, refusalWritten}
+use Rattle.layout.specs.Cells.{none, heldIn, cellOf, keyUsed}
+use Rattle.layout.specs.FirstBad.{refusalWritten}
+use Rattle.layout.specs.Says.{rowAt}
 use Rattle.quote.specs.Quote.{fieldCell, cellsBy, cellsOf}
 use Rattle.layout.specs.Read.{isMarketType, isStatus}
 use Rattle.forms.specs.Forms.{namedRows, rowsOf}
 use Rattle.forms.specs.Names.{Name, NamedRow, named, instrument, symbol, expiry, strike, optionType, marketType, buyPrice, buyQuantity, sellPrice, sellQuantity, lastPrice, tradedQuantity, status, openingPrice, highPrice, lowPrice, closePrice, averagePrice, allBuyers, allSellers, turnover as turnoverName}
 use Rattle.forms.specs.Rows.{total}
 use Rattle.forms.specs.Sizes.{keyBytes}
-use Rattle.layout.specs.Write.{RowText, text, malformed, out-of-range, ofWritten, heldText, rowText, keyUsed}
+use Rattle.layout.specs.Write.{RowText, text, malformed, out-of-range, ofWritten, heldText, rowText, writeRefusal}
 use Rattle.wire.specs.Bytes.{printable, allPrintable}
 use Rattle.written.specs.WrittenRefusals.{Value, letter, number, cellIn, heldOf, fieldValue, Outside, Malformed, Unwritable, OutOfRange, valueAt, partAt, MalformedAt, OutOfRangeAt, Fine}
 

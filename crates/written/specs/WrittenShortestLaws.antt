@@ -20,19 +20,20 @@ use Rattle.forms.specs.declared.forms.Form.{Form}
 use Rattle.forms.specs.declared.forms.Chosen.the-variants as chosen
 use Rattle.forms.specs.declared.rows.Row.{Row}
 use Rattle.forms.specs.declared.rows.Row.the-variants.{Key, MarketType, Status, Price, Quantity, Turnover}
-use Rattle.layout.specs.Cells.{heldIn, seenCell, none as noneCell}
+use Rattle.layout.specs.Cells.{heldIn, seenCell, none as noneCell, keyUsed}
 use Rattle.layout.specs.CellsLaws.{held-back}
-use Rattle.layout.specs.FirstBad.{rowAt, fieldAt, rowWritten}
+use Rattle.layout.specs.FirstBad.{rowWritten}
+use Rattle.layout.specs.Says.{rowAt, fieldAt}
 use Rattle.forms.specs.Forms.{rowsOf}
 use Rattle.forms.specs.Rows.{widthOf, total, offsetOf}
 use Rattle.layout.specs.RowTextLaws.{text-width, text-held, filled-is as text-filled}
-use Rattle.layout.specs.Write.{Laid, text, rowText, heldText, keyUsed, writeRows}
+use Rattle.layout.specs.Write.{Laid, text, rowText, heldText, writeRows}
 use Rattle.layout.specs.WriteLaws.{GoodRow, good-row}
 use Rattle.quote.specs.Quote.{cellsOf}
 use Rattle.message.specs.Fields.{dataOf}
 use Rattle.state.specs.declared.answers.Written.{Written}
 use Rattle.writer.specs.declared.writing.Code.{Code}
-use Rattle.writer.specs.Writer.{formWritten}
+use Rattle.writer.specs.Chosen.{formWritten}
 use Rattle.writer.specs.WriterPromises.{WroteMessage}
 use Rattle.written.specs.WrittenRefusals.{Value, letter, number, cellIn, heldOf, valueAt, partAt}
 use Rattle.written.specs.WrittenRowsLaws.{cell-at}

@@ -1,9 +1,9 @@
--- A message that was written: its rows are good, it stands in front of the lent bytes, and an update, where its contract is listed,
--- is what it was written from.
+-- A message that was written: its rows are good, it stands in front of the lent bytes, and a heartbeat, where its letter is listed,
+-- and an update, where its contract is, are what they were written from.
 use Prim.Native.Nat.{ℕ, _+_, _^_, _≤_, _<_}
 use mathlib.Core.Path.{_≡_, refl, ap, sym, _∙_}
 use mathlib.Core.Bool.{true}
-use mathlib.Core.List.{List}
+use mathlib.Core.List.{List, []}
 use mathlib.Core.Option.{some}
 use native.Mathlib.Omega.{arith}
 use borrow.Author.Tests.{eq-eqb}
@@ -18,25 +18,31 @@ use Rattle.forms.specs.declared.forms.Form.{Form}
 use Rattle.forms.specs.declared.forms.Named.the-variants as is
 use Rattle.forms.specs.declared.forms.Chosen.{Chosen}
 use Rattle.forms.specs.declared.forms.Chosen.the-variants as chosen
+use Rattle.forms.specs.declared.forms.Subject.the-variants.{Nothing}
 use Rattle.layout.specs.Cells.{zerosBehind, seenCells}
-use Rattle.forms.specs.Forms.{rowsOf, formOf}
+use Rattle.forms.specs.Forms.{rowsOf, subjectOf, formOf}
 use Rattle.forms.specs.FormsLaws.{fits, contract-key}
 use Rattle.layout.specs.RoundTrip.{KeyInFront, key-in-front, rows-back}
 use Rattle.forms.specs.Rows.{dataLength, messageLength}
 use Rattle.forms.specs.Sizes.{mostData, keyBytes, bareLength}
 use Rattle.layout.specs.Write.{Laid, writeRows}
 use Rattle.layout.specs.WriteLaws.{good-length}
+use Rattle.message.specs.declared.body.Outline.{Outline}
 use Rattle.message.specs.declared.body.What.the-variants as what
 use Rattle.message.specs.declared.head.Head.the-variants as head
 use Rattle.message.specs.Fields.{lengthOf, numberOf, dataOf, formIn}
-use Rattle.message.specs.Head.{coded, takesNumber, takesLength, headRules, headOf}
+use Rattle.message.specs.Head.{headRules}
+use Rattle.message.specs.Rules.{headOf}
+use Rattle.message.specs.Tests.{isSome, coded, takesNumber, takesLength}
 use Rattle.message.specs.HeadLaws.{framed-exact, trailed-exact, summed-exact}
-use Rattle.message.specs.Message.{Message, TellsOfContract, messageKey, keyPlace, messageOf}
-use Rattle.message.specs.MessageLaws.{key-found, good-head, update-is}
+use Rattle.message.specs.Message.{Message, TellsOfContract, messageKey, keyPlace}
+use Rattle.message.specs.Reads.{messageOf}
+use Rattle.message.specs.MessageLaws.{key-found, good-head, heartbeat-reads, outline-told, update-is}
 use Rattle.message.specs.RulesLaws.{hold-good}
 use Rattle.state.specs.declared.answers.Written.{Written}
 use Rattle.writer.specs.declared.writing.Code.{Code}
-use Rattle.writer.specs.Writer.{formWritten, numbered, rowsWritten, cellsWritten, dataWritten, messageBytes}
+use Rattle.writer.specs.Writer.{rowsWritten, cellsWritten, dataWritten, messageBytes}
+use Rattle.writer.specs.Chosen.{formWritten, numbered}
 use Rattle.writer.specs.WriterLaws.{message-long}
 use Rattle.writer.specs.WriterPromises.{WroteMessage}
 use Rattle.writer.specs.WriterPromisesLaws.{written-good, message-in-front}
@@ -86,36 +92,47 @@ module _ (code : Code) (level : Level) (number : ℕ) (key : List ℕ) (quote : 
     pub data-there : dataOf (take n out′) ≡ rows .bytes
     data-there = ap dataOf message-there ∙ data-is
 
-    form-is : formIn written ≡ is.Form form
+    pub form-is : formIn written ≡ is.Form form
     form-is =
         form-written code number (rows .bytes) short form
         (ap (λ (n : ℕ). formOf (code .0) (code .1) (n + bareLength)) long ∙ form-told (code .0) (code .1) level form chose)
 
-    -- an update whose contract is listed
-    module _ (tells : TellsOfContract form) (few : number < 2 ^ 32) (key-long : length key ≡ keyBytes)
-        (list : List ℕ) (place : ℕ) (listed : keyPlace list (code .0) key ≡ some place)
-      where
-        number-is : numberOf written ≡ number
-        number-is = number-written code number (rows .bytes) few
+    pub number-is : number < 2 ^ 32 → numberOf written ≡ number
+    number-is few = number-written code number (rows .bytes) few
 
-        key-is : messageKey written ≡ key
-        unfolding messageKey
-        key-is =
-            let front : KeyInFront keyBytes key (rows .bytes) = rw (contract-key form (tells .0) (tells .1)) at (key-in-front 0 (rowsOf form) key (cellsOf form quote) rows-good) in
-            ap (take keyBytes) data-is ∙ front .stands ∙ take-all keyBytes key (omega arith)
+    -- where its letter is listed
+    module _ (few : number < 2 ^ 32) (list : List ℕ) (letter-listed : isSome (segmentOf list (code .0)) ≡ true) where
+      -- it breaks no rule before those of its rows and its key
+      head-good : headOf (code .0) (segmentOf list (code .0)) written ≡ head.Good
+      unfolding headOf coded
+      head-good =
+          let all = all-of-it in
+          let n = length-is in
+          let five = framed-exact written .1 (record { begun = omega arith; least = omega arith; within = omega arith }) in
+          let six : coded (code .0) (segmentOf list (code .0)) written ≡ true =
+          rw (letter-written code number (rows .bytes), second-written code number (rows .bytes), eq-eqb (code .0) (code .0) refl, second-capital (code .0) (code .1) level form chose, letter-listed) in
+          let seven = trailed-exact written .1 (end-written code number (rows .bytes) short) in
+          let nine = summed-exact written .1 (sum-written code number (rows .bytes) short) in
+          hold-good (headRules (code .0) (segmentOf list (code .0)) written) (five, (six, (seven, (ap takesLength form-is, (nine, (rw (form-is, number-is few) number-fits, tt))))))
 
-        -- it breaks no rule before those of its rows and its key
-        head-good : headOf (code .0) (segmentOf list (code .0)) written ≡ head.Good
-        unfolding headOf coded
-        head-good =
-            let all = all-of-it in
-            let n = length-is in
-            let five = framed-exact written .1 (record { begun = omega arith; least = omega arith; within = omega arith }) in
-            let six : coded (code .0) (segmentOf list (code .0)) written ≡ true =
-            rw (letter-written code number (rows .bytes), second-written code number (rows .bytes), eq-eqb (code .0) (code .0) refl, second-capital (code .0) (code .1) level form chose, key-found list (code .0) key place listed .1) in
-            let seven = trailed-exact written .1 (end-written code number (rows .bytes) short) in
-            let nine = summed-exact written .1 (sum-written code number (rows .bytes) short) in
-            hold-good (headRules (code .0) (segmentOf list (code .0)) written) (five, (six, (seven, (ap takesLength form-is, (nine, (rw (form-is, number-is) number-fits, tt))))))
+      -- one that tells of nothing is a heartbeat
+      pub heartbeat-is : subjectOf form ≡ Nothing → messageOf list (code .0) written .what ≡ what.Heartbeat
+      heartbeat-is nothing =
+          ap (λ (m : Message). m .what) (good-head list (code .0) written head-good)
+          ∙ sym (ap (λ (o : Outline). o .what) (outline-told (heartbeat-reads (keyPlace list (code .0) (messageKey written)) written (messageLength (rowsOf form)) (sym length-is) [] form form-is nothing .told)))
+
+    -- an update
+    module _ (tells : TellsOfContract form) (key-long : length key ≡ keyBytes) where
+      pub key-is : messageKey written ≡ key
+      unfolding messageKey
+      key-is =
+          let front : KeyInFront keyBytes key (rows .bytes) = rw (contract-key form (tells .0) (tells .1)) at (key-in-front 0 (rowsOf form) key (cellsOf form quote) rows-good) in
+          ap (take keyBytes) data-is ∙ front .stands ∙ take-all keyBytes key (omega arith)
+
+      -- whose contract is listed
+      module _ (few : number < 2 ^ 32) (list : List ℕ) (place : ℕ) (listed : keyPlace list (code .0) key ≡ some place) where
+        letter-there : isSome (segmentOf list (code .0)) ≡ true
+        letter-there = ap isSome (key-found list (code .0) key place listed .1)
 
         abbrev message : Message
         message =
@@ -123,6 +140,6 @@ module _ (code : Code) (level : Level) (number : ℕ) (key : List ℕ) (quote : 
 
         pub message-is : messageOf list (code .0) written ≡ message
         message-is =
-            good-head list (code .0) written head-good
+            good-head list (code .0) written (head-good few list letter-there)
             ∙ update-is (keyPlace list (code .0) (messageKey written)) written (messageLength (rowsOf form)) (sym length-is) (what.Update number form place) form form-is tells (record { cells = seenCells (rowsOf form) (cellsOf form quote); verdict = Good })
-            (rw data-is (rows-back 0 (rowsOf form) key (cellsOf form quote) rows-good)) (rw (key-is, listed, number-is))
+            (rw data-is (rows-back 0 (rowsOf form) key (cellsOf form quote) rows-good)) (rw (key-is, listed, number-is few))

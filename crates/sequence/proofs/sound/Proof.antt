@@ -7,7 +7,8 @@ use borrow.Author.Tests.{eq-eqb, ne-eqb, le-leb, lt-leb, lt-ltb, le-ltb}
 use lib.ListN.{length, getD}
 use Rattle.laws.specs.Tests.{and-false}
 use Rattle.sequence.specs.Gaps.{most}
-use Rattle.sequence.specs.Row.{cells, gapsOf, runsOf, soundGapRow}
+use Rattle.sequence.specs.Row.{cells, gapsOf, runsOf}
+use Rattle.sequence.specs.RowLaid.{soundGapRow}
 use Rattle.sequence.proofs.Cells.{few-runs}
 use Rattle.sequence.proofs.sound.Statement.{statement}
 use Rattle.sequence.proofs.sound.Tie as tie

@@ -5,7 +5,7 @@ use mathlib.Core.Path.{_≡_, refl, sym, ap, _∙_}
 use native.Mathlib.Omega.{arith}
 use mathlib.Core.Logic.{inl, inr}
 use lib.ListN.{getD, drop}
-use Rattle.sequence.specs.Sound.{soundRuns}
+use Rattle.sequence.specs.SoundTests.{soundRuns}
 use Rattle.sequence.specs.SoundLaws.{sound-step, sound-stop, sound-end}
 use Rattle.sequence.specs.Row.{gapsOf, runsOf}
 use Rattle.sequence.proofs.Cells.{stands-at}

@@ -1,7 +1,7 @@
 -- `sequence::start` meets its contract: two stores into a row that is cleared.
 use borrow.Author.Needs.{needs}
 use mathlib.Core.Path.{refl}
-use Rattle.sequence.specs.Row.{laid}
+use Rattle.sequence.specs.RowLaid.{laid}
 use Rattle.sequence.proofs.start.Statement.{statement}
 use Rattle.sequence.proofs.start.Tie as tie
 

@@ -3,7 +3,9 @@ use Prim.Native.Nat.{ℕ}
 use mathlib.Core.Path.{_≡_, refl, sym, _∙_}
 use mathlib.Core.List.{List}
 use lib.ListN.{length}
+use Rattle.laws.specs.Refused.{codeNo}
 use Rattle.contracts.specs.Answers.{placeOf}
+use Rattle.contracts.specs.AnswersLaws.{found-told}
 use Rattle.contracts.specs.Lookup.{segmentOf}
 use Rattle.sequence.specs.RowLaws.{sound-row-exactly}
 use Rattle.turns.specs.Acts.{Left}
@@ -16,6 +18,10 @@ use Rattle.state.specs.Memory.{lends}
 use borrow.Author.Needs.{needs}
 use Rattle.batch.proofs.batch.take_on.Statement.{statement}
 use Rattle.batch.proofs.batch.take_on.Tie as tie
+
+-- the segment of the batch's letter
+segment-is : (c : tie.After-segment-of) → placeOf (c .segment-of .result) ≡ segmentOf (c .before .before .before .before .before .before .before .args .list .now) (c .before .letter-of .result)
+segment-is c = found-told codeNo (c .segment-of .result) _ (c .segment-of .ensures)
 
 -- what is known once the messages are judged
 module _ (c : tie.After-judge-messages) where
@@ -35,10 +41,10 @@ module _ (c : tie.After-judge-messages) where
   stores′ = c .judge-messages .last .1 .1 .1 .1 .1 .0
 
   ready : RowReady (start .args .rows .now) (placeOf (found .segment-of .result))
-  ready i e = row-ready (start .args .list .now) (start .args .rows .now) (first .letter-of .result) (start .pre .0 .rows-ready) i (sym (found .segment-of .ensures) ∙ e)
+  ready i e = row-ready (start .args .list .now) (start .args .rows .now) (first .letter-of .result) (start .pre .0 .rows-ready) i (sym (segment-is found) ∙ e)
 
   scratch : ScratchRow (start .args .rows .now) (segmentOf (start .args .list .now) (first .letter-of .result)) (c .before .before .before .copy-row-in .last .1 .1 .0)
-  scratch = rw (found .segment-of .ensures) at (c .before .before .before .copy-row-in .ensures)
+  scratch = rw (segment-is found) at (c .before .before .before .copy-row-in .ensures)
 
 -- and accepted
 module _ (c : tie.After-enum-told) where
@@ -58,14 +64,14 @@ copy-row-in-requires c κs =
     let f = c .before .before .before in
     let u = f .before in
     let s = u .before .before .before .before .before .before in
-    ((λ i e. row-ready (s .args .list .now) (s .args .rows .now) (u .letter-of .result) (s .pre .0 .rows-ready) i (sym (f .segment-of .ensures) ∙ e)), refl)
+    ((λ i e. row-ready (s .args .list .now) (s .args .rows .now) (u .letter-of .result) (s .pre .0 .rows-ready) i (sym (segment-is f) ∙ e)), refl)
 
 judge-messages-requires : tie.Need-judge-messages-requires
 judge-messages-requires c κs =
     let r = c .before .before in
     let f = r .before .before .before in
     let s = f .before .before .before .before .before .before .before .before in
-    (front-ready (s .args .list .now) _ _ _ _ _ _ (f .before .segment-of .ensures) (s .pre .0 .header) (f .before2 .ensures) (r .copy-row-in .ensures), s .pre .0 .few)
+    (front-ready (s .args .list .now) _ _ _ _ _ _ (segment-is (f .before)) (s .pre .0 .header) (f .before2 .ensures) (r .copy-row-in .ensures), s .pre .0 .few)
 
 put-row-in-requires : tie.Need-put-row-in-requires
 put-row-in-requires c κs = let d = c .before .before in (ready (judged d), sound-row-exactly (row′ (judged d)) .0 (left d .2 .sound) .0)
@@ -82,7 +88,7 @@ returns c =
     let d = p .before .before .before in
     let j = judged d in
     let s = start j in
-    rw (p .put-row-in .ensures, found j .segment-of .ensures, m .make-all .ensures)
+    rw (p .put-row-in .ensures, segment-is (found j), m .make-all .ensures)
     (scratch-taken _ _ _ _ _ _ (scratch j) (s .pre .0 .some-messages) (first j .letter-of .ensures) _ _ _ _ (j .judge-messages .ensures) (s .args .records .now) (d .enum-told .given .1) (s .pre .2))
 
 returns-2 : tie.Need-returns-2

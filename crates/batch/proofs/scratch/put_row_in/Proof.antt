@@ -1,7 +1,7 @@
 -- In its segment's place, where there is one.
 use mathlib.Core.Path.{ap, sym, _∙_}
 use Rattle.contracts.specs.Answers.{placeOf}
-use Rattle.state.specs.Memory.{withGapRowIn}
+use Rattle.state.specs.MemoryRows.{withGapRowIn}
 use borrow.Author.Needs.{needs}
 use Rattle.batch.proofs.scratch.put_row_in.Statement.{statement}
 use Rattle.batch.proofs.scratch.put_row_in.Tie as tie

@@ -9,7 +9,7 @@ use denote.Ref.{now}
 use Rattle.contracts.specs.Below.{allBelow}
 use Rattle.contracts.specs.BelowLaws.{pass-on, one-fails}
 use Rattle.contracts.specs.File.{countAt}
-use Rattle.contracts.specs.Sound.{keySound, bodySound}
+use Rattle.contracts.specs.SoundTests.{keySound, bodySound}
 use Rattle.contracts.proofs.check.body_sound.Statement.{statement}
 use Rattle.contracts.proofs.check.body_sound.Tie as tie
 

@@ -1,6 +1,6 @@
 -- `contracts::check::entry_sound` meets its contract: the tests of an entry, one behind the other.
 use borrow.Author.Needs.{needs}
-use Rattle.contracts.specs.Sound.{entrySound}
+use Rattle.contracts.specs.SoundTests.{entrySound}
 use Rattle.contracts.proofs.check.entry_sound.Statement.{statement}
 use Rattle.contracts.proofs.check.entry_sound.Tie as tie
 

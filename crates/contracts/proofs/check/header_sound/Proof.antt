@@ -6,7 +6,8 @@ use lib.Dec.{eqb}
 use lib.ListN.{length}
 use denote.Ref.{now}
 use Rattle.contracts.specs.File.{segmentsOf}
-use Rattle.contracts.specs.Sound.{mostSegments, within, bodyAt, headerSound}
+use Rattle.contracts.specs.Sound.{mostSegments}
+use Rattle.contracts.specs.SoundTests.{within, bodyAt, headerSound}
 use Rattle.contracts.proofs.check.header_sound.Statement.{statement}
 use Rattle.contracts.proofs.check.header_sound.Tie as tie
 

@@ -6,7 +6,7 @@ use borrow.Author.Needs.{needs}
 use denote.Ref.{now}
 use Rattle.contracts.specs.File.{listedKey}
 use Rattle.contracts.specs.Keys.{orderOf}
-use Rattle.contracts.specs.Sound.{isBelow, keyAscends}
+use Rattle.contracts.specs.SoundTests.{isBelow, keyAscends}
 use Rattle.contracts.proofs.check.key_ascends.Statement.{statement}
 use Rattle.contracts.proofs.check.key_ascends.Tie as tie
 

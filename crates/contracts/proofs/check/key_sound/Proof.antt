@@ -3,7 +3,7 @@ use mathlib.Core.Path.{ap, ap₂, _∙_}
 use mathlib.Core.Bool.{_&&_}
 use borrow.Author.Needs.{needs}
 use Rattle.wire.specs.Bytes.{allPrintable}
-use Rattle.contracts.specs.Sound.{keySound}
+use Rattle.contracts.specs.SoundTests.{keySound}
 use Rattle.contracts.proofs.check.key_sound.Statement.{statement}
 use Rattle.contracts.proofs.check.key_sound.Tie as tie
 

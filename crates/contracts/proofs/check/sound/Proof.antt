@@ -3,7 +3,7 @@ use mathlib.Core.Path.{_≡_, sym, _∙_}
 use mathlib.Core.Bool.{true, false}
 use borrow.Author.Needs.{needs}
 use denote.Ref.{now}
-use Rattle.contracts.specs.Sound.{headerSound, sound}
+use Rattle.contracts.specs.SoundTests.{headerSound, sound}
 use Rattle.contracts.proofs.check.sound.Statement.{statement}
 use Rattle.contracts.proofs.check.sound.Tie as tie
 

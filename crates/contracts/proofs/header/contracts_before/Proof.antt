@@ -6,9 +6,8 @@ use native.Mathlib.Omega.{arith}
 use borrow.Author.Needs.{needs}
 use lib.ListN.{getD}
 use denote.Ref.{now}
-use Rattle.contracts.specs.Below.{sumBelow}
+use Rattle.contracts.specs.File.{sumBelow, segmentsOf, countAt, contractsBefore}
 use Rattle.contracts.specs.BelowLaws.{sum-on, sum-under}
-use Rattle.contracts.specs.File.{segmentsOf, countAt, contractsBefore}
 use Rattle.contracts.specs.FileLaws.{segments-under, count-under}
 use Rattle.contracts.proofs.header.contracts_before.Statement.{statement}
 use Rattle.contracts.proofs.header.contracts_before.Tie as tie

@@ -6,7 +6,9 @@ use native.Mathlib.Omega.{arith}
 use borrow.Author.Needs.{needs}
 use lib.ListN.{getD}
 use denote.Ref.{now}
+use Rattle.laws.specs.Refused.{contractNo}
 use Rattle.contracts.specs.declared.key.Stands.{Stands}
+use Rattle.contracts.specs.Answers.{lookedUp}
 use Rattle.contracts.specs.File.{countAt, offsetAt, keyFrom}
 use Rattle.contracts.specs.FileLaws.{count-under, offset-under}
 use Rattle.contracts.specs.Halving.{Halved, halvedFrom}
@@ -73,7 +75,7 @@ returns c =
     let d = c .before .before in
     let at = d .before .before .before .loop in
     let e = match-stops (sought d) (at .low) (at .left) (omega (arith, d .before .before .loop-test .taken)) (stands d ∙ c .enum-told .given .1) in
-    sym (at .inv .1 ∙ ap (λ (h : Halved). h .place) e)
+    ap (lookedUp contractNo) (sym (at .inv .1 ∙ ap (λ (h : Halved). h .place) e))
 
 loop-less : tie.Need-loop-less Inv-loop μ-loop
 loop-less c = omega (arith, c .before .before .before .before .loop-test .taken)
@@ -110,7 +112,7 @@ returns-2 c =
     let at = c .before .loop in
     let s = standsTo (now (a .list)) (a .segment) (now (a .wanted)) in
     let none-left-over : at .left ≡ 0 = omega arith in
-    sym (at .inv .1 ∙ ap (λ (n : ℕ). halvedFrom s (at .low) n .place) none-left-over ∙ ap (λ (h : Halved). h .place) (none-left s 0 (at .low)))
+    ap (lookedUp contractNo) (sym (at .inv .1 ∙ ap (λ (n : ℕ). halvedFrom s (at .low) n .place) none-left-over ∙ ap (λ (h : Halved). h .place) (none-left s 0 (at .low))))
 
 pub place-of-spec : {M : Type 1} → statement M
 place-of-spec =

@@ -9,6 +9,8 @@ use borrow.Author.Needs.{needs}
 use borrow.Author.Tests.{eq-eqb, ne-eqb}
 use lib.Dec.{eqb}
 use denote.Ref.{now}
+use Rattle.laws.specs.Refused.{codeNo}
+use Rattle.contracts.specs.Answers.{lookedUp}
 use Rattle.contracts.specs.Below.{firstBelow}
 use Rattle.contracts.specs.BelowLaws.{first-on, first-here}
 use Rattle.contracts.specs.File.{segmentsOf, letterAt}
@@ -38,7 +40,7 @@ returns c =
     let i = at-test .before .loop .i in
     let listed : i < segmentsOf l = omega arith in
     let here : letterAt l i ≡ a .letter = omega arith in
-    sym (first-here (has l (a .letter)) (segmentsOf l) i listed (at-test .before .loop .inv .1) (eq-eqb (letterAt l i) (a .letter) here))
+    ap (lookedUp codeNo) (sym (first-here (has l (a .letter)) (segmentsOf l) i listed (at-test .before .loop .inv .1) (eq-eqb (letterAt l i) (a .letter) here)))
 
 add-i : tie.Need-add-i Inv-loop μ-loop
 add-i c = omega arith
@@ -60,7 +62,7 @@ unfolding segmentOf
 returns-2 c =
     let a = c .before .before .before .before .args in
     let all : segmentsOf (now (a .list)) ≡ c .before .loop .i = omega arith in
-    sym (ap (λ (k : ℕ). firstBelow k (has (now (a .list)) (a .letter))) all ∙ c .before .loop .inv .1)
+    ap (lookedUp codeNo) (sym (ap (λ (k : ℕ). firstBelow k (has (now (a .list)) (a .letter))) all ∙ c .before .loop .inv .1))
 
 pub segment-of-spec : {M : Type 1} → statement M
 segment-of-spec =

@@ -1,6 +1,7 @@
 -- The forms of the code, by their lengths.
 use mathlib.Core.Path.{ap, sym, _∙_}
 use borrow.Author.Tests.{ne-eqb}
+use Rattle.forms.specs.AnswersLaws.{tells}
 use Rattle.forms.specs.Forms.{namedRows, rowsOf, formOf}
 use Rattle.forms.specs.Inner.{familyForms}
 use borrow.Author.Needs.{needs}
@@ -9,27 +10,27 @@ use Rattle.forms.proofs.forms.form_of.Tie as tie
 
 returns : tie.Need-returns
 unfolding formOf rowsOf namedRows
-returns c = rw (sym (c .before .before .before .family-of .ensures) ∙ ap familyForms (c .before .enum-told .given .1), c .match2 .keys1)
+returns c = tells (rw (sym (c .before .before .before .family-of .ensures) ∙ ap familyForms (c .before .enum-told .given .1), c .match2 .keys1))
 
 returns-2 : tie.Need-returns-2
 unfolding formOf rowsOf namedRows
-returns-2 c = simp (sym (c .before .before .before .family-of .ensures) ∙ ap familyForms (c .before .enum-told .given .1), ne-eqb _ _ (c .match2 .rest .1))
+returns-2 c = tells (simp (sym (c .before .before .before .family-of .ensures) ∙ ap familyForms (c .before .enum-told .given .1), ne-eqb _ _ (c .match2 .rest .1)))
 
 returns-3 : tie.Need-returns-3
 unfolding formOf rowsOf namedRows
-returns-3 c = rw (sym (c .before .before .before .family-of .ensures) ∙ ap familyForms (c .before .enum-told2 .given .1), c .match3 .keys1)
+returns-3 c = tells (rw (sym (c .before .before .before .family-of .ensures) ∙ ap familyForms (c .before .enum-told2 .given .1), c .match3 .keys1))
 
 returns-4 : tie.Need-returns-4
 unfolding formOf rowsOf namedRows
-returns-4 c = rw (sym (c .before .before .before .family-of .ensures) ∙ ap familyForms (c .before .enum-told2 .given .1), c .match3 .keys2)
+returns-4 c = tells (rw (sym (c .before .before .before .family-of .ensures) ∙ ap familyForms (c .before .enum-told2 .given .1), c .match3 .keys2))
 
 returns-5 : tie.Need-returns-5
 unfolding formOf rowsOf namedRows
-returns-5 c = simp (sym (c .before .before .before .family-of .ensures) ∙ ap familyForms (c .before .enum-told2 .given .1), ne-eqb _ _ (c .match3 .rest .0 .1), ne-eqb _ _ (c .match3 .rest .1))
+returns-5 c = tells (simp (sym (c .before .before .before .family-of .ensures) ∙ ap familyForms (c .before .enum-told2 .given .1), ne-eqb _ _ (c .match3 .rest .0 .1), ne-eqb _ _ (c .match3 .rest .1)))
 
 returns-6 : tie.Need-returns-6
 unfolding formOf
-returns-6 c = rw (sym (c .before .before .family-of .ensures) ∙ ap familyForms (c .enum-told3 .given .1))
+returns-6 c = tells (rw (sym (c .before .before .family-of .ensures) ∙ ap familyForms (c .enum-told3 .given .1)))
 
 pub form-of-spec : {M : Type 1} → statement M
 form-of-spec =

@@ -1,5 +1,7 @@
 -- Each kind of row goes to its own reader.
+use Rattle.decimal.specs.Kinds.{price, quantity, turnover}
 use Rattle.layout.specs.Read.{readRow}
+use Rattle.layout.specs.ReadLaws.{of-numbers}
 use borrow.Author.Needs.{needs}
 use Rattle.layout.proofs.read.read_row.Statement.{statement}
 use Rattle.layout.proofs.read.read_row.Tie as tie
@@ -18,15 +20,15 @@ returns-3 c = rw (c .before .before .enum-told3 .given .1, ← c .before .u8-at2
 
 returns-4 : tie.Need-returns-4
 unfolding readRow
-returns-4 c = rw (c .before .before .enum-told4 .given .1, ← c .before .read .ensures) (c .of-number .ensures)
+returns-4 c = rw (c .before .before .enum-told4 .given .1) (of-numbers price (c .before .before .before .before .before .args .field .now) (c .before .read .result) (c .before .read .ensures) (c .of-number .ensures))
 
 returns-5 : tie.Need-returns-5
 unfolding readRow
-returns-5 c = rw (c .before .before .enum-told5 .given .1, ← c .before .read2 .ensures) (c .of-number2 .ensures)
+returns-5 c = rw (c .before .before .enum-told5 .given .1) (of-numbers quantity (c .before .before .before .before .before .args .field .now) (c .before .read2 .result) (c .before .read2 .ensures) (c .of-number2 .ensures))
 
 returns-6 : tie.Need-returns-6
 unfolding readRow
-returns-6 c = rw (c .before .before .enum-told6 .given .1, ← c .before .read3 .ensures) (c .of-number3 .ensures)
+returns-6 c = rw (c .before .before .enum-told6 .given .1) (of-numbers turnover (c .before .before .before .before .before .args .field .now) (c .before .read3 .result) (c .before .read3 .ensures) (c .of-number3 .ensures))
 
 pub read-row-spec : {M : Type 1} → statement M
 read-row-spec =

@@ -12,6 +12,7 @@ use Rattle.layout.specs.declared.read.RowRead.{RowRead}
 use Rattle.layout.specs.declared.read.Verdict.{Verdict}
 use Rattle.layout.specs.declared.read.Verdict.the-variants.{Field, Range}
 use Rattle.forms.specs.Rows.{widthOf}
+use Rattle.layout.specs.AnswersLaws.{row-told}
 use Rattle.layout.specs.Read.{Outcome, readRow, rowThen, ReadsRows}
 use Rattle.layout.specs.ReadLaws.{behind, Going, begins, this-row, goes-on, stands, all-read}
 use Rattle.layout.proofs.read.read_rows.Statement.{statement}
@@ -103,7 +104,7 @@ module _ (c : tie.After-read-row Inv-loop μ-loop) where
   row-read : readRow (getD (take count rows) i (Key 0)) (take width (drop at bytes)) ≡ c .read-row .result
   row-read =
       let e : at + width - at ≡ width = omega arith in
-      rw same-row (sym (rw e at (c .read-row .ensures)))
+      rw same-row (sym (row-told _ _ (rw e at (c .read-row .ensures))))
 
   ended : (verdict : Verdict) {answer : RowRead} → c .read-row .result ≡ answer
       → ((rest : Outcome) → rowThen answer i rest ≡ record { cells = []; verdict = verdict })

@@ -38,8 +38,7 @@ unfolding rowText
 returns-5 c =
     let s = c .before .before .before .before .before .before .before .before .before .before .before .before .before .before in
     let some = sym (c .before .before .before .before .before .before .before .before .before .held-in .ensures) ∙ c .before .before .before .before .before .before .before .units .given .1 in
-    rw (c .of-put .ensures)
-    (puts-amount (s .args .row) (s .args .key .now) (s .args .cell) price (s .args .field .now) (s .pre) (rw (c .before .before .before .before .before .before .before .before .before .before .enum-told4 .given .1)) _ some (rw (c .before .before .before .before .before .of .ensures) at (c .before .before .before .write .ensures)))
+    puts-amount (s .args .row) (s .args .key .now) (s .args .cell) price (s .args .field .now) (s .pre) (rw (c .before .before .before .before .before .before .before .before .before .before .enum-told4 .given .1)) (c .of-put .ensures) _ some (rw (c .before .before .before .before .before .of .ensures) at (c .before .before .before .write .ensures))
 
 returns-6 : tie.Need-returns-6
 unfolding rowText
@@ -53,8 +52,7 @@ unfolding rowText
 returns-7 c =
     let s = c .before .before .before .before .before .before .before .before .before .before .before .before .before .before in
     let some = sym (c .before .before .before .before .before .before .before .before .before .held-in2 .ensures) ∙ c .before .before .before .before .before .before .before .units2 .given .1 in
-    rw (c .of-put2 .ensures)
-    (puts-amount (s .args .row) (s .args .key .now) (s .args .cell) quantity (s .args .field .now) (s .pre) (rw (c .before .before .before .before .before .before .before .before .before .before .enum-told6 .given .1)) _ some (rw (c .before .before .before .before .before .of2 .ensures) at (c .before .before .before .write2 .ensures)))
+    puts-amount (s .args .row) (s .args .key .now) (s .args .cell) quantity (s .args .field .now) (s .pre) (rw (c .before .before .before .before .before .before .before .before .before .before .enum-told6 .given .1)) (c .of-put2 .ensures) _ some (rw (c .before .before .before .before .before .of2 .ensures) at (c .before .before .before .write2 .ensures))
 
 returns-8 : tie.Need-returns-8
 unfolding rowText
@@ -68,8 +66,7 @@ unfolding rowText
 returns-9 c =
     let s = c .before .before .before .before .before .before .before .before .before .before .before .before .before .before in
     let some = sym (c .before .before .before .before .before .before .before .before .before .held-in3 .ensures) ∙ c .before .before .before .before .before .before .before .units3 .given .1 in
-    rw (c .of-put3 .ensures)
-    (puts-amount (s .args .row) (s .args .key .now) (s .args .cell) turnover (s .args .field .now) (s .pre) (rw (c .before .before .before .before .before .before .before .before .before .before .enum-told8 .given .1)) _ some (rw (c .before .before .before .before .before .of3 .ensures) at (c .before .before .before .write3 .ensures)))
+    puts-amount (s .args .row) (s .args .key .now) (s .args .cell) turnover (s .args .field .now) (s .pre) (rw (c .before .before .before .before .before .before .before .before .before .before .enum-told8 .given .1)) (c .of-put3 .ensures) _ some (rw (c .before .before .before .before .before .of3 .ensures) at (c .before .before .before .write3 .ensures))
 
 pub put-row-spec : {M : Type 1} → statement M
 put-row-spec =

@@ -1,6 +1,6 @@
 -- The loop's invariant: the writing has gone on for `i` rows, `at` bytes and `used` bytes of the key.
 use Prim.Native.Nat.{ℕ, _≤_, _<_, _+_, _-_, min}
-use mathlib.Core.Path.{_≡_, refl, sym, _∙_}
+use mathlib.Core.Path.{_≡_, refl, ap, sym, _∙_}
 use mathlib.Core.List.{List, [], _++_, append-assoc}
 use native.Mathlib.Omega.{arith}
 use borrow.Author.Needs.{needs}
@@ -13,7 +13,9 @@ use Rattle.forms.specs.Rows.{widthOf}
 use Rattle.forms.specs.Sizes.{mostData}
 use Rattle.layout.specs.declared.read.Verdict.{Verdict}
 use Rattle.layout.specs.declared.read.Verdict.the-variants.{Field, Range}
-use Rattle.layout.specs.Write.{PutsRow, RowText, rowText, Laid, textThen, writeRows, WritesRows, keyUsed}
+use Rattle.layout.specs.Answers.{rowPutNumber}
+use Rattle.layout.specs.Write.{PutsRow, RowText, rowText, Laid, textThen, writeRows, WritesRows}
+use Rattle.layout.specs.Cells.{keyUsed}
 use Rattle.layout.specs.PutLaws.{fits-text, field-text, range-text}
 use Rattle.layout.specs.WriteLaws.{Writing, room, goes-on, stops, all-written}
 use Rattle.layout.proofs.write.write_rows.Statement.{statement}
@@ -155,10 +157,10 @@ put-row-requires c κs =
     mid-len (at d) (at d + width) (bytes d) (omega (arith, has-room d, writing d .1)) ∙ same ∙ c .before .before .before .width-of .ensures
 
 returns : tie.Need-returns Inv-loop μ-loop
-returns c = ended (c .before .before) (Field _) (field-text _ (sym (row-put (c .before .before) .answers) ∙ c .enum-told2 .given .1)) (λ rest. refl)
+returns c = ended (c .before .before) (Field _) (field-text _ (sym (row-put (c .before .before) .answers) ∙ ap rowPutNumber (c .enum-told2 .given .1))) (λ rest. refl)
 
 returns-2 : tie.Need-returns-2 Inv-loop μ-loop
-returns-2 c = ended (c .before .before) (Range _) (range-text _ (sym (row-put (c .before .before) .answers) ∙ c .enum-told3 .given .1)) (λ rest. refl)
+returns-2 c = ended (c .before .before) (Range _) (range-text _ (sym (row-put (c .before .before) .answers) ∙ ap rowPutNumber (c .enum-told3 .given .1))) (λ rest. refl)
 
 key-used-requires : tie.Need-key-used-requires Inv-loop μ-loop
 key-used-requires c κs = tt

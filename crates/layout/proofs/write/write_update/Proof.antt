@@ -11,6 +11,7 @@ use Rattle.layout.specs.declared.read.Verdict.the-variants.{Good}
 use Rattle.forms.specs.Forms.{rowsOf}
 use Rattle.forms.specs.Rows.{dataLength}
 use Rattle.forms.specs.FormsLaws.{fits}
+use Rattle.layout.specs.AnswersLaws.{verdict-told}
 use Rattle.layout.specs.Write.{Laid, writeRows, WritesRows, overFront}
 use Rattle.layout.specs.WriteLaws.{good-length}
 use borrow.Author.Needs.{needs}
@@ -37,9 +38,12 @@ module _ (c : tie.After-write-rows) where
   wrote : WritesRows rows (c .write-rows .result)
   wrote = rw (c .before .count-of .ensures, c .before .before .rows-of .ensures, fits form .padded-rows) at (c .write-rows .ensures)
 
+  same-verdict : verdict ≡ rows .verdict
+  same-verdict = verdict-told _ _ (wrote .answers)
+
   module _ (good : verdict ≡ Good) where
     all-good : rows .verdict ≡ Good
-    all-good = sym (wrote .answers) ∙ good
+    all-good = sym same-verdict ∙ good
 
     long : length (rows .bytes) ≡ dataLength (rowsOf form)
     long = good-length 0 (rowsOf form) (c .before .before .before .before .before .args .key .now) (c .before .before .before .before .before .args .cells .now) all-good
@@ -50,12 +54,12 @@ module _ (c : tie.After-write-rows) where
 returns : tie.Need-returns
 returns c =
     let w = c .before .before in
-    record { answers = wrote w .answers; leaves = rw (← wrote w .answers, c .enum-told2 .given .1) }
+    record { answers = wrote w .answers; leaves = rw (← same-verdict w, c .enum-told2 .given .1) }
 
 returns-2 : tie.Need-returns-2
 returns-2 c =
     let w = c .before .before in
-    record { answers = wrote w .answers; leaves = rw (← wrote w .answers, c .enum-told3 .given .1) }
+    record { answers = wrote w .answers; leaves = rw (← same-verdict w, c .enum-told3 .given .1) }
 
 array-share-prefix-bytes : tie.Need-array-share-prefix-bytes
 array-share-prefix-bytes c = rw (c .data-length .ensures) (are-there (c .before .before .before .before) (c .before .before .enum-told .given .1))

@@ -1,10 +1,11 @@
 -- The length as its field has it.
+use Rattle.message.specs.MessageLaws.{outlined}
 use borrow.Author.Needs.{needs}
 use Rattle.message.proofs.body.bad.Statement.{statement}
 use Rattle.message.proofs.body.bad.Tie as tie
 
 returns : tie.Need-returns
-returns c = rw (c .length-of .ensures)
+returns c = outlined (rw (c .length-of .ensures))
 
 pub bad-spec : {M : Type 1} → statement M
 bad-spec = tie.close (tie.spec (search needs) returns)

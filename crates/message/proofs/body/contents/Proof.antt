@@ -2,6 +2,7 @@
 use Prim.Native.Nat.{ℕ}
 use mathlib.Core.List.{List}
 use mathlib.Core.Path.{_≡_, sym, _∙_}
+use Rattle.forms.specs.AnswersLaws.{subject-told}
 use Rattle.message.specs.Fields.{lengthOf, formIn}
 use Rattle.message.specs.HeadLaws.{framed-exact}
 use Rattle.message.specs.MessageLaws.{heartbeat-reads, passed-over-reads, no-length-reads}
@@ -20,10 +21,10 @@ module _ (c : tie.After-length-of) where
   form-is = sym (c .before .before .before .pre .1)
 
 update-requires : tie.Need-update-requires
-update-requires c κs = let d = c .before .before .before .before .before .before .before in (framed-exact _ .0 (d .before .before .before .pre .0), whole-is d, form-is d ∙ c .before .before .before .before .before .named .given .1, (_, sym (c .before .before .before .subject-of .ensures) ∙ c .before .enum-told2 .given .1))
+update-requires c κs = let d = c .before .before .before .before .before .before .before in (framed-exact _ .0 (d .before .before .before .pre .0), whole-is d, form-is d ∙ c .before .before .before .before .before .named .given .1, (_, sym (subject-told (c .before .before .before .subject-of .result) _ (c .before .before .before .subject-of .ensures)) ∙ c .before .enum-told2 .given .1))
 
 returns : tie.Need-returns
-returns c = let d = c .before .before .before .before .before .before in heartbeat-reads _ (bytes d) _ (whole-is d) (d .before .before .before .args .cells .now) _ (form-is d ∙ c .before .before .before .before .named .given .1) (sym (c .before .before .subject-of .ensures) ∙ c .enum-told .given .1)
+returns c = let d = c .before .before .before .before .before .before in heartbeat-reads _ (bytes d) _ (whole-is d) (d .before .before .before .args .cells .now) _ (form-is d ∙ c .before .before .before .before .named .given .1) (sym (subject-told (c .before .before .subject-of .result) _ (c .before .before .subject-of .ensures)) ∙ c .enum-told .given .1)
 
 returns-3 : tie.Need-returns-3
 returns-3 c = let d = c .before .before .before in rw (c .number-of .ensures) (no-length-reads _ (bytes d) _ (whole-is d) (d .before .before .before .args .cells .now) (form-is d ∙ c .before .enum-told3 .given .1))

@@ -2,6 +2,7 @@
 use mathlib.Core.Path.{_≡_, refl, sym, _∙_}
 use Rattle.message.specs.declared.head.Head.{Head}
 use Rattle.message.specs.Head.{formRules}
+use Rattle.message.specs.NumbersLaws.{head-told}
 use Rattle.message.specs.Rules.{firstFault}
 use borrow.Author.Needs.{needs}
 use Rattle.message.proofs.body.formed.Statement.{statement}
@@ -9,7 +10,7 @@ use Rattle.message.proofs.body.formed.Tie as tie
 
 -- what is known once the head is judged
 form-is : (c : tie.After-judge-form) {h : Head} → c .judge-form .result ≡ h → firstFault (formRules (c .before .before .before .args .bytes .now)) ≡ h
-form-is c e = sym (c .judge-form .ensures) ∙ e
+form-is c e = sym (head-told (c .judge-form .result) _ (c .judge-form .ensures)) ∙ e
 
 returns : tie.Need-returns
 returns c = rw (form-is (c .before .before .before .before) (c .before .before .enum-told .given .1)) (c .contents .ensures)

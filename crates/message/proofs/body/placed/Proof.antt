@@ -1,13 +1,27 @@
 -- The key is listed, or it is not.
+use mathlib.Core.Path.{_≡_, refl, ap, sym, _∙_}
+use lib.ListN.{take}
+use Rattle.laws.specs.Refused.{contractNo}
+use Rattle.contracts.specs.declared.lookup.Found.{Found}
+use Rattle.contracts.specs.Answers.{placeOf}
+use Rattle.contracts.specs.AnswersLaws.{found-told}
+use Rattle.forms.specs.AnswersLaws.{tells}
+use Rattle.forms.specs.Sizes.{keyBytes}
+use Rattle.message.specs.Message.{placeThere}
 use borrow.Author.Needs.{needs}
 use Rattle.message.proofs.body.placed.Statement.{statement}
 use Rattle.message.proofs.body.placed.Tie as tie
 
+-- the place that was found
+place-is : (c : tie.After-find) {found : Found} → c .find .result ≡ found
+    → let a = c .before .before .before .before .args in placeThere (a .list .now) (take keyBytes (a .«data» .now)) (placeOf (a .segment)) ≡ placeOf found
+place-is c e = rw (← c .before .key-of .ensures) (sym (found-told contractNo (c .find .result) _ (c .find .ensures)) ∙ ap placeOf e)
+
 returns : tie.Need-returns
-returns c = rw (← c .before .before .before .before .key-of .ensures, ← c .before .before .before .find .ensures, c .before .place .given .1)
+returns c = rw (place-is (c .before .before .before) (c .before .place .given .1)) (tells refl)
 
 returns-2 : tie.Need-returns-2
-returns-2 c = rw (← c .before .before .before .key-of .ensures, ← c .before .before .find .ensures, c .enum-told .given .1)
+returns-2 c = rw (place-is (c .before .before) (c .enum-told .given .1)) (tells refl)
 
 pub placed-spec : {M : Type 1} → statement M
 placed-spec =

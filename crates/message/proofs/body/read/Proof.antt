@@ -4,12 +4,15 @@ use mathlib.Core.Path.{_≡_, refl, sym, _∙_}
 use mathlib.Core.Bool.{true}
 use mathlib.Core.List.{List}
 use borrow.Author.Tests.{not-true, not-false}
+use Rattle.forms.specs.AnswersLaws.{named-told}
+use Rattle.contracts.specs.Answers.{placeOf}
 use Rattle.contracts.specs.Lookup.{segmentOf}
 use Rattle.message.specs.declared.head.Head.{Head}
 use Rattle.message.specs.Head.{frameRules}
+use Rattle.message.specs.NumbersLaws.{head-told}
 use Rattle.message.specs.Rules.{firstFault}
 use Rattle.message.specs.HeadLaws.{good-frame, bad-frame}
-use Rattle.message.specs.Message.{messageOf, cellsRead}
+use Rattle.message.specs.Reads.{messageOf, cellsRead}
 use Rattle.message.specs.MessageLaws.{key-by-segment, good-head, bad-head}
 use borrow.Author.Needs.{needs}
 use Rattle.message.proofs.body.read.Statement.{statement}
@@ -30,12 +33,12 @@ module _ (c : tie.After-judge-frame) where
   bytes = begun .args .bytes .now
 
   frame-is : {h : Head} → c .judge-frame .result ≡ h → firstFault (frameRules letter (segmentOf list letter) bytes) ≡ h
-  frame-is e = rw (begun .pre) at (sym (c .judge-frame .ensures) ∙ e)
+  frame-is e = rw (begun .pre) at (sym (head-told (c .judge-frame .result) (firstFault (frameRules letter (placeOf (begun .args .segment)) bytes)) (c .judge-frame .ensures)) ∙ e)
 
 formed-requires : tie.Need-formed-requires
 formed-requires c κs =
     let d = c .before .before .before .before in
-    (good-frame (letter d) (segmentOf (list d) (letter d)) (bytes d) (frame-is d (c .before .before .enum-told .given .1)) .0, c .before .form-in .ensures)
+    (good-frame (letter d) (segmentOf (list d) (letter d)) (bytes d) (frame-is d (c .before .before .enum-told .given .1)) .0, named-told (c .before .form-in .ensures))
 
 returns : tie.Need-returns
 unfolding cellsRead messageOf

@@ -12,8 +12,11 @@ use Rattle.contracts.specs.Answers.{placeOf}
 use Rattle.forms.specs.declared.forms.Form.{Form}
 use Rattle.forms.specs.Sizes.{keyBytes, bareLength}
 use Rattle.message.specs.Fields.{lengthOf, numberOf, dataOf}
-use Rattle.message.specs.Message.{messageKey, placeThere, rowsRead, ofPlace, ofVerdict, contentsBy, ReadsMessage}
+use Rattle.message.specs.Message.{messageKey, placeThere, ofPlace}
+use Rattle.message.specs.Reads.{rowsRead, ofVerdict, contentsBy, ReadsMessage}
 use Rattle.message.specs.MessageLaws.{update-reads}
+use Rattle.message.specs.Numbers.{TellsWhat}
+use Rattle.message.specs.NumbersLaws.{what-told}
 use Rattle.message.proofs.body.update.Statement.{statement}
 use Rattle.message.proofs.body.update.Tie as tie
 
@@ -53,10 +56,10 @@ module _ (c : tie.After-read-update) where
       update-reads found bytes whole whole-is w form (begun .pre .2) (begun .pre .3) (c .read-update .result) cells _
       (rw data-is at (c .read-update .ensures)) (same ∙ ap (λ (u : Verdict). ofVerdict u (ofPlace (numberOf bytes) form found)) (sym e))
 
-  good-is : {r : What} → r ≡ ofPlace (c .before .before .before .number-of .result) form (placeThere (begun .args .list .now) (take keyBytes (take (whole - 3 - 8) (drop 8 bytes))) (placeOf (begun .args .segment)))
+  good-is : {r : What} → TellsWhat (ofPlace (c .before .before .before .number-of .result) form (placeThere (begun .args .list .now) (take keyBytes (take (whole - 3 - 8) (drop 8 bytes))) (placeOf (begun .args .segment)))) r
       → r ≡ ofPlace (numberOf bytes) form found
   unfolding messageKey
-  good-is e = e ∙ (λ i. ofPlace (c .before .before .before .number-of .ensures i) form (placeThere (begun .args .list .now) (take keyBytes (data-is i)) (placeOf (begun .args .segment))))
+  good-is t = what-told t ∙ (λ i. ofPlace (c .before .before .before .number-of .ensures i) form (placeThere (begun .args .list .now) (take keyBytes (data-is i)) (placeOf (begun .args .segment))))
 
 returns : tie.Need-returns
 returns c =

@@ -6,7 +6,7 @@ use borrow.Author.Tests.{eq-eqb, ne-eqb, not-true, not-false}
 use Rattle.contracts.specs.declared.lookup.Found.{Found}
 use Rattle.contracts.specs.Answers.{placeOf}
 use Rattle.message.specs.Fields.{letterOf, secondOf}
-use Rattle.message.specs.Head.{isCapital, isSome, coded}
+use Rattle.message.specs.Tests.{isCapital, isSome, coded}
 use Rattle.message.specs.HeadLaws.{coded-parts}
 use borrow.Author.Needs.{needs}
 use Rattle.message.proofs.head.coded.Statement.{statement}

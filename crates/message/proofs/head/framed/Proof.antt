@@ -2,7 +2,7 @@
 use borrow.Author.Tests.{le-leb, lt-leb}
 use Rattle.forms.specs.Sizes.{bareLength}
 use Rattle.message.specs.Fields.{lengthOf}
-use Rattle.message.specs.Head.{framed}
+use Rattle.message.specs.Tests.{framed}
 use Prim.Native.Nat.{_<_, _≤_}
 use borrow.Author.Needs.{needs}
 use Rattle.message.proofs.head.framed.Statement.{statement}

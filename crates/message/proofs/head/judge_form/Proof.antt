@@ -5,7 +5,7 @@ use mathlib.Core.Bool.{Bool, true, false}
 use mathlib.Core.List.{List}
 use borrow.Author.Tests.{not-true, not-false}
 use Rattle.message.specs.Fields.{numberOf, formIn}
-use Rattle.message.specs.Head.{takesLength, summed, takesNumber}
+use Rattle.message.specs.Tests.{takesLength, summed, takesNumber}
 use Rattle.message.specs.HeadLaws.{framed-exact}
 use borrow.Author.Needs.{needs}
 use Rattle.message.proofs.head.judge_form.Statement.{statement}

@@ -5,7 +5,7 @@ use mathlib.Core.Bool.{true}
 use mathlib.Core.List.{List}
 use borrow.Author.Tests.{not-true, not-false}
 use Rattle.contracts.specs.Answers.{placeOf}
-use Rattle.message.specs.Head.{framed, coded}
+use Rattle.message.specs.Tests.{framed, coded}
 use Rattle.message.specs.HeadLaws.{framed-exact}
 use borrow.Author.Needs.{needs}
 use Rattle.message.proofs.head.judge_frame.Statement.{statement}

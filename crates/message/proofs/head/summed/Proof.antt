@@ -2,7 +2,7 @@
 use mathlib.Core.Path.{_≡_, sym, _∙_}
 use Rattle.forms.specs.declared.forms.Sum.{Sum}
 use Rattle.message.specs.Fields.{sumIn}
-use Rattle.message.specs.Head.{summed}
+use Rattle.message.specs.Tests.{summed}
 use Rattle.message.specs.HeadLaws.{sum-of-form}
 use borrow.Author.Needs.{needs}
 use Rattle.message.proofs.head.summed.Statement.{statement}

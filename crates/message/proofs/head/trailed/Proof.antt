@@ -1,6 +1,6 @@
 -- The last byte of the message.
 use Rattle.message.specs.Fields.{endByte}
-use Rattle.message.specs.Head.{trailed}
+use Rattle.message.specs.Tests.{trailed}
 use borrow.Author.Needs.{needs}
 use Rattle.message.proofs.head.trailed.Statement.{statement}
 use Rattle.message.proofs.head.trailed.Tie as tie

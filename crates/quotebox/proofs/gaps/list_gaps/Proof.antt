@@ -1,16 +1,14 @@
 -- The row of the letter's segment is copied, and its runs are listed.
 use Rattle.state.specs.Memory.{lends}
 use borrow.Author.Needs.{needs}
-use Rattle.state.specs.declared.state.Asked.the-variants.{Segment}
-use Rattle.state.specs.State.{Asks}
-use Rattle.state.specs.StateLaws.{row-there}
+use Rattle.state.specs.StateLaws.{AskedFor, asked-segment, asked-refused, row-there}
 use Rattle.quotebox.specs.CallsLaws.{list-refused, listed-runs, listed-short}
 use Rattle.quotebox.proofs.gaps.list_gaps.Statement.{statement}
 use Rattle.quotebox.proofs.gaps.list_gaps.Tie as tie
 
 asked : (c : tie.After-known-told) → let a = c .before .before .before .before .before .before .before .before .args in
-    Asks (lends (a .list .now) (a .rows .now) (a .records .now)) (a .letter) (Segment (c .before .segment .given .0 .0))
-asked c = rw (c .before .segment .given .1) at (c .before .before .before .check-segment .ensures)
+    AskedFor (lends (a .list .now) (a .rows .now) (a .records .now)) (a .letter) (c .before .segment .given .0 .0)
+asked c = asked-segment _ _ _ (rw (c .before .segment .given .1) at (c .before .before .before .check-segment .ensures))
 
 row-of-requires : tie.Need-row-of-requires
 row-of-requires c κs =
@@ -39,7 +37,7 @@ returns-3 : tie.Need-returns-3
 returns-3 c =
     let d = c .before .before .before in
     let a = d .before .before .before .before .before .args in
-    list-refused (lends (a .list .now) (a .rows .now) (a .records .now)) (a .letter) _ (rw (c .before .refusal .given .1) at (d .check-segment .ensures)) (a .cells .now)
+    list-refused (lends (a .list .now) (a .rows .now) (a .records .now)) (a .letter) _ (asked-refused (lends (a .list .now) (a .rows .now) (a .records .now)) (a .letter) _ (rw (c .before .refusal .given .1) at (d .check-segment .ensures))) (a .cells .now)
 
 pub list-gaps-spec : {M : Type 1} → statement M
 list-gaps-spec =

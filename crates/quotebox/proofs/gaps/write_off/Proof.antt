@@ -3,17 +3,15 @@ use borrow.Author.Needs.{needs}
 use Rattle.sequence.specs.PromisesLaws.{wroteOff-row}
 use Rattle.sequence.specs.Promises.{WroteOff}
 use Rattle.sequence.specs.RowLaws.{sound-row-exactly}
-use Rattle.state.specs.declared.state.Asked.the-variants.{Segment}
 use Rattle.state.specs.Memory.{lends, gapRowOf}
-use Rattle.state.specs.State.{Asks}
-use Rattle.state.specs.StateLaws.{row-there, row-sound}
+use Rattle.state.specs.StateLaws.{AskedFor, asked-segment, asked-refused, row-there, row-sound}
 use Rattle.quotebox.specs.CallsLaws.{off-refused, off-removed, off-none}
 use Rattle.quotebox.proofs.gaps.write_off.Statement.{statement}
 use Rattle.quotebox.proofs.gaps.write_off.Tie as tie
 
 asked : (c : tie.After-known-told) → let a = c .before .before .before .before .before .before .before .before .args in
-    Asks (lends (a .list .now) (a .rows .now) (a .records .now)) (a .letter) (Segment (c .before .segment .given .0 .0))
-asked c = rw (c .before .segment .given .1) at (c .before .before .before .check-segment .ensures)
+    AskedFor (lends (a .list .now) (a .rows .now) (a .records .now)) (a .letter) (c .before .segment .given .0 .0)
+asked c = asked-segment _ _ _ (rw (c .before .segment .given .1) at (c .before .before .before .check-segment .ensures))
 
 -- what the row's own write-off promises
 own : (c : tie.After-write-off) → let told = c .before .before .before .before in
@@ -57,7 +55,7 @@ returns-3 : tie.Need-returns-3
 returns-3 c =
     let d = c .before .before .before in
     let a = d .before .before .before .before .before .args in
-    off-refused (lends (a .list .now) (a .rows .now) (a .records .now)) (a .letter) _ (rw (c .before .refusal .given .1) at (d .check-segment .ensures))
+    off-refused (lends (a .list .now) (a .rows .now) (a .records .now)) (a .letter) _ (asked-refused (lends (a .list .now) (a .rows .now) (a .records .now)) (a .letter) _ (rw (c .before .refusal .given .1) at (d .check-segment .ensures)))
 
 pub write-off-spec : {M : Type 1} → statement M
 write-off-spec =

@@ -7,7 +7,7 @@ use native.Mathlib.Omega.{arith}
 use borrow.Author.Needs.{needs}
 use lib.ListN.{length, set, drop, replicate, length-set, length-drop, length-replicate}
 use lib.Seq.{paste, paste-zero, paste-suc, getD-drop}
-use Rattle.state.specs.Slots.{recordRows}
+use Rattle.state.specs.Places.{recordRows}
 use Rattle.quotebox.specs.RecordLaws.{cells-copied}
 use Rattle.state.specs.SlotsLaws.{rows-few}
 use Rattle.quotebox.proofs.record.cells_at.Statement.{statement}

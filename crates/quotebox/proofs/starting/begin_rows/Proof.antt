@@ -5,9 +5,11 @@ use mathlib.Core.List.{List, _++_}
 use native.Mathlib.Omega.{arith}
 use borrow.Author.Needs.{needs}
 use lib.ListN.{length, drop}
-use Rattle.state.specs.Memory.{gapRowCells, withGapRow}
+use Rattle.state.specs.Memory.{gapRowCells}
+use Rattle.state.specs.MemoryRows.{withGapRow}
 use Rattle.state.specs.RowsLaws.{length-with}
-use Rattle.quotebox.specs.Start.{startOf, startedRow, startedRows}
+use Rattle.quotebox.specs.Start.{startOf}
+use Rattle.quotebox.specs.StartActs.{startedRow, startedRows}
 use Rattle.quotebox.specs.StartLaws.{started-length, started-more}
 use Rattle.quotebox.proofs.starting.begin_rows.Statement.{statement}
 use Rattle.quotebox.proofs.starting.begin_rows.Tie as tie

@@ -4,7 +4,8 @@ use mathlib.Core.Bool.{true}
 use borrow.Author.Needs.{needs}
 use borrow.Author.Tests.{not-true, not-false}
 use Rattle.contracts.specs.File.{segmentsOf}
-use Rattle.contracts.specs.Sound.{sound}
+use Rattle.contracts.specs.SoundTests.{sound}
+use Rattle.state.specs.Answers.{checkedBy}
 use Rattle.quotebox.specs.Start.{eachStarts}
 use Rattle.quotebox.specs.StartLaws.{unsound-list, no-start, memory-decides}
 use Rattle.quotebox.proofs.starting.check_start.Statement.{statement}
@@ -24,21 +25,21 @@ returns : tie.Need-returns
 returns c =
     let a = c .before .before .before .before .args in
     let fails = not-true (c .before .sound .result) (c .if1 .taken) in
-    sym (unsound-list (a .list .now) (a .starts .now) (a .rows) (a .records) (sym (c .before .sound .ensures) ∙ fails))
+    ap checkedBy (sym (unsound-list (a .list .now) (a .starts .now) (a .rows) (a .records) (sym (c .before .sound .ensures) ∙ fails)))
 
 returns-2 : tie.Need-returns-2
 returns-2 c =
     let d = c .before in
     let a = d .before .before .before .before .before .before .args in
     let fails = not-true (d .each-starts .result) (c .if2 .taken) in
-    sym (no-start (a .list .now) (a .starts .now) (a .rows) (a .records) (held (d .before .before)) (tested d ∙ fails))
+    ap checkedBy (sym (no-start (a .list .now) (a .starts .now) (a .rows) (a .records) (held (d .before .before)) (tested d ∙ fails)))
 
 returns-3 : tie.Need-returns-3
 returns-3 c =
     let d = c .before .before in
     let a = d .before .before .before .before .before .before .args in
     let passes = not-false (d .each-starts .result) (c .before .if2 .left) in
-    c .check-memory .ensures ∙ sym (memory-decides (a .list .now) (a .starts .now) (a .rows) (a .records) (held (d .before .before)) (tested d ∙ passes))
+    c .check-memory .ensures ∙ ap checkedBy (sym (memory-decides (a .list .now) (a .starts .now) (a .rows) (a .records) (held (d .before .before)) (tested d ∙ passes)))
 
 pub check-start-spec : {M : Type 1} → statement M
 check-start-spec =

@@ -10,8 +10,9 @@ use Rattle.laws.specs.Rules.{firstBroken}
 use Rattle.contracts.specs.HeaderLaws.{contracts-few}
 use Rattle.state.specs.Memory.{lends, gapRowCells}
 use Rattle.state.specs.Slots.{contractCells}
-use Rattle.state.specs.State.{checkedRefusal}
-use Rattle.quotebox.specs.Start.{startRules, startedRows, rowsStarted, recordsCleared, GoodStart}
+use Rattle.state.specs.AnswersLaws.{checkedRefusal, checked-told}
+use Rattle.quotebox.specs.Start.{startRules, GoodStart}
+use Rattle.quotebox.specs.StartActs.{startedRows, rowsStarted, recordsCleared}
 use Rattle.quotebox.specs.StartLaws.{start-exact}
 use Rattle.quotebox.specs.CallsLaws.{start-refused, start-done}
 use Rattle.quotebox.proofs.starting.start.Statement.{statement}
@@ -19,7 +20,7 @@ use Rattle.quotebox.proofs.starting.start.Tie as tie
 
 held : (c : tie.After-enum-told) → let a = c .before .before .before .before .before .before .before .args in
     firstBroken (startRules (a .list .now) (a .starts .now) (length (a .rows .now)) (length (a .records .now))) ≡ none
-held c = sym (c .before .before .check-start .ensures) ∙ ap checkedRefusal (c .enum-told .given .1)
+held c = sym (checked-told (c .before .before .check-start .result) _ (c .before .before .check-start .ensures)) ∙ ap checkedRefusal (c .enum-told .given .1)
 
 good : (c : tie.After-enum-told) → let a = c .before .before .before .before .before .before .before .args in
     GoodStart (a .list .now) (a .starts .now) (length (a .rows .now)) (length (a .records .now))
@@ -56,7 +57,7 @@ returns-2 : tie.Need-returns-2
 returns-2 c =
     let d = c .before .before .before in
     let a = d .before .before .before .before .before .args in
-    start-refused (lends (a .list .now) (a .rows .now) (a .records .now)) (a .starts .now) _ (sym (d .check-start .ensures) ∙ ap checkedRefusal (c .before .refusal .given .1))
+    start-refused (lends (a .list .now) (a .rows .now) (a .records .now)) (a .starts .now) _ (sym (checked-told (d .check-start .result) _ (d .check-start .ensures)) ∙ ap checkedRefusal (c .before .refusal .given .1))
 
 pub start-spec : {M : Type 1} → statement M
 start-spec =

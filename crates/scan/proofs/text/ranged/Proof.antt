@@ -1,6 +1,7 @@
 -- `ranged` judges the capped amount, which is in range where the amount is.
-use mathlib.Core.Path.{_≡_}
+use mathlib.Core.Path.{_≡_, ap}
 use borrow.Author.Tests.{le-leb, lt-leb}
+use Rattle.scan.specs.Answers.{numberNumbers}
 use Rattle.scan.specs.Read.{inRange, ranged}
 use Rattle.scan.specs.CapLaws.{inRange-cap}
 use borrow.Author.Needs.{needs}
@@ -21,10 +22,10 @@ told c =
     rw (le-leb _ _ (c .before .before .if1 .left), c .scaled .ensures) (inRange-cap (start .args .kind) _ (start .pre))
 
 returns-2 : tie.Need-returns-2
-returns-2 c = rw (le-leb _ _ (c .if2 .taken)) at (told (c .before .before))
+returns-2 c = ap numberNumbers (rw (le-leb _ _ (c .if2 .taken)) at (told (c .before .before)))
 
 returns-3 : tie.Need-returns-3
-returns-3 c = rw (lt-leb _ _ (c .if2 .left)) at (told (c .before .before))
+returns-3 c = ap numberNumbers (rw (lt-leb _ _ (c .if2 .left)) at (told (c .before .before)))
 
 pub ranged-spec : {M : Type 1} → statement M
 ranged-spec = tie.close (tie.spec returns scaled-requires returns-2 returns-3)

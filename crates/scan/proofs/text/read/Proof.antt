@@ -1,9 +1,10 @@
 -- `read` answers what `readText` does: the text read from the place reached, with what was read before, is the text read from its start.
 use Prim.Native.Nat.{_-_}
-use mathlib.Core.Path.{_∙_}
+use mathlib.Core.Path.{ap, _∙_}
 use native.Mathlib.Omega.{arith}
 use lib.ListN.{length}
 use borrow.Author.Needs.{needs}
+use Rattle.scan.specs.Answers.{numberNumbers}
 use Rattle.scan.specs.Kept.{ReadTo}
 use Rattle.scan.specs.KeptLaws.{read-none, read-on, read-all}
 use Rattle.scan.proofs.text.read.Statement.{statement}
@@ -30,7 +31,7 @@ returns : tie.Need-returns Inv-loop μ-loop
 returns c =
     let end = c .before .before in
     c .answer .ensures
-    ∙ rw (c .before .joined .ensures) (read-all _ _ (c .before .before .before .before .before .pre) _ _ (end .before .loop .inv) (end .loop-test .left))
+    ∙ rw (c .before .joined .ensures) (ap numberNumbers (read-all _ _ (c .before .before .before .before .before .pre) _ _ (end .before .loop .inv) (end .loop-test .left)))
 
 pub read-spec : {M : Type 1} → statement M
 read-spec =

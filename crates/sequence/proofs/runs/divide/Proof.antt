@@ -4,7 +4,7 @@ use mathlib.Core.Path.{ap, _∙_}
 use mathlib.Core.List.{List}
 use borrow.Author.Needs.{needs}
 use lib.ListN.{set}
-use Rattle.sequence.specs.Row.{cell}
+use Rattle.sequence.specs.RowLaid.{cell}
 use Rattle.sequence.proofs.Cells.{divide-row}
 use Rattle.sequence.proofs.runs.divide.Statement.{statement}
 use Rattle.sequence.proofs.runs.divide.Tie as tie

@@ -5,7 +5,7 @@ use native.Mathlib.Omega.{arith}
 use lib.ListN.{length}
 use Rattle.forms.specs.Forms.{rowsOf, recordForm}
 use Rattle.forms.specs.Sizes.{keyRowCount}
-use Rattle.state.specs.Slots.{recordRows}
+use Rattle.state.specs.Places.{recordRows}
 use Rattle.state.specs.SlotsLaws.{rows-kept}
 use borrow.Author.Needs.{needs}
 use Rattle.state.proofs.records.record_rows.Statement.{statement}

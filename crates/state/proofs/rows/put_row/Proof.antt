@@ -6,7 +6,8 @@ use native.Mathlib.Numerals.{add-one}
 use native.Mathlib.Omega.{arith}
 use lib.ListN.{length, getD, set, length-set}
 use lib.Seq.{paste, paste-zero, paste-suc, take-all}
-use Rattle.state.specs.Memory.{gapRowCells, withGapRow}
+use Rattle.state.specs.Memory.{gapRowCells}
+use Rattle.state.specs.MemoryRows.{withGapRow}
 use Rattle.state.proofs.rows.put_row.Statement.{statement}
 use Rattle.state.proofs.rows.put_row.Tie as tie
 

@@ -7,9 +7,12 @@ use borrow.Author.Tests.{not-true, not-false}
 use lib.ListN.{length}
 use Rattle.laws.specs.RulesLaws.{none-hold}
 use Rattle.laws.specs.Rules.{firstBroken}
-use Rattle.contracts.specs.Sound.{headerSound}
-use Rattle.state.specs.Memory.{lends, gapRowsSound}
-use Rattle.state.specs.State.{memoryRules, checkedRefusal}
+use Rattle.contracts.specs.SoundTests.{headerSound}
+use Rattle.state.specs.Memory.{lends}
+use Rattle.state.specs.MemoryRows.{gapRowsSound}
+use Rattle.state.specs.Answers.{checkedBy}
+use Rattle.state.specs.AnswersLaws.{checkedRefusal, checked-told}
+use Rattle.state.specs.State.{memoryRules}
 use Rattle.state.specs.StateLaws.{list-broken, memory-lent, memory-broken, row-broken, state-holds}
 use Rattle.state.proofs.state.check_state.Statement.{statement}
 use Rattle.state.proofs.state.check_state.Tie as tie
@@ -19,13 +22,13 @@ held c = sym (c .before .header-sound .ensures) ∙ not-false (c .before .header
 
 lent : (c : tie.After-enum-told) → let a = c .before .before .before .before .before .before .before .before .args in
     firstBroken (memoryRules (a .list .now) (length (a .rows .now)) (length (a .records .now))) ≡ none
-lent c = sym (c .before .before .check-memory .ensures) ∙ ap checkedRefusal (c .enum-told .given .1)
+lent c = sym (checked-told (c .before .before .check-memory .result) _ (c .before .before .check-memory .ensures)) ∙ ap checkedRefusal (c .enum-told .given .1)
 
 returns : tie.Need-returns
 returns c =
     let a = c .before .before .before .before .before .args in
     let fails = not-true (c .before .header-sound .result) (c .if1 .taken) in
-    sym (list-broken (lends (a .list .now) (a .rows .now) (a .records .now)) (sym (c .before .header-sound .ensures) ∙ fails))
+    ap checkedBy (sym (list-broken (lends (a .list .now) (a .rows .now) (a .records .now)) (sym (c .before .header-sound .ensures) ∙ fails)))
 
 rows-sound-requires : tie.Need-rows-sound-requires
 rows-sound-requires c κs =
@@ -37,20 +40,20 @@ returns-2 c =
     let told = c .before .before .before in
     let a = told .before .before .before .before .before .before .before .before .args in
     let passes = ap (λ n. gapRowsSound n (a .rows .now)) (sym (c .before .before .segments .ensures)) ∙ sym (c .before .rows-sound .ensures) ∙ c .if2 .taken in
-    sym (state-holds (lends (a .list .now) (a .rows .now) (a .records .now)) (held (told .before .before .before)) (lent told) passes)
+    ap checkedBy (sym (state-holds (lends (a .list .now) (a .rows .now) (a .records .now)) (held (told .before .before .before)) (lent told) passes))
 
 returns-3 : tie.Need-returns-3
 returns-3 c =
     let told = c .before .before .before in
     let a = told .before .before .before .before .before .before .before .before .args in
     let fails = ap (λ n. gapRowsSound n (a .rows .now)) (sym (c .before .before .segments .ensures)) ∙ sym (c .before .rows-sound .ensures) ∙ c .if2 .left in
-    sym (row-broken (lends (a .list .now) (a .rows .now) (a .records .now)) (held (told .before .before .before)) (lent told) fails)
+    ap checkedBy (sym (row-broken (lends (a .list .now) (a .rows .now) (a .records .now)) (held (told .before .before .before)) (lent told) fails))
 
 returns-4 : tie.Need-returns-4
 returns-4 c =
     let d = c .before .before .before in
     let a = d .before .before .before .before .before .before .args in
-    sym (memory-broken (lends (a .list .now) (a .rows .now) (a .records .now)) (held (d .before)) _ (sym (d .check-memory .ensures) ∙ ap checkedRefusal (c .before .refusal .given .1)))
+    ap checkedBy (sym (memory-broken (lends (a .list .now) (a .rows .now) (a .records .now)) (held (d .before)) _ (sym (checked-told (d .check-memory .result) _ (d .check-memory .ensures)) ∙ ap checkedRefusal (c .before .refusal .given .1))))
 
 pub check-state-spec : {M : Type 1} → statement M
 check-state-spec =

@@ -6,8 +6,9 @@ use native.Mathlib.Omega.{arith}
 use borrow.Author.Needs.{needs}
 use borrow.Author.Tests.{not-true, not-false}
 use Rattle.contracts.specs.BelowLaws.{pass-on, one-fails}
-use Rattle.sequence.specs.Row.{soundGapRow}
-use Rattle.state.specs.Memory.{gapRowCells, gapRowOf, gapRowsSound}
+use Rattle.sequence.specs.RowLaid.{soundGapRow}
+use Rattle.state.specs.Memory.{gapRowCells, gapRowOf}
+use Rattle.state.specs.MemoryRows.{gapRowsSound}
 use Rattle.state.proofs.state.rows_sound.Statement.{statement}
 use Rattle.state.proofs.state.rows_sound.Tie as tie
 

@@ -9,7 +9,7 @@ use lib.ListN.{length, take, drop, length-set, length-take, length-drop}
 use lib.Seq.{sets}
 use Rattle.laws.specs.Lists.{middle}
 use Rattle.forms.specs.Forms.{rowsOf, recordForm}
-use Rattle.state.specs.Slots.{recordOf, recordAt}
+use Rattle.state.specs.Places.{recordOf, recordAt}
 use Rattle.state.specs.SlotsLaws.{record-long, rows-kept, rows-few}
 use Rattle.stores.specs.StoresLaws.{store-laid}
 use borrow.Author.Needs.{needs}

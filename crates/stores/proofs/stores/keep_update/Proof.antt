@@ -1,16 +1,23 @@
 -- By what the update tells of.
-use mathlib.Core.Path.{refl, sym, _∙_}
+use mathlib.Core.Path.{_≡_, refl, sym, _∙_}
+use Rattle.forms.specs.declared.forms.Subject.{Subject}
+use Rattle.forms.specs.AnswersLaws.{subject-told}
+use Rattle.forms.specs.Forms.{subjectOf}
 use borrow.Author.Needs.{needs}
 use Rattle.stores.proofs.stores.keep_update.Statement.{statement}
 use Rattle.stores.proofs.stores.keep_update.Tie as tie
 
+-- what the form tells of
+subject-is : (c : tie.After-subject-of) {subject : Subject} → c .subject-of .result ≡ subject → subjectOf (c .before .before .before .args .form) ≡ subject
+subject-is c e = sym (subject-told (c .subject-of .result) _ (c .subject-of .ensures)) ∙ e
+
 returns : tie.Need-returns
-returns c = rw (sym (c .before .before .subject-of .ensures) ∙ c .enum-told .given .1) (refl, refl)
+returns c = rw (subject-is (c .before .before) (c .enum-told .given .1)) (refl, refl)
 
 returns-2 : tie.Need-returns-2
 returns-2 c =
     let l = c .before .before .before .before .before in
-    rw (sym (l .before .before .subject-of .ensures) ∙ l .level .given .1) (c .before .before .keep .ensures)
+    rw (subject-is (l .before .before) (l .level .given .1)) (c .before .before .keep .ensures)
 
 pub keep-update-spec : {M : Type 1} → statement M
 keep-update-spec =

@@ -8,13 +8,13 @@ use mathlib.Core.Logic.{_⊎_, ⊎-elim}
 use native.Mathlib.Omega.{arith}
 use denote.Enum.Declared.{tagOf}
 use lib.ListN.{length, drop, length-drop}
-use Rattle.sequence.specs.Row.{soundGapRow}
+use Rattle.sequence.specs.RowLaid.{soundGapRow}
 use Rattle.turns.specs.declared.act.Act.{Act}
 use Rattle.turns.proofs.act.Act.{the-type}
 use Rattle.turns.specs.declared.act.Act.the-variants.{Taken, Old, Heartbeat, Refused}
 use Rattle.turns.specs.declared.act.Step.{Step}
 use Rattle.turns.specs.Acts.{total, passed, counted, MessageActs}
-use Rattle.turns.specs.MessagesLaws.{Going, begins, going-on, going-refused, going-over, going-ends, counted-one, rest-is}
+use Rattle.turns.specs.MessagesLaws.{turned-told, Going, begins, going-on, going-refused, going-over, going-ends, counted-one, rest-is}
 use Rattle.turns.proofs.act.judge_messages.Statement.{statement}
 use Rattle.turns.proofs.act.judge_messages.Tie as tie
 
@@ -87,7 +87,7 @@ same-length c = let d = c .before .before .before .before .before .before in d .
 returns : tie.Need-returns Inv-loop μ-loop
 returns c =
     let d = c .before .before .before .before .before .before in
-    rw (c .answered .ensures)
+    rw (turned-told (c .answered .ensures))
     (going-refused _ _ _ _ _ _ (head d .loop .row) (head d .loop .stores) (head d .loop .kept) (head d .loop .counts) (head d .loop .at) (head d .loop .i) (head d .loop .inv .5) (turn d .loop-test .taken)
     (step d) (row′ d) (stores′ d) (acts d) _ (c .before .before .act .given .1) _ _)
 
@@ -124,7 +124,7 @@ same-length-2 c = c .before .before .before .loop .inv .4
 returns-2 : tie.Need-returns-2 Inv-loop μ-loop
 returns-2 c =
     let l = c .before .before .before .loop in
-    rw (c .answered2 .ensures)
+    rw (turned-told (c .answered2 .ensures))
     (going-over _ _ _ _ _ _ (l .row) (l .stores) (l .kept) (l .counts) (l .at) (l .i) (l .inv .5) (c .before .before .loop-test .left) (c .before .if1 .taken) _ _)
 
 same-length-3 : tie.Need-same-length-3 Inv-loop μ-loop
@@ -133,7 +133,7 @@ same-length-3 c = c .before .before .before .loop .inv .4
 returns-3 : tie.Need-returns-3 Inv-loop μ-loop
 returns-3 c =
     let l = c .before .before .before .loop in
-    rw (c .answered3 .ensures)
+    rw (turned-told (c .answered3 .ensures))
     (going-ends _ _ _ _ _ _ (l .row) (l .stores) (l .kept) (l .counts) (l .at) (l .i) (l .inv .5) (c .before .before .loop-test .left) (c .before .if1 .left) (l .inv .2) (l .inv .4))
 
 pub judge-messages-spec : {M : Type 1} → statement M

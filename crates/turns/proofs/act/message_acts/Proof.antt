@@ -1,14 +1,16 @@
 -- Each kind of message by its law.
 use Prim.Native.Nat.{ℕ, _+_, _<_}
-use mathlib.Core.Path.{_≡_, refl, ap, sym, _∙_}
+use mathlib.Core.Path.{_≡_, refl, sym, _∙_}
 use mathlib.Core.List.{List}
 use mathlib.Core.Logic.{_⊎_, ⊎-elim}
 use native.Mathlib.Omega.{arith}
 use denote.Enum.Declared.{tagOf}
 use Rattle.forms.specs.Forms.{subjectOf}
-use Rattle.message.specs.declared.body.Outline.{Outline}
 use Rattle.message.specs.declared.body.What.{What}
-use Rattle.message.specs.Message.{Message, messageOf}
+use Rattle.message.specs.Message.{Message}
+use Rattle.message.specs.Reads.{messageOf}
+use Rattle.message.specs.MessageLaws.{outline-told}
+use Rattle.message.specs.NumbersLaws.{what-told}
 use Rattle.turns.proofs.act.Act.{the-type}
 use Rattle.turns.specs.declared.act.Act.{Act}
 use Rattle.turns.specs.declared.act.Act.the-variants.{Taken, Old, Heartbeat, Refused}
@@ -44,7 +46,7 @@ module _ (c : tie.After-read) where
   message = messageOf (start .args .list .now) (start .args .letter) (start .args .bytes .now)
 
   what-is : {w : What} → c .read .result .what ≡ w → message .what ≡ w
-  what-is e = ap (λ (o : Outline). o .what) (sym (c .read .ensures .told)) ∙ e
+  what-is e = sym (what-told (c .read .ensures .told .tells)) ∙ e
 
 -- what is known of an update
 module _ (c : tie.After-number-acts2) where
@@ -79,14 +81,14 @@ keep-update-requires c κs = let d = c .before .before .before .before .before i
 returns : tie.Need-returns
 returns c =
     let d = c .before .before in
-    rw (d .read .ensures .told)
+    rw (outline-told (d .read .ensures .told))
     (heartbeat-acts _ _ _ (message d) refl (what-is d (c .enum-told .given .1)) _ _ _ _ (start d .pre .sound) (start d .pre .within) refl)
 
 returns-2 : tie.Need-returns-2
 returns-2 c =
     let w = c .before .before .before in
     let d = w .before .before in
-    rw (d .read .ensures .told)
+    rw (outline-told (d .read .ensures .told))
     (numbered _ _ _ (message d) refl (what-is d (w .what .given .1)) _ _ _ _ _ _ (λ (records : List ℕ). records) refl (λ (box : Box). refl) _ (c .number-acts .ensures) _ _
     (none-kept _ _ _ _ (start d .pre .within) (changedBy (c .number-acts .result) (λ (records : List ℕ). records)) (changes-nothing (c .number-acts .result))))
 
@@ -98,7 +100,7 @@ returns-3 c =
     let d = read n in
     let s = start d in
     let a = s .args in
-    rw (d .read .ensures .told)
+    rw (outline-told (d .read .ensures .told))
     (numbered _ _ _ (message d) refl (what-is d (update n .what2 .given .1)) _ _ _ _ _ _ (changed n) refl (λ (box : Box). refl) _ (n .number-acts2 .ensures) _ _
     (update-kept (a .list .now) (a .letter) (a .before) (s .pre .header) (s .pre .before-is) (a .bytes .now) (message d) refl (what-is d (update n .what2 .given .1))
     (n .number-acts2 .result) (t .enum-told2 .given .1) (a .stores .now) (a .kept) (s .pre .within) (a .cells .now) _ (d .read .ensures .stored) (k .before .keep-update-arg3 .given .0) _ _ (k .keep-update .ensures)))
@@ -107,7 +109,7 @@ returns-4 : tie.Need-returns-4
 returns-4 c =
     let n = c .before in
     let d = read n in
-    rw (d .read .ensures .told)
+    rw (outline-told (d .read .ensures .told))
     (numbered _ _ _ (message d) refl (what-is d (update n .what2 .given .1)) _ _ _ _ _ _ (changed n) refl (λ (box : Box). refl) _ (n .number-acts2 .ensures) _ _
     (none-kept _ _ _ _ (start d .pre .within) (changedBy (n .number-acts2 .result) (changed n)) (not-taken (n .number-acts2 .result) (c .match2 .keys2) (changed n))))
 
@@ -115,7 +117,7 @@ returns-5 : tie.Need-returns-5
 returns-5 c =
     let w = c .before .before in
     let d = w .before .before in
-    rw (d .read .ensures .told)
+    rw (outline-told (d .read .ensures .told))
     (bad-acts _ _ _ (message d) refl (what-is d (w .what3 .given .1)) _ _ _ _ (start d .pre .sound) (start d .pre .within) _ refl _ (c .of-fault .ensures))
 
 pub message-acts-spec : {M : Type 1} → statement M

@@ -12,7 +12,7 @@ use Rattle.forms.specs.FormsLaws.{fits}
 use Rattle.forms.specs.Rows.{dataLength}
 use Rattle.forms.specs.Sizes.{mostData}
 use Rattle.layout.specs.Write.{Laid}
-use Rattle.state.specs.State.{checkedRefusal}
+use Rattle.state.specs.AnswersLaws.{checkedRefusal, checked-told}
 use Rattle.writer.specs.Writer.{codeRules, rowsRules, dataWritten, LaysRows}
 use Rattle.writer.specs.WriterLaws.{other-number, code-holds, code-refused, rows-refused, sent, long-rows, laid-rows}
 use borrow.Author.Needs.{needs}
@@ -44,7 +44,7 @@ module _ (t : tie.After-enum-told) where
   laid = t .before .before .before
 
   passed : firstBroken (rowsRules (rows laid .verdict)) ≡ none
-  passed = sym (lays laid .answers) ∙ ap checkedRefusal (t .enum-told .given .1)
+  passed = sym (checked-told (laid .lay-rows .result) _ (lays laid .answers)) ∙ ap checkedRefusal (t .enum-told .given .1)
 
   long : length (rows laid .bytes) ≡ dataLength (rowsOf (start laid .args .form))
   long =
@@ -74,7 +74,7 @@ returns-2 : tie.Need-returns-2
 returns-2 c =
     let l = c .before .before .before .before in
     let a = start l .args in
-    rows-refused (form l) (a .code) (a .number) (a .key .now) (a .quote) (a .out .now) (coded l) _ (sym (lays l .answers) ∙ ap checkedRefusal (c .before .refusal .given .1))
+    rows-refused (form l) (a .code) (a .number) (a .key .now) (a .quote) (a .out .now) (coded l) _ (sym (checked-told (l .lay-rows .result) (firstBroken (rowsRules (rows l .verdict))) (lays l .answers)) ∙ ap checkedRefusal (c .before .refusal .given .1))
 
 returns-3 : tie.Need-returns-3
 returns-3 c =

@@ -1,0 +1,89 @@
+-- Two boxes that took the same messages give a host the same.
+use Prim.Native.Nat.{ℕ}
+use mathlib.Core.Path.{_≡_, sym, ap, ap₂, subst, _∙_}
+use mathlib.Core.List.{List, [], _∷_, _++_}
+use mathlib.Core.Option.{Option}
+use lib.Dec.{ltb}
+use lib.ListN.{length}
+use Rattle.laws.specs.Rules.{firstBroken}
+use Rattle.sequence.specs.Gaps.{Gaps}
+use Rattle.state.specs.declared.refusal.Refusal.{Refusal}
+use Rattle.state.specs.declared.refusal.Refusal.the-variants.{NoGap}
+use Rattle.state.specs.declared.answers.Judged.{Judged}
+use Rattle.state.specs.declared.answers.WrittenOff.{WrittenOff}
+use Rattle.state.specs.Answers.{judgedNumbers, listedNumbers, writtenOffNumbers, answered}
+use Rattle.state.specs.AnswersLaws.{judged-told, written-off-told}
+use Rattle.state.specs.Memory.{Lent, lends}
+use Rattle.state.specs.State.{segmentRules}
+use Rattle.batch.specs.Batch.{batchLetter}
+use Rattle.batch.specs.Promises.{JudgedBatch}
+use Rattle.quotebox.specs.declared.record.Reading.{Reading}
+use Rattle.quotebox.specs.CallPromises.{WroteOffRun}
+use Rattle.quotebox.specs.CallRules.{writeOffRules}
+use Rattle.quotebox.specs.Calls.{runValues, lowestRun}
+use Rattle.history.specs.AgreeLaws.{rules-same, gaps-agree, front-same, listings-agree, records-agree}
+use Rattle.history.specs.DemandsLaws.{after-calls}
+use Rattle.history.specs.Exactly.{SameTaken}
+use Rattle.history.specs.Histories.{Reached}
+use Rattle.history.specs.Past.{Event}
+use Rattle.host.specs.Shown.{valuesAfter}
+use Rattle.host.specs.Told.{recordNumbers}
+use Rattle.host.specs.ToldLaws.{told-once}
+use Rattle.hosted.specs.AlikeLaws.{batches-alike}
+use Rattle.hosted.specs.HostCalls.{HostReached}
+use Rattle.hosted.specs.HostDemands.{HostAgree}
+use Rattle.hosted.specs.HostHistoriesLaws.{host-reached}
+
+module _ {list rows records rows′ records′ starts starts′ : List ℕ} {past past′ : List Event}
+    (r : Reached starts (lends list rows records) past) (r′ : Reached starts′ (lends list rows′ records′) past′) (same : SameTaken list starts past list starts′ past′) where
+  abbrev lent : Lent
+  lent = lends list rows records
+
+  abbrev lent′ : Lent
+  lent′ = lends list rows′ records′
+
+  verdicts-agree : (batch : List ℕ) (a b : Judged) → JudgedBatch lent batch a → JudgedBatch lent′ batch b → a ≡ b
+  verdicts-agree batch a b p q =
+      judged-told a b
+      (p .answers
+      ∙ batches-alike list rows records rows′ records′ (after-calls r .state-passes) (after-calls r′ .state-passes) batch (gaps-agree r r′ same (batchLetter batch))
+      ∙ sym (q .answers))
+
+  off-rules-same : (letter : ℕ) → firstBroken (writeOffRules lent letter) ≡ firstBroken (writeOffRules lent′ letter)
+  unfolding writeOffRules
+  off-rules-same letter =
+      ap (λ (g : Gaps). firstBroken (segmentRules lent letter ++ (record { holds = ltb 0 (length (g .runs)); refusal = NoGap } ∷ []))) (gaps-agree r r′ same letter)
+      ∙ front-same r r′ same (segmentRules lent letter) (segmentRules lent′ letter) _ (rules-same r r′ same letter)
+
+  write-offs-agree : (letter : ℕ) (a b : WrittenOff) (left left′ : Lent) → WroteOffRun lent letter a left → WroteOffRun lent′ letter b left′ → a ≡ b
+  write-offs-agree letter a b left left′ p q =
+      written-off-told a b
+      (p .answers ∙ ap₂ (λ (o : Option Refusal) (g : Gaps). answered o (runValues (lowestRun g))) (off-rules-same letter) (gaps-agree r r′ same letter) ∙ sym (q .answers))
+
+  hosts-agree : HostAgree lent lent′
+  hosts-agree =
+      record {
+        same-gaps = λ letter cells n k cells′ cells″ answer′ answer″ p q.
+            let one = listings-agree r r′ same letter cells (p .listed) (q .listed) cells′ cells″ (p .promised) (q .promised) in
+            (told-once listedNumbers (one .0) (p .tells) (q .tells), one .1);
+        same-records = λ letter key level values n k values′ values″ answer′ answer″ p q.
+            let one : p .reading ≡ q .reading = records-agree r r′ same letter key level (p .reading) (q .reading) (p .promised) (q .promised) in (
+              told-once (λ (x : Reading). recordNumbers (x .answer)) one (p .tells) (q .tells),
+              p .shows ∙ ap (λ (x : Reading). valuesAfter (x .answer) level (x .quote) values) one ∙ sym (q .shows),
+            );
+        same-verdicts = λ batch n k answer′ answer″ p q.
+            told-once judgedNumbers (verdicts-agree batch (p .judged) (q .judged) (p .promised) (q .promised)) (p .tells) (q .tells);
+        same-write-offs = λ letter n k left left′ answer′ answer″ p q.
+            told-once writtenOffNumbers (write-offs-agree letter (p .written-off) (q .written-off) left left′ (p .promised) (q .promised)) (p .tells) (q .tells);
+      }
+
+-- two boxes that took the same messages give a host the same
+pub two-hosts-agree : {starts starts′ : List ℕ} {lent lent′ : Lent} {past past′ : List Event} → HostReached starts lent past → HostReached starts′ lent′ past′
+    → SameTaken (lent .list) starts past (lent′ .list) starts′ past′ → HostAgree lent lent′
+two-hosts-agree {starts} {starts′} {lent} {lent′} {past} {past′} h h′ same = go (lent′ .list) (same .same-list) (host-reached h′) same
+  where
+    go : (list′ : List ℕ) → lent .list ≡ list′ → Reached starts′ (lends list′ (lent′ .rows) (lent′ .records)) past′ → SameTaken (lent .list) starts past list′ starts′ past′
+        → HostAgree lent (lends list′ (lent′ .rows) (lent′ .records))
+    go list′ e =
+        subst (λ (l : List ℕ). Reached starts′ (lends l (lent′ .rows) (lent′ .records)) past′ → SameTaken (lent .list) starts past l starts′ past′ → HostAgree lent (lends l (lent′ .rows) (lent′ .records)))
+        e (λ r′ one. hosts-agree (host-reached h) r′ one)

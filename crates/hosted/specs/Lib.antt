@@ -1,0 +1,14 @@
+pub mod HostCalls
+pub mod HostCallsLaws
+pub mod HostDemands
+pub mod HostDemandsLaws
+pub mod HostFieldsLaws
+pub mod HostHistoriesLaws
+pub mod HostReadBack
+pub mod HostReadBackLaws
+pub mod HostToldLaws
+pub mod HostValues
+pub mod HostValuesLaws
+pub mod ValuesBackLaws
+pub mod AlikeLaws
+pub mod HostAgreeLaws

@@ -1,0 +1,85 @@
+-- A written heartbeat is accepted where its letter is listed, and changes nothing.
+use Prim.Native.Nat.{ℕ, _^_, _<_}
+use mathlib.Core.Path.{_≡_, refl, ap, _∙_}
+use mathlib.Core.List.{List, [], _∷_}
+use native.Mathlib.Omega.{arith}
+use lib.ListN.{take}
+use Rattle.contracts.specs.Lookup.{segmentOf}
+use Rattle.quote.specs.declared.quote.Quote.{Quote}
+use Rattle.forms.specs.declared.rows.Level.{Level}
+use Rattle.forms.specs.declared.forms.Form.{Form}
+use Rattle.forms.specs.declared.forms.Form.the-variants.{Heartbeat}
+use Rattle.forms.specs.declared.forms.Named.the-variants as is
+use Rattle.forms.specs.declared.forms.Sum.the-variants.{Zero}
+use Rattle.forms.specs.Forms.{formsOf, sumRule, writtenForm}
+use Rattle.forms.specs.FormsLaws.{nothing-rows, nothing-zero, written-told}
+use Rattle.message.specs.Good.{LetterListed}
+use Rattle.message.specs.HeadLaws.{listed-exact, number-exact}
+use Rattle.state.specs.declared.answers.Judged.{Judged}
+use Rattle.state.specs.declared.answers.Judged.the-variants.{Accepted}
+use Rattle.state.specs.declared.answers.Written.{Written}
+use Rattle.state.specs.Answers.{judgedNumbers}
+use Rattle.state.specs.AnswersLaws.{judged-told}
+use Rattle.state.specs.GoodState.{GoodState}
+use Rattle.state.specs.Memory.{Lent, lends}
+use Rattle.state.specs.RowsLaws.{rows-back}
+use Rattle.turns.specs.Turns.{Box, acted, messageActs, actedNumbers}
+use Rattle.batch.specs.Batch.{batchLetter}
+use Rattle.batch.specs.Acts.{batchActs, boxOf, lentAfter}
+use Rattle.writer.specs.declared.writing.Code.{Code}
+use Rattle.writer.specs.Writer.{messageBytes}
+use Rattle.writer.specs.WriterPromises.{WroteMessage}
+use Rattle.written.specs.Heartbeats.{WritesHeartbeat, OneHeartbeat}
+use Rattle.written.specs.ReadBack.{batchOf}
+use Rattle.written.specs.ReadBackStepsLaws.{letter-is, batch-acts}
+use Rattle.written.specs.WrittenUpdateLaws.{number-fits, message-there, heartbeat-is}
+
+-- 01 "The message": DH and TH
+pub heartbeats-chosen : (level : Level) → WritesHeartbeat (record { 0 = 68; 1 = 72 }) level × WritesHeartbeat (record { 0 = 84; 1 = 72 }) level
+unfolding writtenForm formsOf
+heartbeats-chosen level = ((Heartbeat, refl, refl), (Heartbeat, refl, refl))
+
+module _ (code : Code) (level : Level) (number : ℕ) (key : List ℕ) (quote : Quote) (out out′ : List ℕ) (n : ℕ)
+    (beat : WritesHeartbeat code level) (wrote : WroteMessage code level number key quote out (Written.Message n) out′)
+  where
+    abbrev form : Form
+    form = beat .0
+
+    -- 01 "Sequence and gaps": "A heartbeat has number 0"
+    pub heartbeat-zero : number ≡ 0
+    heartbeat-zero = rw (beat .2) at (number-exact (is.Form form) number .0 (number-fits code level number key quote out out′ n form (beat .1) wrote))
+
+    -- 01 "The message", "The checksum": no data, and "Heartbeats carry zero"
+    pub heartbeat-bytes : take n out′ ≡ code .0 ∷ code .1 ∷ 0 ∷ 11 ∷ 0 ∷ 0 ∷ 0 ∷ 0 ∷ 0 ∷ 0 ∷ 13 ∷ []
+    unfolding messageBytes
+    heartbeat-bytes =
+        let sum : sumRule (code .0) (code .1) ≡ Zero = written-told (code .0) (code .1) level form (beat .1) .summed-so ∙ nothing-zero form (beat .2) in
+        message-there code level number key quote out out′ n form (beat .1) wrote ∙ rw (heartbeat-zero, nothing-rows form (beat .2), sum)
+
+    abbrev batch : List ℕ
+    batch = batchOf (take n out′)
+
+    module _ (lent : Lent) (state : GoodState lent) (listed : LetterListed (lent .list) (code .0)) where
+      abbrev after : Box
+      after = record { row = boxOf lent (code .0) .row; records = lent .records; taken = 0; old = 0; heartbeats = 1 }
+
+      does : batchActs lent batch ≡ acted after
+      unfolding messageActs
+      does =
+          let few : number < 2 ^ 32 = omega (arith, heartbeat-zero) in
+          batch-acts code level number key quote out out′ n form (beat .1) wrote lent state after
+          (rw (heartbeat-is code level number key quote out out′ n form (beat .1) wrote few (lent .list) (listed-exact (lent .list) (code .0) .1 listed) (beat .2)))
+
+      answer-is : (answer : Judged) → judgedNumbers answer ≡ actedNumbers (batchActs lent batch) → answer ≡ Accepted 0 0 1
+      answer-is answer e = judged-told answer (Accepted 0 0 1) (e ∙ ap actedNumbers does)
+
+      pub heartbeat-changes-nothing : OneHeartbeat lent batch
+      heartbeat-changes-nothing = record {
+        judged = λ answer p. answer-is answer (p .answers);
+        taken = λ answer lent′ p. answer-is answer (p .answers);
+        all-kept = λ answer lent′ p.
+            p .left
+            ∙ ap (lentAfter lent (batchLetter batch)) does
+            ∙ ap (λ (letter : ℕ). lentAfter lent letter (acted after)) (letter-is code level number key quote out out′ n form (beat .1) wrote)
+            ∙ ap (λ (rows : List ℕ). lends (lent .list) rows (lent .records)) (rows-back (lent .rows) (segmentOf (lent .list) (code .0)));
+      }

@@ -1,3 +1,4 @@
+pub mod Acts
 pub mod Batch
 pub mod BatchLaws
 pub mod CheckedLaws
@@ -11,4 +12,3 @@ pub mod Scratch
 pub mod ScratchLaws
 pub mod StepLaws
 pub mod TookLaws
-pub mod Acts

@@ -1,9 +1,8 @@
 -- 01 "The contract list": the file as it is laid out. Numbers are big endian, and past the end every byte reads as zero.
-use Prim.Native.Nat.{ℕ, _+_, _*_, min}
+use Prim.Native.Nat.{ℕ, _+_, _*_, min, zero, suc}
 use mathlib.Core.List.{List}
 use lib.ListN.{take, drop}
 use Rattle.wire.specs.Number.{numberAt}
-use Prim.Native.Nat.{ℕ, zero, suc, _+_}
 
 -- a word of our own: what the numbers below n give, added up
 abbrev pub sumBelow : ℕ → (ℕ → ℕ) → ℕ

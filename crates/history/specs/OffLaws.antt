@@ -84,6 +84,15 @@ module _ {starts : List ℕ} {lent : Lent} {past : List Event} (r : Reached star
   abbrev some-gap : Rule
   some-gap = record { holds = ltb 0 (length runs); refusal = NoGap }
 
+  -- 17 is all that a write-off of a listed segment can be refused with
+  pub only-none : (refusal : Refusal) (lent′ : Lent) → WroteOffRun lent letter (WrittenOff.Refused refusal) lent′ → refusal ≡ NoGap
+  unfolding writeOffRules
+  only-none refusal lent′ p =
+      let broken = off-refusal refusal p .0 in
+      ⊎-elim (λ (h : ltb 0 (length runs) ≡ true). let held = last-holds (segmentRules lent letter) some-gap (segment-good r letter i s) h in absurd (clash (cc)))
+      (λ (h : ltb 0 (length runs) ≡ false). let none-left = last-broken (segmentRules lent letter) some-gap (segment-good r letter i s) h in cc)
+      (either (ltb 0 (length runs)))
+
   -- 17 exactly when no number is missing
   pub off-none : (answer : WrittenOff) (lent′ : Lent) → WroteOffRun lent letter answer lent′
       → answer ≡ WrittenOff.Refused NoGap ↔ ((n : ℕ) → missingIn i start past n ≡ false)

@@ -1,15 +1,13 @@
 -- The calls refine the machine: after every history each call answers what the machine may answer, and leaves what it leaves.
 use Prim.Native.Nat.{ℕ, _*_, _≤_, _<_}
 use mathlib.Core.Path.{_≡_, refl, sym, ap, subst, _∙_}
-use mathlib.Core.Bool.{true, false}
 use mathlib.Core.List.{List, []}
 use mathlib.Core.Logic.{_⊎_, ⊎-elim}
 use mathlib.Core.Option.{Option, none, some}
-use lib.Dec.{ltb}
 use lib.ListN.{length}
 use Rattle.laws.specs.Rules.{firstBroken}
-use Rattle.laws.specs.RulesLaws.{unlike, some-broken, front-broken, last-holds, last-broken}
-use Rattle.laws.specs.Choice.{never, either}
+use Rattle.laws.specs.RulesLaws.{some-broken, front-broken}
+use Rattle.laws.specs.Choice.{never}
 use Rattle.laws.specs.Order.{order}
 use Rattle.contracts.specs.Lookup.{segmentOf, placeIn}
 use Rattle.contracts.specs.LookupLaws.{segment-has, segment-exact, key-at-place}
@@ -37,7 +35,7 @@ use Rattle.batch.specs.Acts.{batchActs}
 use Rattle.batch.specs.Promises.{JudgedBatch}
 use Rattle.quotebox.specs.declared.record.Reading.{Reading}
 use Rattle.quotebox.specs.CallPromises.{StartedBox, ListedRuns, WroteOffRun, ReadRecord}
-use Rattle.quotebox.specs.CallPromisesLaws.{start-left, list-refusal, off-refusal, runs-in-cells}
+use Rattle.quotebox.specs.CallPromisesLaws.{start-left, list-refusal, runs-in-cells}
 use Rattle.quotebox.specs.Calls.{listValues, lowestRun, runValues}
 use Rattle.quotebox.specs.CallRules.{gapsOfLetter, listRules, writeOffRules, recordRules}
 use Rattle.quotebox.specs.Record.{recordNumber, recordOfKey, recordValues, quoteAt, quoteBeside}
@@ -53,7 +51,7 @@ use Rattle.history.specs.CallsLaws.{took-list, off-list, judge-promised,
 use Rattle.history.specs.Histories.{Reached}
 use Rattle.history.specs.HoldsLaws.{reached-holds}
 use Rattle.history.specs.ListingLaws.{segment-good, gaps-exactly, runs-answered, runs-refused}
-use Rattle.history.specs.OffLaws.{off-lowest, off-none}
+use Rattle.history.specs.OffLaws.{off-lowest, off-none, only-none}
 use Rattle.history.specs.RecordLaws.{read-newest}
 use Rattle.history.specs.JudgesLaws.{counts, judged-exactly}
 use Rattle.history.specs.MachineLaws.{all-come}
@@ -108,23 +106,12 @@ module _ {starts : List ℕ} {lent : Lent} {past : List Event} (r : Reached star
     abbrev then : WrittenOff → Machine
     then answer = machineOf list starts (afterWriteOff list letter answer past)
 
-    -- of a listed letter only 17 is left
-    only-none : (i : ℕ) → segmentOf list letter ≡ some i → (q : Refusal) → WroteOffRun lent letter (WrittenOff.Refused q) lent′ → q ≡ NoGap
-    unfolding writeOffRules
-    only-none i s q p =
-        let broken = off-refusal q p .0 in
-        ⊎-elim (λ (h : ltb 0 (length (gapsOfLetter lent letter .runs)) ≡ true). absurd (unlike (sym broken ∙ last-holds (segmentRules lent letter) _ (segment-good r letter i s) h)))
-        (λ (h : ltb 0 (length (gapsOfLetter lent letter .runs)) ≡ false).
-        let both : some q ≡ some NoGap = sym broken ∙ last-broken (segmentRules lent letter) _ (segment-good r letter i s) h in
-        cc)
-        (either (ltb 0 (length (gapsOfLetter lent letter .runs))))
-
     off-listed : (i : ℕ) → segmentOf list letter ≡ some i → (answer : WrittenOff) → WroteOffRun lent letter answer lent′ → WritesOff now letter answer (then answer)
     off-listed i s (WrittenOff.Removed first last) p =
         subst (λ (o : Option ℕ). WritesOff now letter (WrittenOff.Removed first last) (machineOf list starts (offIn o (first to last) past))) (sym s)
         (machine.WritesOff.the-lowest i s first last (off-lowest r letter i s first last lent′ p))
     off-listed i s (WrittenOff.Refused q) p =
-        let is = only-none i s q p in
+        let is = only-none r letter i s q lent′ p in
         let refused : WrittenOff.Refused q ≡ WrittenOff.Refused NoGap = ap WrittenOff.Refused is in
         subst (λ (a : Refusal). WritesOff now letter (WrittenOff.Refused a) now) (sym is) (machine.WritesOff.no-gap i s (off-none r letter i s (WrittenOff.Refused q) lent′ p .0 refused))
 

@@ -1,16 +1,12 @@
 -- The theorems: what `HostDemands` states holds after every history of a host's calls, and of every call.
 use Prim.Native.Nat.{ℕ, _*_, _≤_, _<_}
 use mathlib.Core.Path.{_≡_, refl, sym, ap, ap₂, _∙_}
-use mathlib.Core.Bool.{true, false}
 use mathlib.Core.List.{List, [], _∷_}
-use mathlib.Core.Logic.{_↔_, ⊎-elim}
+use mathlib.Core.Logic.{_↔_}
 use mathlib.Core.Option.{Option, none, some}
 use native.Mathlib.Omega.{arith}
-use lib.Dec.{ltb}
 use lib.ListN.{length}
-use Rattle.laws.specs.Choice.{clash, either}
 use Rattle.laws.specs.Rules.{firstBroken}
-use Rattle.laws.specs.RulesLaws.{last-holds, last-broken}
 use Rattle.contracts.specs.Lookup.{segmentOf}
 use Rattle.forms.specs.declared.rows.Level.{Level}
 use Rattle.quote.specs.declared.quote.Quote.{Quote}
@@ -25,11 +21,10 @@ use Rattle.state.specs.declared.answers.Recorded.{Recorded}
 use Rattle.state.specs.Answers.{startedNumbers, judgedNumbers, listedNumbers, writtenOffNumbers, answered, leftBy}
 use Rattle.state.specs.GoodState.{GoodState}
 use Rattle.state.specs.Memory.{Lent}
-use Rattle.state.specs.Refusals.{Rule, refusalNumbers}
+use Rattle.state.specs.Refusals.{refusalNumbers}
 use Rattle.state.specs.RefusalsLaws.{refusalOf}
 use Rattle.state.specs.Slots.{Slot, SlotListed}
 use Rattle.state.specs.Places.{formFor}
-use Rattle.state.specs.State.{segmentRules}
 use Rattle.batch.specs.Promises.{JudgedBatch, TookBatch}
 use Rattle.quotebox.specs.CallPromises.{StartedBox, ListedRuns, WroteOffRun}
 use Rattle.quotebox.specs.CallPromisesLaws.{off-refusal, runs-in-cells}
@@ -48,7 +43,7 @@ use Rattle.history.specs.Exactly as exactly
 use Rattle.history.specs.Demands.{AfterCalls}
 use Rattle.history.specs.DemandsLaws.{after-calls, took-judged, refusals-keep, accepted-leave}
 use Rattle.history.specs.Histories.{Reached}
-use Rattle.history.specs.ListingLaws.{segment-good}
+use Rattle.history.specs.OffLaws.{only-none}
 use Rattle.host.specs.Promises.{HostJudged, HostTook, HostListed, HostWroteOff, HostRead, codeOf}
 use Rattle.host.specs.Shown.{valuesAfter}
 use Rattle.host.specs.ShownLaws.{values-put}
@@ -99,18 +94,6 @@ module _ {starts : List ℕ} {lent : Lent} {past : List Event} (reached : HostRe
         let told : Tells (listedNumbers (Listed.Refused (Memory (2 * runs)))) returned answer′ = rw e at (p .tells) in
         (record { returns = told .number; answers = told .values }, refusals-keep lent .list-keeps letter cells (Memory (2 * runs)) cells′ said)
 
-    abbrev some-gap : Rule
-    some-gap = record { holds = ltb 0 (length (gapsOfLetter lent letter .runs)); refusal = NoGap }
-
-    -- a listed segment's write-off is refused for no other rule
-    only-no-gap : (refusal : Refusal) → firstBroken (writeOffRules lent letter) ≡ some refusal → refusal ≡ NoGap
-    unfolding writeOffRules
-    only-no-gap refusal e =
-        ⊎-elim
-        (λ (h : some-gap .holds ≡ true). let held = last-holds (segmentRules lent letter) some-gap (segment-good r letter i s) h in absurd (clash (cc)))
-        (λ (h : some-gap .holds ≡ false). let broken = last-broken (segmentRules lent letter) some-gap (segment-good r letter i s) h in cc)
-        (either (some-gap .holds))
-
     writes-off : (returned : ℕ) (lent′ : Lent) (answer′ : List ℕ) → HostWroteOff lent letter returned lent′ answer′
         → TellsLowest (missingIn i (startOf starts i) past) lent returned lent′ answer′
     writes-off returned lent′ answer′ p = go (p .written-off) (p .promised) (p .tells)
@@ -120,7 +103,7 @@ module _ {starts : List ℕ} {lent : Lent} {past : List Event} (reached : HostRe
         go (WrittenOff.Removed first last) w t = a-run first last (after .off-lowest letter i s first last lent′ w) (record { returns = t .number; answers = t .values })
         go (WrittenOff.Refused refusal) w t =
             let refused = off-refusal refusal w in
-            let e : refusal ≡ NoGap = only-no-gap refusal (refused .0) in
+            let e : refusal ≡ NoGap = only-none r letter i s refusal lent′ w in
             let told : Tells (refusalNumbers NoGap) returned answer′ = rw e at t in
             no-run (after .off-none letter i s (WrittenOff.Refused refusal) lent′ w .0 (ap WrittenOff.Refused e)) (record { returns = told .number; answers = told .values }) (refused .1)
 

@@ -1,3 +1,5 @@
+pub mod AlikeLaws
+pub mod HostAgreeLaws
 pub mod HostCalls
 pub mod HostCallsLaws
 pub mod HostDemands
@@ -10,5 +12,3 @@ pub mod HostToldLaws
 pub mod HostValues
 pub mod HostValuesLaws
 pub mod ValuesBackLaws
-pub mod AlikeLaws
-pub mod HostAgreeLaws

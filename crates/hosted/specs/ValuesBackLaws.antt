@@ -12,7 +12,6 @@ use Rattle.laws.specs.Lists.{middle}
 use Rattle.forms.specs.declared.rows.Level.{Level}
 use Rattle.forms.specs.declared.rows.Level.the-variants.{One, Two}
 use Rattle.forms.specs.Forms.{namedRows, rowsOf, recordForm}
-use Rattle.layout.specs.declared.cells.Held.{Held}
 use Rattle.layout.specs.declared.cells.Held.the-variants.{Nothing, Units}
 use Rattle.layout.specs.declared.read.Verdict.the-variants as verdict
 use Rattle.layout.specs.Read.{isMarketType, isStatus}
@@ -20,12 +19,12 @@ use Rattle.layout.specs.Write.{letterText, rowText, writeRows, writeRefusal}
 use Rattle.layout.specs.FirstBad.{refusalWritten}
 use Rattle.layout.specs.FirstBadLaws.{write-first}
 use Rattle.quote.specs.declared.quote.Quote.{Quote}
-use Rattle.quote.specs.Quote.{priceOf, quantityOf, turnoverOf, cellsOf, seenQuote}
-use Rattle.quote.specs.Shows.{heldPrice, heldQuantity, heldTurnover}
+use Rattle.quote.specs.Quote.{cellsOf, seenQuote}
 use Rattle.state.specs.Places.{recordRows}
 use Rattle.state.specs.SlotsLaws.{rows-few}
 use Rattle.values.specs.Values.{noValue, valueOf, heldOf, letterOf, first, most, valueRows, rowValues, quoteIn}
 use Rattle.hosted.specs.HostReadBack.{rowsIn}
+use Rattle.quote.specs.QuoteLaws.{held-price, held-quantity, held-turnover}
 
 -- what a form sees of a quote has its values
 seen-values : (level : Level) (quote : Quote) → rowValues level (seenQuote (recordForm level) quote) ≡ rowValues level quote
@@ -39,18 +38,6 @@ value-back v = go (eqb v noValue) refl
     go : (none : Bool) → eqb v noValue ≡ none → valueOf (cond none Nothing (Units v)) ≡ v
     go true t = sym (eqb-true v noValue t)
     go false t = rw t
-
-price-back : (held : Held) → heldPrice (priceOf held) ≡ held
-price-back Nothing = refl
-price-back (Units n) = refl
-
-quantity-back : (held : Held) → heldQuantity (quantityOf held) ≡ held
-quantity-back Nothing = refl
-quantity-back (Units n) = refl
-
-turnover-back : (held : Held) → heldTurnover (turnoverOf held) ≡ held
-turnover-back Nothing = refl
-turnover-back (Units n) = refl
 
 -- a letter that is written is a byte: none is 0, which a larger number counts as
 letter-back : (taken : ℕ → Bool) → taken 0 ≡ false → (v : ℕ) → writeRefusal (letterText taken (letterOf v)) ≡ 0 → letterOf v ≡ v
@@ -87,11 +74,11 @@ module _ (key values : List ℕ) where
   values-held One good =
       let market : letterOf (getD vs 0 0) ≡ getD vs 0 0 = letter-back isMarketType refl (getD vs 0 0) (row-written One good 5 (omega arith)) in
       let status : letterOf (getD vs 7 0) ≡ getD vs 7 0 = letter-back isStatus refl (getD vs 7 0) (row-written One good 12 (omega arith)) in
-      simp (value-back, price-back, quantity-back, turnover-back, market, status) (simp getD-drop)
+      simp (value-back, held-price, held-quantity, held-turnover, market, status) (simp getD-drop)
   values-held Two good =
       let market : letterOf (getD vs 0 0) ≡ getD vs 0 0 = letter-back isMarketType refl (getD vs 0 0) (row-written Two good 5 (omega arith)) in
       let status : letterOf (getD vs 23 0) ≡ getD vs 23 0 = letter-back isStatus refl (getD vs 23 0) (row-written Two good 28 (omega arith)) in
-      simp (value-back, price-back, quantity-back, turnover-back, market, status) (simp getD-drop)
+      simp (value-back, held-price, held-quantity, held-turnover, market, status) (simp getD-drop)
 
   -- the values that were handed, from the market type on
   module _ (long : length values ≡ most) where

@@ -1,4 +1,4 @@
--- What a cell holds: one number for each row of an update.
+-- What a cell holds: one number for each row of an update; and what a row takes of the key, which has no cell.
 use Prim.Native.Nat.{ℕ, _^_, _-_}
 use mathlib.Core.Bool.{cond}
 use mathlib.Core.List.{List, [], _∷_, _++_}
@@ -9,10 +9,6 @@ use Rattle.layout.specs.declared.cells.Held.{Held}
 use Rattle.layout.specs.declared.cells.Held.the-variants.{Nothing, Units}
 use Rattle.forms.specs.declared.rows.Row.{Row}
 use Rattle.forms.specs.declared.rows.Row.the-variants.{Key, MarketType, Status, Price, Quantity, Turnover}
-use Prim.Native.Nat.{ℕ}
-use mathlib.Core.Bool.{cond}
-use lib.Dec.{leb}
-use lib.ListN.{length, getD, drop}
 
 -- lent memory: what a cell holds for "none" is all ones
 abbrev pub none : ℕ

@@ -13,9 +13,7 @@ use Rattle.forms.specs.declared.rows.Row.the-variants.{Key, MarketType, Status,
 use Rattle.layout.specs.declared.read.RowRead.{RowRead}
 use Rattle.layout.specs.declared.read.RowRead.the-variants.{Cell, Field, Range}
 use Rattle.layout.specs.Cells.{none}
-use Prim.Native.Nat.{ℕ}
 use lib.ListN.{getD, take, drop}
-use Rattle.forms.specs.declared.rows.Row.the-variants.{Key}
 use Rattle.forms.specs.Rows.{widthOf, offsetOf}
 
 -- 01 "The message": a letter's field is its one byte

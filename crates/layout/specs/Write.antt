@@ -19,9 +19,8 @@ use Rattle.layout.specs.declared.write.RowPut.{RowPut}
 use Rattle.decimal.specs.declared.Kind.{Kind}
 use Rattle.decimal.specs.Kinds.{price, quantity, turnover}
 use Rattle.layout.specs.Answers.{verdictNumbers, rowPutNumber}
-use Rattle.layout.specs.Cells.{heldIn}
+use Rattle.layout.specs.Cells.{heldIn, keyUsed}
 use Rattle.layout.specs.Read.{isMarketType, isStatus}
-use Rattle.layout.specs.Cells.{keyUsed}
 
 -- 01, the table's rows 11 and 12: what one row's field is to hold, or what is wrong with what is to be written
 pub data RowText : Type 0 where

@@ -12,7 +12,7 @@ pub mod Numbers
 pub mod NumbersLaws
 pub mod Order
 pub mod OrderLaws
+pub mod Reads
 pub mod Rules
 pub mod RulesLaws
 pub mod Tests
-pub mod Reads

@@ -1,7 +1,7 @@
 -- Laws of what a message is.
 use Prim.Native.Nat.{ℕ}
 use mathlib.Core.Path.{_≡_, refl, sym, _∙_}
-use mathlib.Core.List.{List, []}
+use mathlib.Core.List.{List}
 use mathlib.Core.Option.{Option, none, some}
 use Rattle.laws.specs.Choice.{never}
 use Rattle.contracts.specs.Lookup.{segmentOf, placeIn}
@@ -24,7 +24,7 @@ use Rattle.message.specs.declared.head.Head.the-variants as head
 use Rattle.message.specs.Fields.{formIn, lengthOf, numberOf, dataOf}
 use Rattle.message.specs.Rules.{headOf}
 use Rattle.message.specs.NumbersLaws.{what-told}
-use Rattle.message.specs.Message.{Message, TellsOfContract, messageKey, placeThere, keyPlace, ofPlace}
+use Rattle.message.specs.Message.{Message, TellsOfContract, placeThere, keyPlace, ofPlace}
 use Rattle.message.specs.Reads.{Outlines, rowsRead, ofVerdict, bare, contentsBy, contentsOf, messageOf, ReadsMessage}
 
 module _ (list : List ℕ) (letter : ℕ) where

@@ -17,9 +17,8 @@ use Rattle.message.specs.declared.head.Fault.{Fault}
 use Rattle.message.specs.declared.head.Fault.the-variants.{Field, Range, Contract}
 use Rattle.message.specs.Fields.{dataOf, formIn}
 use Rattle.message.specs.Head.{headRules}
-use Rattle.message.specs.Tests.{isSome}
+use Rattle.message.specs.Tests.{isSome, isFormed, isInRange}
 use Rattle.message.specs.Message.{messageKey, keyPlace, rowsIn}
-use Rattle.message.specs.Tests.{isFormed, isInRange}
 
 -- 01, the order of checks: rows in turn from row i on, 11 before 12 in a row
 abbrev pub rowRules : ℕ → List Row → List ℕ → List (Rule Fault)

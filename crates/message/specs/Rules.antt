@@ -6,9 +6,6 @@ use Rattle.message.specs.declared.head.Fault.{Fault}
 use Rattle.message.specs.declared.head.Head.{Head}
 use Rattle.message.specs.declared.head.Head.the-variants.{Good, Bad}
 use Prim.Native.Nat.{ℕ}
-use mathlib.Core.List.{List}
-use mathlib.Core.Option.{Option}
-use Rattle.laws.specs.Rules.{Rule}
 use Rattle.message.specs.Head.{headRules}
 
 -- 01, the table of refusals: no broken rule is no fault

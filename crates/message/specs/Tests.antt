@@ -15,10 +15,6 @@ use Rattle.forms.specs.declared.forms.Sum.the-variants.{Zero, Right, RightOrZer
 use Rattle.forms.specs.Sizes.{bareLength}
 use Rattle.forms.specs.Forms.{subjectOf}
 use Rattle.message.specs.Fields.{dataAt, letterOf, secondOf, lengthOf, sumSent, endByte, sumIn, rightSum, zeroSum}
-use Prim.Native.Nat.{ℕ}
-use mathlib.Core.Bool.{Bool, true, false}
-use mathlib.Core.List.{List, [], _∷_}
-use mathlib.Core.Option.{Option}
 use Rattle.layout.specs.declared.read.RowRead.{RowRead}
 use Rattle.layout.specs.declared.read.RowRead.the-variants as read
 use Rattle.message.specs.declared.head.Fault.the-variants.{Field, Range, Contract}

@@ -1,5 +1,5 @@
 -- Laws of the quote and its cells, over any named rows: each gives back the other.
-use Prim.Native.Nat.{ℕ, zero, suc, _-_, _<_}
+use Prim.Native.Nat.{ℕ, _-_, _<_}
 use mathlib.Core.Path.{_≡_, refl, ap, sym, _∙_}
 use mathlib.Core.Bool.{Bool, true, false}
 use mathlib.Core.List.{List, [], _∷_, _++_, map}
@@ -30,15 +30,15 @@ use Rattle.quote.specs.Shows.{heldPrice, heldQuantity, heldTurnover, noO
 
 -- ---- from cells to the quote and back
 
-held-price : (held : Held) → heldPrice (priceOf held) ≡ held
+pub held-price : (held : Held) → heldPrice (priceOf held) ≡ held
 held-price Nothing = refl
 held-price (Units n) = refl
 
-held-quantity : (held : Held) → heldQuantity (quantityOf held) ≡ held
+pub held-quantity : (held : Held) → heldQuantity (quantityOf held) ≡ held
 held-quantity Nothing = refl
 held-quantity (Units n) = refl
 
-held-turnover : (held : Held) → heldTurnover (turnoverOf held) ≡ held
+pub held-turnover : (held : Held) → heldTurnover (turnoverOf held) ≡ held
 held-turnover Nothing = refl
 held-turnover (Units n) = refl
 

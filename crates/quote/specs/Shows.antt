@@ -17,9 +17,6 @@ use Rattle.forms.specs.Names.{Name, NamedRow, marketType, buyPrice, buyQuantity
 use Rattle.forms.specs.SameName.{sameName}
 use Rattle.forms.specs.Rows.{widthOf}
 use Rattle.quote.specs.declared.quote.Quote.{Quote}
-use Prim.Native.Nat.{ℕ}
-use mathlib.Core.List.{List, [], _∷_}
-use lib.ListN.{getD}
 use Rattle.quote.specs.declared.quote.PriceCell.{PriceCell}
 use Rattle.quote.specs.declared.quote.PriceCell.the-variants as price
 use Rattle.quote.specs.declared.quote.QuantityCell.{QuantityCell}
@@ -27,7 +24,6 @@ use Rattle.quote.specs.declared.quote.QuantityCell.the-variants as quant
 use Rattle.quote.specs.declared.quote.TurnoverCell.{TurnoverCell}
 use Rattle.quote.specs.declared.quote.TurnoverCell.the-variants as turnover
 use Rattle.quote.specs.declared.quote.Order.{Order}
-use Rattle.forms.specs.Names.{Name, NamedRow, marketType, buyPrice, buyQuantity, sellPrice, sellQuantity, lastPrice, tradedQuantity, status, openingPrice, highPrice, lowPrice, closePrice, averagePrice, allBuyers, allSellers, turnover as turnoverName}
 
 -- 01 "Numbers in text": the same back: the number of a price, or none
 abbrev pub heldPrice : PriceCell → Held

@@ -24,8 +24,6 @@ use Rattle.forms.specs.NamesLaws.{same-name}
 use Rattle.forms.specs.Forms.{namedRows, rowsOf}
 use Rattle.forms.specs.Rows.{widthOf}
 use Rattle.wire.specs.Number.{numberAt}
-use Rattle.layout.specs.declared.cells.Held.{Held}
-use Rattle.layout.specs.declared.cells.Held.the-variants.{Nothing, Units}
 use Rattle.layout.specs.declared.read.RowRead.{RowRead}
 use Rattle.layout.specs.declared.read.RowRead.the-variants.{Cell, Field, Range}
 use Rattle.layout.specs.declared.read.Verdict.the-variants.{Good}
@@ -34,8 +32,9 @@ use Rattle.layout.specs.Read.{readRow, readRows}
 use Rattle.layout.specs.Says.{NumberSays, RowSays}
 use Rattle.layout.specs.SaysLaws.{row-exactly}
 use Rattle.quote.specs.declared.quote.Order.{Order}
-use Rattle.quote.specs.Quote.{priceOf, priceIn, quantityOf, quantityIn, turnoverOf, turnoverIn, next, rowNamed, cellAt, cellNamed, orderIn, orderLevels, quoteBy, quoteOf}
+use Rattle.quote.specs.Quote.{priceIn, quantityIn, turnoverIn, next, rowNamed, cellAt, cellNamed, orderIn, orderLevels, quoteBy, quoteOf}
 use Rattle.quote.specs.Shows.{heldPrice, heldQuantity, heldTurnover, noOrder, mostOrders, fieldNamed, ShowsNumber, Shows, ShowsLetter, ShowsFields}
+use Rattle.quote.specs.QuoteLaws.{held-price, held-quantity, held-turnover}
 
 -- ---- one field
 
@@ -152,18 +151,6 @@ found (row ∷ rows) kinded i bytes good name =
 
 -- ---- the quote
 
-price-back : (h : Held) → heldPrice (priceOf h) ≡ h
-price-back Nothing = refl
-price-back (Units n) = refl
-
-quantity-back : (h : Held) → heldQuantity (quantityOf h) ≡ h
-quantity-back Nothing = refl
-quantity-back (Units n) = refl
-
-turnover-back : (h : Held) → heldTurnover (turnoverOf h) ≡ h
-turnover-back Nothing = refl
-turnover-back (Units n) = refl
-
 module _ (rows : List NamedRow) (kinded : Kinded rows) (bytes : List ℕ) (good : readRows 0 (plain rows) bytes .verdict ≡ Good) where
   abbrev read : List ℕ
   read = readRows 0 (plain rows) bytes .cells
@@ -195,15 +182,15 @@ module _ (rows : List NamedRow) (kinded : Kinded rows) (bytes : List ℕ) (good 
 
   price-shown : (name : Name) → kindNamed name ≡ Price 0 → Shows price (text name) (heldPrice (priceIn (cell name)))
   price-shown name is =
-      rw (price-back (heldIn (cell name))) (number (Price 0) price (λ f c h. h) (text name) (rowNamed rows name) (rw is at (found rows kinded 0 bytes good name)))
+      rw (held-price (heldIn (cell name))) (number (Price 0) price (λ f c h. h) (text name) (rowNamed rows name) (rw is at (found rows kinded 0 bytes good name)))
 
   quantity-shown : (name : Name) → kindNamed name ≡ Quantity 0 → Shows quantity (text name) (heldQuantity (quantityIn (cell name)))
   quantity-shown name is =
-      rw (quantity-back (heldIn (cell name))) (number (Quantity 0) quantity (λ f c h. h) (text name) (rowNamed rows name) (rw is at (found rows kinded 0 bytes good name)))
+      rw (held-quantity (heldIn (cell name))) (number (Quantity 0) quantity (λ f c h. h) (text name) (rowNamed rows name) (rw is at (found rows kinded 0 bytes good name)))
 
   turnover-shown : (name : Name) → kindNamed name ≡ Turnover 0 → Shows turnover (text name) (heldTurnover (turnoverIn (cell name)))
   turnover-shown name is =
-      rw (turnover-back (heldIn (cell name))) (number (Turnover 0) turnover (λ f c h. h) (text name) (rowNamed rows name) (rw is at (found rows kinded 0 bytes good name)))
+      rw (held-turnover (heldIn (cell name))) (number (Turnover 0) turnover (λ f c h. h) (text name) (rowNamed rows name) (rw is at (found rows kinded 0 bytes good name)))
 
   -- an order of a side stands at its level
   at-level : (f : ℕ → Order) (k : ℕ) → k < mostOrders → getD (map f orderLevels) k noOrder ≡ f k

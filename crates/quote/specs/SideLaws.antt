@@ -1,12 +1,12 @@
 -- The walks over a quote: a side order by order, and the rows by their numbers.
-use Prim.Native.Nat.{ℕ, zero, suc, _+_, _*_, _-_, _≤_, _<_}
+use Prim.Native.Nat.{ℕ, zero, suc, _+_, _*_, _-_, _<_}
 use mathlib.Core.Path.{_≡_, refl, ap, sym, _∙_}
 use mathlib.Core.List.{List, [], _∷_, _++_, append-assoc}
 use native.Mathlib.Omega.{arith}
 use native.Mathlib.Numerals.{add-one}
 use Rattle.laws.specs.Order.{order}
 use lib.ListN.{length, getD, drop, set, replicate}
-use lib.Seq.{getD-drop, drop-drop, set-at, sets}
+use lib.Seq.{getD-drop, set-at, sets}
 use Rattle.laws.specs.Lists.{sets-append}
 use Rattle.forms.specs.declared.forms.Form.{Form}
 use Rattle.forms.specs.declared.forms.Form.the-variants.{Heartbeat, LevelOne, LevelTwo}

@@ -9,11 +9,10 @@ use lib.ListN.{length, getD, take, drop, replicate, length-append, length-drop, 
 use lib.Seq.{take-at, drop-at}
 use Rattle.laws.specs.Rules.{firstBroken}
 use Rattle.laws.specs.RulesLaws.{last-held}
-use Rattle.contracts.specs.File.{segmentsOf, contractsOf}
+use Rattle.contracts.specs.File.{segmentsOf}
 use Rattle.contracts.specs.Lookup.{segmentOf}
 use Rattle.contracts.specs.LookupLaws.{segment-has}
 use Rattle.forms.specs.declared.rows.Level.{Level}
-use Rattle.forms.specs.declared.rows.Level.the-variants.{One, Two}
 use Rattle.sequence.specs.Gaps.{Gaps, wanted}
 use Rattle.sequence.specs.Changes.{begun, wroteOff}
 use Rattle.sequence.specs.GapsLaws.{begun-sound, wroteOff-sound}
@@ -34,7 +33,7 @@ use Rattle.state.specs.RowsLaws.{length-with, row-put, behind-kept, row-kept, s
 use Rattle.state.specs.State.{segmentRules}
 use Rattle.state.specs.GoodState.{GoodState}
 use Rattle.state.specs.StateLaws.{is-some, state-held, letter-listed, row-there, row-sound}
-use Rattle.quotebox.specs.Start.{startOf, startRules, GoodStart}
+use Rattle.quotebox.specs.Start.{startOf, GoodStart}
 use Rattle.quotebox.specs.StartActs.{startBroken, lentStarted, startedRow, startedRows, rowsStarted, recordsCleared}
 use Rattle.quotebox.specs.StartLaws.{start-exact, started-lengths, started-row}
 use Rattle.quotebox.specs.Calls.{listValues, runsPut, runValues, lowestRun, lentWrittenOff}

@@ -1,21 +1,16 @@
 -- The rules of the calls but start, judging, taking and writing, in their order: 01, the order of checks.
-use Prim.Native.Nat.{ℕ}
+use Prim.Native.Nat.{ℕ, _+_}
 use mathlib.Core.List.{List, [], _∷_, _++_}
 use lib.Dec.{leb, ltb}
 use lib.ListN.{length}
 use Rattle.sequence.specs.Gaps.{Gaps, wanted}
 use Rattle.sequence.specs.Row.{gapsOf}
-use Rattle.state.specs.declared.refusal.Refusal.the-variants.{Memory, NoGap}
+use Rattle.state.specs.declared.refusal.Refusal.the-variants.{Memory, NoGap, Contract}
 use Rattle.state.specs.Refusals.{Rule}
 use Rattle.state.specs.State.{segmentRules}
 use Rattle.state.specs.Memory.{Lent, gapRowOfLetter}
-use Prim.Native.Nat.{ℕ, _+_}
-use lib.ListN.{length}
 use Rattle.message.specs.Tests.{isSome}
 use Rattle.message.specs.Message.{keyPlace}
-use Rattle.state.specs.declared.refusal.Refusal.the-variants.{Contract}
-use Rattle.state.specs.Refusals.{Rule}
-use Rattle.state.specs.Memory.{Lent}
 
 -- 01 "Sequence and gaps": the gaps of the segment of a letter
 unfoldable pub gapsOfLetter : Lent → ℕ → Gaps

@@ -15,7 +15,7 @@ use Rattle.laws.specs.Order.{order}
 use Rattle.contracts.specs.Lookup.{segmentOf}
 use Rattle.sequence.specs.Gaps.{Gaps, wanted}
 use Rattle.sequence.specs.Changes.{wroteOff}
-use Rattle.sequence.specs.Answers.{listAnswer, writeOffAnswer, lowest, runsListed}
+use Rattle.sequence.specs.Answers.{listAnswer, writeOffAnswer, lowest, runsListed, listedNumbers as rowListedNumbers}
 use Rattle.sequence.specs.Row.{gapsOf}
 use Rattle.sequence.specs.RowLaid.{laid}
 use Rattle.sequence.specs.Runs.{Run}
@@ -23,7 +23,6 @@ use Rattle.sequence.specs.Promises.{ListedGaps, WroteOff}
 use Rattle.sequence.specs.declared.GapsListed.{GapsListed as RowListed}
 use Rattle.sequence.specs.declared.GapsListed.the-variants as row-listed
 use Rattle.sequence.specs.declared.WriteOff.the-variants as row-off
-use Rattle.sequence.specs.Answers.{listedNumbers as rowListedNumbers}
 use Rattle.state.specs.declared.refusal.Refusal.{Refusal}
 use Rattle.state.specs.declared.refusal.Refusal.the-variants.{Memory, NoGap}
 use Rattle.forms.specs.declared.rows.Level.{Level}
@@ -34,7 +33,7 @@ use Rattle.state.specs.declared.answers.Listed.{Listed}
 use Rattle.state.specs.declared.answers.WrittenOff.{WrittenOff}
 use Rattle.state.specs.Answers.{listedNumbers, answered, leftBy}
 use Rattle.state.specs.Refusals.{Rule, refusalNumbers}
-use Rattle.state.specs.Memory.{Lent, lends, gapRowOf, gapRowIn, gapRowOfLetter}
+use Rattle.state.specs.Memory.{Lent, lends, gapRowOf, gapRowIn}
 use Rattle.state.specs.MemoryRows.{withGapRow, withGapRowIn}
 use Rattle.quotebox.specs.StartActs.{startBroken, lentStarted, rowsStarted, recordsCleared}
 use Rattle.state.specs.State.{segmentRules}

@@ -1,10 +1,10 @@
 pub mod CallPromises
 pub mod CallPromisesLaws
+pub mod CallRules
 pub mod Calls
 pub mod CallsLaws
 pub mod Record
 pub mod RecordLaws
 pub mod Start
-pub mod StartLaws
 pub mod StartActs
-pub mod CallRules
+pub mod StartLaws

@@ -1,6 +1,6 @@
 -- Laws of reading a record: where it stands, and its cells by row.
 use Rattle.state.specs.SlotsLaws.{record-inside}
-use Prim.Native.Nat.{ℕ, _+_, _-_, _*_, _≤_, _<_}
+use Prim.Native.Nat.{ℕ, _+_, _-_, _<_}
 use mathlib.Core.Path.{_≡_, refl, ap, sym, _∙_}
 use mathlib.Core.List.{List, [], _∷_, _++_}
 use mathlib.Core.Option.{Option, none, some}
@@ -22,7 +22,6 @@ use Rattle.forms.specs.Sizes.{mostRows, keyRowCount}
 use Rattle.message.specs.Tests.{isSome}
 use Rattle.message.specs.Message.{placeThere, keyPlace}
 use Rattle.state.specs.Memory.{Lent}
-use Rattle.state.specs.Slots.{contractCells}
 use Rattle.state.specs.Places.{slotAt, slotIn, recordRows, recordAt}
 use Rattle.state.specs.declared.refusal.Refusal.{Refusal}
 use Rattle.state.specs.declared.refusal.Refusal.the-variants.{Contract}

@@ -1,16 +1,11 @@
 -- How runs and gaps change, as it computes: `after-missing`, `after-counted` and `wroteOff-missing` (GapsLaws) say what each change does
 -- to the numbers that are missing.
-use Prim.Native.Nat.{ℕ, _+_, _-_}
-use mathlib.Core.Bool.{cond}
+use Prim.Native.Nat.{ℕ, _+_, _-_, max}
+use mathlib.Core.Bool.{cond, Bool}
 use mathlib.Core.List.{List, [], _∷_, _++_}
 use lib.Dec.{ltb, eqb}
 use Rattle.sequence.specs.Runs.{Run, _to_, names}
-use Prim.Native.Nat.{ℕ, _+_, _-_, max}
-use mathlib.Core.Bool.{Bool, cond}
-use mathlib.Core.List.{List, [], _∷_}
-use lib.Dec.{ltb}
 use lib.ListN.{length}
-use Rattle.sequence.specs.Runs.{Run}
 use Rattle.sequence.specs.Gaps.{Gaps, most}
 
 -- 01 "Sequence and gaps": the numbers from a on that stand below c, as runs: one, or none

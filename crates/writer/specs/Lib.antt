@@ -1,5 +1,5 @@
+pub mod Chosen
 pub mod Writer
 pub mod WriterLaws
 pub mod WriterPromises
 pub mod WriterPromisesLaws
-pub mod Chosen

@@ -107,6 +107,7 @@ fn a_mix(r: &mut Random, keys: &[feed::Key]) -> Vec<Vec<u8>> {
     messages
 }
 
+const CALLS: [&str; 2] = ["judge", "take"];
 const LEVEL_2: &str = "level 2";
 const HEARTBEATS: &str = "heartbeats";
 const PASSED_OVER: &str = "passed over, 505 bytes";
@@ -194,13 +195,27 @@ fn checksum_alone(length: usize, rounds: usize) -> f64 {
     (0..rounds).map(one).fold(f64::INFINITY, f64::min)
 }
 
+fn row(name: &str, contracts: usize, what: &str, [ours, bytes, sixteens]: [f64; 3]) {
+    println!("{name:<24} {contracts:>9} {what:>6} {ours:>8.0} {bytes:>8.0} {sixteens:>8.0} {:>7.2} {:>7.2}", ours / bytes, ours / sixteens);
+}
+
+fn named<'a, T>(all: &'a [(&str, T)], wanted: &str) -> &'a T {
+    &all.iter().find(|(name, _)| *name == wanted).expect("it is one of the feeds").1
+}
+
 // The two rows of a feed: judging and taking, ns a message for each box.
 fn shown(name: &str, feed: &Feed, contracts: usize, rounds: usize) -> [[f64; 3]; 2] {
     let times = [best(feed, contracts, rounds, Box::judge), best(feed, contracts, rounds, Box::take)];
-    for (what, [ours, bytes, sixteens]) in ["judge", "take"].into_iter().zip(times) {
-        println!("{name:<24} {contracts:>9} {what:>6} {ours:>8.0} {bytes:>8.0} {sixteens:>8.0} {:>7.2} {:>7.2}", ours / bytes, ours / sixteens);
-    }
+    CALLS.into_iter().zip(times).for_each(|(what, times)| row(name, contracts, what, times));
     times
+}
+
+// What a level 2 update costs beside a passed-over message of its length: its rows and the key's lookup.
+fn rows_alone(contracts: usize, times: &[(&str, [[f64; 3]; 2])]) {
+    let (level2, passed) = (named(times, LEVEL_2), named(times, PASSED_OVER));
+    for (k, what) in CALLS.into_iter().enumerate() {
+        row("level 2 less passed over", contracts, what, [0, 1, 2].map(|i| level2[k][i] - passed[k][i]));
+    }
 }
 
 // What judging and taking cost beside the two things that must be done for an update: its checksum, and reading its rows once.
@@ -208,10 +223,7 @@ fn batches_of_one(rounds: usize) {
     const CONTRACTS: usize = 64;
     println!("batches of one message, ns a batch");
     let feeds = feeds(CONTRACTS, 1);
-    let ours = |wanted: &str| {
-        let (name, feed) = feeds.iter().find(|(name, _)| *name == wanted).expect("it is one of the feeds");
-        shown(name, feed, CONTRACTS, rounds).map(|[ours, ..]| ours)
-    };
+    let ours = |wanted: &str| shown(wanted, named(&feeds, wanted), CONTRACTS, rounds).map(|[ours, ..]| ours);
     let ([judge, take], [passed_over, _], [heartbeat, _]) = (ours(LEVEL_2), ours(PASSED_OVER), ours(HEARTBEATS));
     let (checksum, rows) = (passed_over - heartbeat, judge - passed_over);
     let ratio = |time: f64| time / (checksum + rows);
@@ -231,11 +243,11 @@ fn main() {
     println!("{:<24} {:>9} {:>6} {:>8} {:>8} {:>8} {:>7} {:>7}", "messages", "contracts", "", "ours", "by 1", "by 16", "ratio 1", "16");
     let mut worst: (f64, f64) = (0.0, 0.0);
     for contracts in [1, 64, 4_096] {
-        for (name, feed) in feeds(contracts, BATCH) {
-            for [ours, bytes, sixteens] in shown(name, &feed, contracts, rounds) {
-                worst = (worst.0.max(ours / bytes), worst.1.max(ours / sixteens));
-            }
+        let times: Vec<_> = feeds(contracts, BATCH).into_iter().map(|(name, feed)| (name, shown(name, &feed, contracts, rounds))).collect();
+        for [ours, bytes, sixteens] in times.iter().flat_map(|(_, times)| *times) {
+            worst = (worst.0.max(ours / bytes), worst.1.max(ours / sixteens));
         }
+        rows_alone(contracts, &times);
     }
     println!("largest ratio {:.2} to one byte a step, {:.2} to sixteen", worst.0, worst.1);
     println!("the checksum alone, sixteen bytes a step: {:.0} ns for 246 bytes, {:.0} for 502", checksum_alone(246, rounds), checksum_alone(502, rounds));

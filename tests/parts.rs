@@ -98,6 +98,34 @@ fn an_amount(r: &mut Random, kind: Kind) -> u64 {
     }
 }
 
+// Every text of up to six characters, each of every sort: so the parts of a number in every order, missing and doubled.
+fn short_texts() -> Vec<Vec<u8>> {
+    let mut all = vec![vec![]];
+    let mut longest = all.clone();
+    for _ in 0..6 {
+        longest = longest.iter().flat_map(|text: &Vec<u8>| b" .07x".map(|c| [&text[..], &[c]].concat())).collect();
+        all.extend(longest.clone());
+    }
+    all
+}
+
+// Digits about 2^64, with zeros in front, and a point in every place of them and in none.
+fn long_texts() -> Vec<Vec<u8>> {
+    let mut all = vec![];
+    for digits in ["1844674407370955160", "1844674407370955161", "18446744073709551609", "18446744073709551614", "18446744073709551615", "18446744073709551616",
+        "184467440737095516149", "999999999999999999", "1000000000000000000"]
+    {
+        for zeros in [0, 1, 19, 20, 25] {
+            let text = [vec![b'0'; zeros], digits.bytes().collect()].concat();
+            for point in 0..=text.len() {
+                all.push([&text[..point], b".", &text[point..]].concat());
+            }
+            all.push(text);
+        }
+    }
+    all
+}
+
 fn sums_and_numbers(asked: &mut Asked, r: &mut Random, numbers: usize) {
     for length in 0..=600usize {
         for _ in 0..17 {
@@ -105,8 +133,10 @@ fn sums_and_numbers(asked: &mut Asked, r: &mut Random, numbers: usize) {
             asked.sum(&text);
         }
     }
+    let (short, long) = (short_texts(), long_texts());
     for of in KINDS {
-        for edge in ["", " ", ".", "0", "0.5", ".5", "5.", "00", "1 2", "1. 5", "1 .5", "0.0", "1.00000000", "100.", "-1", "999999999999", "1000000000000",
+        short.iter().chain(&long).for_each(|text| asked.read(of, text));
+        for edge in ["", " ", ".", "0", "0.5", ".5", "5.", "00", "1 2", "1. 5", "1 .5", "1..5", "1.5.", "1.5.2", "0.0", "1.00000000", "100.", "-1", "999999999999", "1000000000000",
             "99999999999.9999999", "100000000000", "9999999999999999.99", "10000000000000000", "18446744073709551616", "340282366920938463463374607431768211456"]
         {
             for pad in 0..4 {

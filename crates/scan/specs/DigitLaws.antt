@@ -6,10 +6,7 @@ use native.Mathlib.Nat.{add-assoc, add-mul, add-sub-of-le, mul-assoc, mul-comm, 
 use lib.ListN.{length}
 use lib.Pow.{pow-add}
 use Rattle.decimal.specs.Denotes.{value}
-
--- n, and the digits behind it
-abbrev pub followed : ℕ → List ℕ → ℕ
-followed n ds = n * 10 ^ length ds + value ds
+use Rattle.scan.specs.Parts.{followed}
 
 -- one digit and then the rest, or all of them at once
 pub followed-cons : (n d : ℕ) (ds : List ℕ) → followed (n * 10 + d) ds ≡ followed n (d ∷ ds)

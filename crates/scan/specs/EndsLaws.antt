@@ -8,10 +8,9 @@ use lib.Dec.{eqb·suc-zero}
 use lib.ListN.{length, replicate}
 use Rattle.laws.specs.Order.{order, same}
 use Rattle.decimal.specs.Denotes.{space, point, digitChar, Digits, pointed, Shape}
-use Rattle.scan.specs.Read.{onSpace, onPoint, onDigit, step, walk}
-use Rattle.scan.specs.WalkLaws.{NoDigit, step-space, step-point, step-digit, step-other, walk-cons, walk-nil}
-use Rattle.scan.specs.declared.text.State.{State}
-use Rattle.scan.specs.declared.text.State.the-variants.{Before, Whole, Pointed, Fraction, Behind, Bad}
+use Rattle.scan.specs.Parts.{NoDigit}
+use Rattle.scan.specs.Read.{State, Before, Whole, Pointed, Fraction, Behind, Bad, onSpace, onPoint, onDigit, step, walk}
+use Rattle.scan.specs.WalkLaws.{step-space, step-point, step-digit, step-other, walk-cons, walk-nil}
 
 -- what a character is
 data Sort (c : ℕ) : Type 0 where

@@ -3,8 +3,8 @@ pub mod AnswersLaws
 pub mod CapLaws
 pub mod DigitLaws
 pub mod EndsLaws
-pub mod Kept
-pub mod KeptLaws
+pub mod Parts
+pub mod PartsLaws
 pub mod Read
 pub mod ReadLaws
 pub mod WalkLaws

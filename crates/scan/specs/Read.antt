@@ -7,8 +7,22 @@ use Rattle.decimal.specs.Denotes.{space, point, digitChar}
 use Rattle.decimal.specs.declared.Kind.{Kind}
 use Rattle.scan.specs.declared.Number.{Number}
 use Rattle.scan.specs.declared.Number.the-variants.{None, Amount, Malformed, OutOfRange}
-use Rattle.scan.specs.declared.text.State.{State}
-use Rattle.scan.specs.declared.text.State.the-variants.{Before, Whole, Pointed, Fraction, Behind, Bad}
+
+-- 01 "Numbers in text": what was read so far. An amount counts the place of the last digit read; beside it stands how many
+-- digits follow the point
+pub data State : Type 0 where
+  -- nothing but spaces
+  Before : State
+  -- digits
+  Whole : ℕ → State
+  -- a point behind digits
+  Pointed : ℕ → State
+  -- digits behind the point
+  Fraction : ℕ → ℕ → State
+  -- spaces behind the last digit
+  Behind : ℕ → ℕ → State
+  -- what no number begins with
+  Bad : State
 
 -- 01 "Numbers in text": the characters '0' to '9'
 abbrev pub isDigit : ℕ → Bool

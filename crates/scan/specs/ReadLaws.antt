@@ -10,14 +10,12 @@ use Rattle.laws.specs.Choice.{cond-same, clash}
 use Rattle.laws.specs.Order.{order}
 use Rattle.decimal.specs.Denotes.{space, Shape, units, FineEnough, AllSpaces}
 use Rattle.scan.specs.Answers.{Beyond, Says}
-use Rattle.scan.specs.Read.{readAs, walk, answer}
+use Rattle.scan.specs.Read.{State, Before, Whole, Pointed, Fraction, Behind, Bad, readAs, walk, answer}
 use Rattle.scan.specs.WalkLaws.{shape-reads, spaces-read}
 use Rattle.scan.specs.EndsLaws.{Spaces, Ends, Well, ends}
 use Rattle.decimal.specs.declared.Kind.{Kind}
 use Rattle.scan.specs.declared.Number.{Number}
 use Rattle.scan.specs.declared.Number.the-variants.{None, Amount, Malformed, OutOfRange}
-use Rattle.scan.specs.declared.text.State.{State}
-use Rattle.scan.specs.declared.text.State.the-variants.{Before, Whole, Pointed, Fraction, Behind, Bad}
 
 all-spaces : {t : List ℕ} → Spaces t → AllSpaces t
 all-spaces h = h .1 ∙ ap (λ (k : ℕ). replicate k space) (sym (ap length (h .1) ∙ length-replicate (h .0) space))

@@ -1,29 +1,33 @@
 -- What characters do one after another, and what a text of the shape reads as.
 use Prim.Native.Nat.{ℕ, zero, suc, _+_, _-_, _*_, _^_, _<_, _≤_}
 use mathlib.Core.Path.{_≡_, refl, _∙_, ap}
-use mathlib.Core.Bool.{cond}
+use mathlib.Core.Bool.{Bool, true, false, cond, not, _&&_, true≢false}
 use mathlib.Core.List.{List, [], _∷_, _++_, map}
 use mathlib.Core.Logic.{_⊎_, inl, inr, ⊎-elim}
 use native.Mathlib.Nat.{add-sub-cancel-left, mul-one, add-zero}
 use native.Mathlib.Numerals.{one-add}
 use native.Mathlib.Omega.{arith}
-use lib.Dec.{leb}
+use lib.Dec.{leb, eqb}
 use lib.ListN.{length, replicate}
 use borrow.Author.Tests.{le-leb, lt-leb, ne-eqb}
 use Rattle.laws.specs.Choice.{cond-same}
 use Rattle.laws.specs.Order.{order}
 use Rattle.decimal.specs.Denotes.{space, point, digitChar, value, Digits, pointed, Shape, units, AllSpaces}
-use Rattle.scan.specs.DigitLaws.{followed, followed-cons, followed-scaled}
-use Rattle.scan.specs.Read.{readAs, onSpace, onPoint, onDigit, step, walk, inRange, ranged, answer}
+use Rattle.scan.specs.DigitLaws.{followed-cons, followed-scaled}
+use Rattle.scan.specs.Parts.{followed, NoSpace, NoDigit}
+use Rattle.scan.specs.Read.{State, Before, Whole, Pointed, Fraction, Behind, Bad, isDigit, readAs, onSpace, onPoint, onDigit, step, walk, inRange, ranged, answer}
 use Rattle.decimal.specs.declared.Kind.{Kind}
 use Rattle.scan.specs.declared.Number.{Number}
 use Rattle.scan.specs.declared.Number.the-variants.{None, OutOfRange}
-use Rattle.scan.specs.declared.text.State.{State}
-use Rattle.scan.specs.declared.text.State.the-variants.{Before, Whole, Pointed, Fraction, Behind, Bad}
 
--- a character before '0' or behind '9'
-abbrev pub NoDigit : ℕ → Type 0
-NoDigit c = (c < digitChar 0) ⊎ (digitChar 9 < c)
+no-digit : (c : ℕ) → NoDigit c → isDigit c ≡ false
+no-digit c (inl low) = simp (lt-leb (digitChar 0) c low)
+no-digit c (inr high) = simp (lt-leb c (digitChar 9) high, cond-same)
+
+point-or-bad : (t u : Bool) (x y : State) → not t && u ≡ false → cond u (cond t Bad x) y ≡ cond u Bad y
+point-or-bad true u x y e = refl
+point-or-bad false true x y e = absurd (true≢false e)
+point-or-bad false false x y e = refl
 
 module _ (places : ℕ) where
   -- ## What a character does
@@ -49,8 +53,34 @@ module _ (places : ℕ) where
 
   pub step-other : (s : State) (c : ℕ) → (c ≡ space → ⊥) → (c ≡ point → ⊥) → NoDigit c → step places s c ≡ Bad
   unfolding step
-  step-other s c ns np (inl low) = simp (ne-eqb c space ns, ne-eqb c point np, lt-leb (digitChar 0) c low)
-  step-other s c ns np (inr high) = simp (ne-eqb c space ns, ne-eqb c point np, lt-leb c (digitChar 9) high, cond-same)
+  step-other s c ns np nd = simp (ne-eqb c space ns, ne-eqb c point np, no-digit c nd)
+
+  step-bad : (c : ℕ) → step places Bad c ≡ Bad
+  unfolding step
+  step-bad c = simp cond-same
+
+  -- the first digit may not be missing, neither before the point nor behind it
+  pub before-bad : (c : ℕ) → NoSpace c → NoDigit c → step places Before c ≡ Bad
+  unfolding step
+  before-bad c ns nd = simp (ne-eqb c space ns, no-digit c nd, cond-same)
+
+  pub pointed-bad : (n c : ℕ) → NoDigit c → step places (Pointed n) c ≡ Bad
+  unfolding step
+  pointed-bad n c nd = simp (no-digit c nd, cond-same)
+
+  -- behind the last digit nothing but spaces may stand
+  pub behind-bad : (n k c : ℕ) → NoSpace c → step places (Behind n k) c ≡ Bad
+  unfolding step
+  behind-bad n k c ns = simp (ne-eqb c space ns, cond-same)
+
+  -- what is no digit stands behind the last one
+  pub fraction-behind : (n k c : ℕ) → NoDigit c → step places (Fraction n k) c ≡ step places (Behind n k) c
+  unfolding step
+  fraction-behind n k c nd = simp (no-digit c nd)
+
+  pub whole-behind : (n c : ℕ) → NoDigit c → not (eqb places 0) && eqb c point ≡ false → step places (Whole n) c ≡ step places (Behind n 0) c
+  unfolding step
+  whole-behind n c nd np = rw (no-digit c nd, point-or-bad (eqb places 0) (eqb c point) (Pointed n) Bad np)
 
   -- ## What a run of characters does
 
@@ -62,15 +92,20 @@ module _ (places : ℕ) where
   unfolding walk
   walk-nil s = refl
 
-  spaces-before : (k : ℕ) (t : List ℕ) → walk places Before (replicate k space ++ t) ≡ walk places Before t
-  spaces-before zero t = refl
-  spaces-before (suc k) t = rw (walk-cons, step-space) (spaces-before k t)
+  pub walk-bad : (t : List ℕ) → walk places Bad t ≡ Bad
+  walk-bad [] = walk-nil Bad
+  walk-bad (c ∷ t) = rw (walk-cons, step-bad) (walk-bad t)
+
+  -- spaces where spaces may stand
+  pub spaces-stay : (s : State) → onSpace s ≡ s → (k : ℕ) (t : List ℕ) → walk places s (replicate k space ++ t) ≡ walk places s t
+  spaces-stay s stay zero t = refl
+  spaces-stay s stay (suc k) t = rw (walk-cons, step-space, stay) (spaces-stay s stay k t)
 
   digits-whole : (n : ℕ) (ds t : List ℕ) → Digits ds → walk places (Whole n) (map digitChar ds ++ t) ≡ walk places (Whole (followed n ds)) t
   digits-whole n [] t h = simp (mul-one, add-zero)
   digits-whole n (d ∷ ds) t h = rw (walk-cons, step-digit (Whole n) d (h .0), ← followed-cons n d ds) (digits-whole (n * 10 + d) ds t (h .1))
 
-  digits-begin : (ds t : List ℕ) → 0 < length ds → Digits ds → walk places Before (map digitChar ds ++ t) ≡ walk places (Whole (value ds)) t
+  pub digits-begin : (ds t : List ℕ) → 0 < length ds → Digits ds → walk places Before (map digitChar ds ++ t) ≡ walk places (Whole (value ds)) t
   digits-begin [] t some h = absurd (omega arith)
   digits-begin (d ∷ ds) t some h = rw (walk-cons, step-digit Before d (h .0)) (digits-whole d ds t (h .1))
 
@@ -81,6 +116,12 @@ module _ (places : ℕ) where
       let one-more : k + length (d ∷ ds) ≡ k + 1 + length ds = omega arith in
       rw (walk-cons, step-digit (Fraction n k) d (h .0), ← followed-cons n d ds, one-more)
       (digits-fraction (n * 10 + d) (k + 1) ds t (h .1))
+
+  pub digits-pointed : (n : ℕ) (ds t : List ℕ) → 0 < length ds → Digits ds
+      → walk places (Pointed n) (map digitChar ds ++ t) ≡ walk places (Fraction (followed n ds) (length ds)) t
+  digits-pointed n [] t some h = absurd (omega arith)
+  digits-pointed n (d ∷ ds) t some h =
+      rw (walk-cons, step-digit (Pointed n) d (h .0), digits-fraction (n * 10 + d) 1 ds t (h .1), followed-cons n d ds, one-add)
 
 -- ## What a text of the shape reads as
 
@@ -110,12 +151,8 @@ module _ (kind : Kind) where
         walk-cons,
         step-point,
         ne-eqb (kind .places) 0 (λ e. omega arith),
-        walk-cons,
-        step-digit (kind .places) (Pointed n) d (h .0),
-        digits-fraction (kind .places) (n * 10 + d) 1 ds (replicate k space) (h .1),
+        digits-pointed (kind .places) n (d ∷ ds) (replicate k space) (omega arith) h,
         spaces-behind,
-        followed-cons n d ds,
-        one-add,
       )
 
   ranged-sized : (n : ℕ) (ds : List ℕ)
@@ -132,7 +169,7 @@ module _ (kind : Kind) where
       let rest : List ℕ = pointed (s .fraction) ++ replicate (s .behind) space in
       ap (readAs kind) (s .laid-out)
       ∙ ap (answer kind)
-      (spaces-before (kind .places) (s .before) (map digitChar (s .whole) ++ rest) ∙ digits-begin (kind .places) (s .whole) rest (s .some-digit) (s .whole-digits))
+      (spaces-stay (kind .places) Before refl (s .before) (map digitChar (s .whole) ++ rest) ∙ digits-begin (kind .places) (s .whole) rest (s .some-digit) (s .whole-digits))
       ∙ fraction-reads (value (s .whole)) (s .behind) (s .fraction) (s .fraction-digits) (s .may-point)
       ∙ ranged-sized (value (s .whole)) (s .fraction)
 

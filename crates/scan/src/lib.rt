@@ -1,5 +1,6 @@
 // How a number in text is read: one reader for every kind.
 mod text;
+mod units;
 
 pub use text::read;
 

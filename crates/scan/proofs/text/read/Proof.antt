@@ -1,38 +1,65 @@
--- `read` answers what `readText` does: the text read from the place reached, with what was read before, is the text read from its start.
-use Prim.Native.Nat.{_-_}
-use mathlib.Core.Path.{ap, _∙_}
+-- `read` answers what `readAs` does: there is a law for each place at which the sentence may break off or end.
+use mathlib.Core.Path.{_∙_, ap, sym}
 use native.Mathlib.Omega.{arith}
-use lib.ListN.{length}
 use borrow.Author.Needs.{needs}
+use borrow.Author.Tests.{not-true, not-false}
 use Rattle.scan.specs.Answers.{numberNumbers}
-use Rattle.scan.specs.Kept.{ReadTo}
-use Rattle.scan.specs.KeptLaws.{read-none, read-on, read-all}
+use Rattle.scan.specs.PartsLaws.{point-there, reads-none, reads-no-digit, reads-whole, reads-no-fraction, reads-fraction}
 use Rattle.scan.proofs.text.read.Statement.{statement}
 use Rattle.scan.proofs.text.read.Tie as tie
 
-abbrev Inv-loop : tie.InvT-loop
-Inv-loop text kind kept₀ i₀ kept i = ReadTo text (kind .places) kept i
+returns : tie.Need-returns
+returns c = ap numberNumbers (sym (reads-none _ _ _ (c .before .spaces .ensures) (c .if1 .taken)))
 
-abbrev μ-loop : tie.MeasureT-loop
-μ-loop text kind kept₀ i₀ kept i = length text - i
+returns-2 : tie.Need-returns-2
+returns-2 c =
+    let whole = c .before in
+    let first = whole .before .before in
+    ap numberNumbers (sym (reads-no-digit _ _ _ (first .spaces .ensures) _ (whole .digits .ensures) (omega arith) (c .if2 .taken)))
 
-loop-holds : tie.Need-loop-holds Inv-loop μ-loop
-loop-holds c = read-none _ _
+returns-3 : tie.Need-returns-3
+returns-3 c =
+    let point = c .before .before in
+    let whole = point .before .before in
+    let first = whole .before .before in
+    c .behind .ensures
+    ∙ ap numberNumbers
+    (sym (reads-whole _ _ _ (first .spaces .ensures) _ (whole .digits .ensures) (first .before .before .pre) (point .before .if2 .left) (sym (point .point-at .ensures) ∙ not-true _ (c .before .if3 .taken))))
 
-step-requires : tie.Need-step-requires Inv-loop μ-loop
-step-requires c κs = omega (arith, c .before .before .loop .inv .counted)
+add-tenths : tie.Need-add-tenths
+add-tenths c = omega (arith, point-there _ _ _ (sym (c .before .point-at .ensures) ∙ not-false _ (c .if3 .left)) .0)
 
-loop-again : tie.Need-loop-again Inv-loop μ-loop
-loop-again c =
-    let turn = c .before .before in
-    read-on _ _ _ _ _ (turn .before .loop .inv) (turn .loop-test .taken) (c .step .ensures)
+returns-4 : tie.Need-returns-4
+returns-4 c =
+    let point = c .before .before .before in
+    let whole = point .before .before in
+    let first = whole .before .before in
+    ap numberNumbers
+    (sym (reads-no-fraction _ _ _ (first .spaces .ensures) _ (whole .digits .ensures) (first .before .before .pre) (point .before .if2 .left) (sym (point .point-at .ensures) ∙ not-false _ (c .before .before .if3 .left)) _ (c .before .digits2 .ensures) (c .if4 .taken)))
 
-returns : tie.Need-returns Inv-loop μ-loop
-returns c =
-    let end = c .before .before in
-    c .answer .ensures
-    ∙ rw (c .before .joined .ensures) (ap numberNumbers (read-all _ _ (c .before .before .before .before .before .pre) _ _ (end .before .loop .inv) (end .loop-test .left)))
+returns-5 : tie.Need-returns-5
+returns-5 c =
+    let point = c .before .before .before .before in
+    let whole = point .before .before in
+    let first = whole .before .before in
+    c .behind2 .ensures
+    ∙ ap numberNumbers
+    (sym (reads-fraction _ _ _ (first .spaces .ensures) _ (whole .digits .ensures) (first .before .before .pre) (point .before .if2 .left) (sym (point .point-at .ensures) ∙ not-false _ (c .before .before .before .if3 .left)) _ (c .before .before .digits2 .ensures) (c .before .if4 .left)))
 
 pub read-spec : {M : Type 1} → statement M
 read-spec =
-    tie.close (tie.spec Inv-loop μ-loop loop-holds (λ c. omega arith) step-requires (λ c. omega arith) (λ c. omega arith) loop-again (λ c κs. search needs) (λ c κs. search needs) returns)
+    tie.close
+    (tie.spec
+    (λ c κs. search needs)
+    returns
+    (λ c κs. search needs)
+    returns-2
+    (λ c κs. search needs)
+    (λ c κs. search needs)
+    returns-3
+    add-tenths
+    (λ c κs. search needs)
+    returns-4
+    (λ c. search needs)
+    (λ c κs. search needs)
+    returns-5)

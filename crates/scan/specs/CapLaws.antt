@@ -16,10 +16,10 @@ use Rattle.scan.specs.declared.Number.the-variants.{OutOfRange}
 
 -- ## The ceiling
 
-pub cap-below : (n : ℕ) → n < 2 ^ 64 → cap n ≡ n
+cap-below : (n : ℕ) → n < 2 ^ 64 → cap n ≡ n
 cap-below n h = min-eq-left (omega arith)
 
-pub cap-above : (n : ℕ) → 2 ^ 64 ≤ n + 1 → cap n ≡ 2 ^ 64 - 1
+cap-above : (n : ℕ) → 2 ^ 64 ≤ n + 1 → cap n ≡ 2 ^ 64 - 1
 cap-above n h = min-eq-right (omega arith)
 
 -- an amount up to the ceiling, and more behind it

@@ -1,37 +1,56 @@
 -- Where a text was read well, it has the shape.
 use Prim.Native.Nat.{ℕ, zero, suc, _-_, _<_, _≤_}
 use mathlib.Core.Path.{_≡_, refl, ap}
+use mathlib.Core.Bool.{Bool, true, false, cond, not, false≢true}
 use mathlib.Core.List.{List, [], _∷_, _++_, map}
 use mathlib.Core.Logic.{_⊎_, inl, inr}
 use native.Mathlib.Omega.{arith}
-use lib.Dec.{eqb·suc-zero}
+use lib.Dec.{eqb, eqb·suc-zero}
 use lib.ListN.{length, replicate}
 use Rattle.laws.specs.Order.{order, same}
-use Rattle.decimal.specs.Denotes.{space, point, digitChar, Digits, pointed, Shape}
+use Rattle.decimal.specs.Denotes.{space, point, minusChar, digitChar, Digits, pointed, sign, Shape}
+use Rattle.decimal.specs.declared.Kind.{Kind}
 use Rattle.scan.specs.Parts.{NoDigit}
-use Rattle.scan.specs.Read.{State, Before, Whole, Pointed, Fraction, Behind, Bad, onSpace, onPoint, onDigit, step, walk}
-use Rattle.scan.specs.WalkLaws.{step-space, step-point, step-digit, step-other, walk-cons, walk-nil}
+use Rattle.scan.specs.Read.{
+  State,
+  Before,
+  Minus,
+  Whole,
+  Pointed,
+  Fraction,
+  Behind,
+  Bad,
+  onSpace,
+  onMinus,
+  onPoint,
+  onDigit,
+  step,
+  walk,
+}
+use Rattle.scan.specs.WalkLaws.{step-space, step-minus, step-point, step-digit, step-other, walk-cons, walk-nil}
 
 -- what a character is
 data Sort (c : ℕ) : Type 0 where
   a-space : c ≡ space → Sort c
+  a-minus : c ≡ minusChar → Sort c
   a-point : c ≡ point → Sort c
   a-digit : (d : ℕ) → d < 10 → c ≡ digitChar d → Sort c
-  another : ((places : ℕ) (s : State) → step places s c ≡ Bad) → Sort c
+  another : ((kind : Kind) (s : State) → step kind s c ≡ Bad) → Sort c
 
 sort : (c : ℕ) → Sort c
-sort c = go (same c space) (same c point) (order (digitChar 0) c) (order c (digitChar 9))
+sort c = go (same c space) (same c minusChar) (same c point) (order (digitChar 0) c) (order c (digitChar 9))
   where
-    other : (c ≡ space → ⊥) → (c ≡ point → ⊥) → NoDigit c → Sort c
-    other ns np nd = another (λ places s. step-other places s c ns np nd)
+    other : (c ≡ space → ⊥) → (c ≡ minusChar → ⊥) → (c ≡ point → ⊥) → NoDigit c → Sort c
+    other ns nm np nd = another (λ kind s. step-other kind s c ns nm np nd)
 
-    go : (c ≡ space) ⊎ (c ≡ space → ⊥) → (c ≡ point) ⊎ (c ≡ point → ⊥) → (digitChar 0 ≤ c) ⊎ (c < digitChar 0)
-        → (c ≤ digitChar 9) ⊎ (digitChar 9 < c) → Sort c
-    go (inl e) p l h = a-space e
-    go (inr ns) (inl e) l h = a-point e
-    go (inr ns) (inr np) (inl low) (inl high) = a-digit (c - digitChar 0) (omega arith) (omega arith)
-    go (inr ns) (inr np) (inl low) (inr high) = other ns np (inr high)
-    go (inr ns) (inr np) (inr low) h = other ns np (inl low)
+    go : (c ≡ space) ⊎ (c ≡ space → ⊥) → (c ≡ minusChar) ⊎ (c ≡ minusChar → ⊥) → (c ≡ point) ⊎ (c ≡ point → ⊥)
+        → (digitChar 0 ≤ c) ⊎ (c < digitChar 0) → (c ≤ digitChar 9) ⊎ (digitChar 9 < c) → Sort c
+    go (inl e) m p l h = a-space e
+    go (inr ns) (inl e) p l h = a-minus e
+    go (inr ns) (inr nm) (inl e) l h = a-point e
+    go (inr ns) (inr nm) (inr np) (inl low) (inl high) = a-digit (c - digitChar 0) (omega arith) (omega arith)
+    go (inr ns) (inr nm) (inr np) (inl low) (inr high) = other ns nm np (inr high)
+    go (inr ns) (inr nm) (inr np) (inr low) h = other ns nm np (inl low)
 
 -- the rest of a text: behind the last digit, behind the point, and behind the first digit
 abbrev pub Spaces : List ℕ → Type 0
@@ -43,23 +62,24 @@ pub record Tail (t : List ℕ) : Type 0 where
   pub are-digits : Digits digits
   pub laid-out : t ≡ map digitChar digits ++ replicate behind space
 
-pub record Left (places : ℕ) (t : List ℕ) : Type 0 where
+pub record Left (kind : Kind) (t : List ℕ) : Type 0 where
   pub whole : List ℕ
   pub fraction : List ℕ
   pub behind : ℕ
   pub whole-digits : Digits whole
   pub fraction-digits : Digits fraction
-  pub may-point : 0 < length fraction → 0 < places
+  pub may-point : 0 < length fraction → 0 < kind .places
   pub laid-out : t ≡ map digitChar whole ++ (pointed fraction ++ replicate behind space)
 
 -- where a text ends well that was begun so, what the rest of it is
-abbrev pub Ends : ℕ → State → List ℕ → Type 0
-Ends places Before t = Spaces t ⊎ Shape places t
-Ends places (Whole n) t = Left places t
-Ends places (Pointed n) t = (h : Tail t) × (0 < length (h .digits))
-Ends places (Fraction n k) t = Tail t
-Ends places (Behind n k) t = Spaces t
-Ends places Bad t = ⊥
+abbrev pub Ends : Kind → State → List ℕ → Type 0
+Ends kind Before t = Spaces t ⊎ Shape kind t
+Ends kind Minus t = (h : Left kind t) × (0 < length (h .whole))
+Ends kind (Whole minus n) t = Left kind t
+Ends kind (Pointed minus n) t = (h : Tail t) × (0 < length (h .digits))
+Ends kind (Fraction minus n k) t = Tail t
+Ends kind (Behind minus n k) t = Spaces t
+Ends kind Bad t = ⊥
 
 spaces-space : {t : List ℕ} → Spaces t → Spaces (space ∷ t)
 spaces-space h = (suc (h .0), ap (λ (r : List ℕ). space ∷ r) (h .1))
@@ -78,8 +98,8 @@ tail-digit {d} l h = (
   omega arith,
 )
 
-left-spaces : (places : ℕ) {t : List ℕ} → Spaces t → Left places t
-left-spaces places h =
+left-spaces : (kind : Kind) {t : List ℕ} → Spaces t → Left kind t
+left-spaces kind h =
     record {
       whole = [];
       fraction = [];
@@ -94,7 +114,7 @@ pointed-some : (ds : List ℕ) → 0 < length ds → pointed ds ≡ point ∷ ma
 pointed-some [] some = absurd (omega arith)
 pointed-some (d ∷ ds) some = refl
 
-left-point : {places : ℕ} {t : List ℕ} → 0 < places → (h : Tail t) → 0 < length (h .digits) → Left places (point ∷ t)
+left-point : {kind : Kind} {t : List ℕ} → 0 < kind .places → (h : Tail t) → 0 < length (h .digits) → Left kind (point ∷ t)
 left-point may h some =
     record {
       whole = [];
@@ -106,7 +126,7 @@ left-point may h some =
       laid-out = rw (pointed-some (h .digits) some) (ap (λ (r : List ℕ). point ∷ r) (h .laid-out));
     }
 
-left-digit : {places d : ℕ} {t : List ℕ} → d < 10 → Left places t → (h : Left places (digitChar d ∷ t)) × (0 < length (h .whole))
+left-digit : {kind : Kind} {d : ℕ} {t : List ℕ} → d < 10 → Left kind t → (h : Left kind (digitChar d ∷ t)) × (0 < length (h .whole))
 left-digit {d = d} l h = (
   record {
     whole = d ∷ h .whole;
@@ -120,90 +140,115 @@ left-digit {d = d} l h = (
   omega arith,
 )
 
--- spaces in front of it
-shape-left : {places : ℕ} {t : List ℕ} → (h : Left places t) → 0 < length (h .whole) → Shape places t
-shape-left h some =
+-- its sign in front of it, and spaces in front of that
+shape-left : {kind : Kind} {t : List ℕ} → (minus : Bool) → (minus ≡ true → kind .signed ≡ true)
+    → (h : Left kind t) → 0 < length (h .whole) → Shape kind (sign minus ++ t)
+shape-left minus may h some =
     record {
       before = 0;
+      minus = minus;
       whole = h .whole;
       fraction = h .fraction;
       behind = h .behind;
       some-digit = some;
       whole-digits = h .whole-digits;
       fraction-digits = h .fraction-digits;
+      may-minus = may;
       may-point = h .may-point;
-      laid-out = h .laid-out;
+      laid-out = ap (λ (r : List ℕ). sign minus ++ r) (h .laid-out);
     }
 
-shape-space : {places : ℕ} {t : List ℕ} → Shape places t → Shape places (space ∷ t)
+shape-space : {kind : Kind} {t : List ℕ} → Shape kind t → Shape kind (space ∷ t)
 shape-space h =
     record {
       before = suc (h .before);
+      minus = h .minus;
       whole = h .whole;
       fraction = h .fraction;
       behind = h .behind;
       some-digit = h .some-digit;
       whole-digits = h .whole-digits;
       fraction-digits = h .fraction-digits;
+      may-minus = h .may-minus;
       may-point = h .may-point;
       laid-out = ap (λ (r : List ℕ). space ∷ r) (h .laid-out);
     }
 
-whole-point : (places n : ℕ) (t : List ℕ) → Ends places (onPoint places (Whole n)) t → Left places (point ∷ t)
-whole-point zero n t h = absurd h
-whole-point (suc places) n t h =
-    let h′ : Ends (suc places) (Pointed n) t = rw (eqb·suc-zero places) at h in
-    left-point (omega arith) (h′ .0) (h′ .1)
+module _ (kind : Kind) (t : List ℕ) where
+  before-minus : (signed : Bool) → kind .signed ≡ signed → Ends kind (cond signed Minus Bad) t → Shape kind (minusChar ∷ t)
+  before-minus true e h = shape-left true (λ _. e) (h .0) (h .1)
+  before-minus false e h = absurd h
 
-module _ (places : ℕ) (t : List ℕ) where
-  ends-space : (s : State) → Ends places (onSpace s) t → Ends places s (space ∷ t)
+  whole-point : (minus : Bool) (n places : ℕ) → kind .places ≡ places
+      → Ends kind (cond (not (eqb places 0)) (Pointed minus n) Bad) t → Left kind (point ∷ t)
+  whole-point minus n zero e h = absurd h
+  whole-point minus n (suc places) e h =
+      let h′ : Ends kind (Pointed minus n) t = rw (eqb·suc-zero places) at h in
+      left-point (omega arith) (h′ .0) (h′ .1)
+
+  ends-space : (s : State) → Ends kind (onSpace s) t → Ends kind s (space ∷ t)
   ends-space Before (inl h) = inl (spaces-space h)
   ends-space Before (inr h) = inr (shape-space h)
-  ends-space (Whole n) h = left-spaces places (spaces-space h)
-  ends-space (Pointed n) h = absurd h
-  ends-space (Fraction n k) h = tail-spaces (spaces-space h)
-  ends-space (Behind n k) h = spaces-space h
+  ends-space Minus h = absurd h
+  ends-space (Whole minus n) h = left-spaces kind (spaces-space h)
+  ends-space (Pointed minus n) h = absurd h
+  ends-space (Fraction minus n k) h = tail-spaces (spaces-space h)
+  ends-space (Behind minus n k) h = spaces-space h
   ends-space Bad h = h
 
-  ends-point : (s : State) → Ends places (onPoint places s) t → Ends places s (point ∷ t)
+  ends-minus : (s : State) → Ends kind (onMinus kind s) t → Ends kind s (minusChar ∷ t)
+  ends-minus Before h = inr (before-minus (kind .signed) refl h)
+  ends-minus Minus h = absurd h
+  ends-minus (Whole minus n) h = absurd h
+  ends-minus (Pointed minus n) h = absurd h
+  ends-minus (Fraction minus n k) h = absurd h
+  ends-minus (Behind minus n k) h = absurd h
+  ends-minus Bad h = h
+
+  ends-point : (s : State) → Ends kind (onPoint kind s) t → Ends kind s (point ∷ t)
   ends-point Before h = absurd h
-  ends-point (Whole n) h = whole-point places n t h
-  ends-point (Pointed n) h = absurd h
-  ends-point (Fraction n k) h = absurd h
-  ends-point (Behind n k) h = absurd h
+  ends-point Minus h = absurd h
+  ends-point (Whole minus n) h = whole-point minus n (kind .places) refl h
+  ends-point (Pointed minus n) h = absurd h
+  ends-point (Fraction minus n k) h = absurd h
+  ends-point (Behind minus n k) h = absurd h
   ends-point Bad h = h
 
-  ends-digit : (s : State) {d : ℕ} → d < 10 → Ends places (onDigit s d) t → Ends places s (digitChar d ∷ t)
-  ends-digit Before l h = let h′ = left-digit l h in inr (shape-left (h′ .0) (h′ .1))
-  ends-digit (Whole n) l h = left-digit l h .0
-  ends-digit (Pointed n) l h = tail-digit l h
-  ends-digit (Fraction n k) l h = tail-digit l h .0
-  ends-digit (Behind n k) l h = absurd h
+  ends-digit : (s : State) {d : ℕ} → d < 10 → Ends kind (onDigit s d) t → Ends kind s (digitChar d ∷ t)
+  ends-digit Before l h = let h′ = left-digit l h in inr (shape-left false (λ e. absurd (false≢true e)) (h′ .0) (h′ .1))
+  ends-digit Minus l h = left-digit l h
+  ends-digit (Whole minus n) l h = left-digit l h .0
+  ends-digit (Pointed minus n) l h = tail-digit l h
+  ends-digit (Fraction minus n k) l h = tail-digit l h .0
+  ends-digit (Behind minus n k) l h = absurd h
   ends-digit Bad l h = h
 
-  ends-step : (s : State) (c : ℕ) → Sort c → Ends places (step places s c) t → Ends places s (c ∷ t)
+  ends-step : (s : State) (c : ℕ) → Sort c → Ends kind (step kind s c) t → Ends kind s (c ∷ t)
   ends-step s c (a-space e) h = rw e (ends-space s (rw (e, step-space) at h))
+  ends-step s c (a-minus e) h = rw e (ends-minus s (rw (e, step-minus) at h))
   ends-step s c (a-point e) h = rw e (ends-point s (rw (e, step-point) at h))
-  ends-step s c (a-digit d l e) h = rw e (ends-digit s l (rw (e, step-digit places s d l) at h))
-  ends-step s c (another e) h = absurd (rw (e places s) at h)
+  ends-step s c (a-digit d l e) h = rw e (ends-digit s l (rw (e, step-digit kind s d l) at h))
+  ends-step s c (another e) h = absurd (rw (e kind s) at h)
 
 -- a state in which a text may end
 abbrev pub Well : State → Type 0
 Well Before = Unit {0}
-Well (Whole n) = Unit {0}
-Well (Pointed n) = ⊥
-Well (Fraction n k) = Unit {0}
-Well (Behind n k) = Unit {0}
+Well Minus = ⊥
+Well (Whole minus n) = Unit {0}
+Well (Pointed minus n) = ⊥
+Well (Fraction minus n k) = Unit {0}
+Well (Behind minus n k) = Unit {0}
 Well Bad = ⊥
 
-ends-here : (places : ℕ) (s : State) → Well s → Ends places s []
-ends-here places Before h = inl (0, refl)
-ends-here places (Whole n) h = left-spaces places (0, refl)
-ends-here places (Pointed n) h = absurd h
-ends-here places (Fraction n k) h = tail-spaces (0, refl)
-ends-here places (Behind n k) h = (0, refl)
-ends-here places Bad h = h
+ends-here : (kind : Kind) (s : State) → Well s → Ends kind s []
+ends-here kind Before h = inl (0, refl)
+ends-here kind Minus h = absurd h
+ends-here kind (Whole minus n) h = left-spaces kind (0, refl)
+ends-here kind (Pointed minus n) h = absurd h
+ends-here kind (Fraction minus n k) h = tail-spaces (0, refl)
+ends-here kind (Behind minus n k) h = (0, refl)
+ends-here kind Bad h = h
 
-pub ends : (places : ℕ) (s : State) (t : List ℕ) → Well (walk places s t) → Ends places s t
-ends places s [] h = ends-here places s (rw walk-nil at h)
-ends places s (c ∷ t) h = ends-step places t s c (sort c) (ends places (step places s c) t (rw walk-cons at h))
+pub ends : (kind : Kind) (s : State) (t : List ℕ) → Well (walk kind s t) → Ends kind s t
+ends kind s [] h = ends-here kind s (rw walk-nil at h)
+ends kind s (c ∷ t) h = ends-step kind t s c (sort c) (ends kind (step kind s c) t (rw walk-cons at h))

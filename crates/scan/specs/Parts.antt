@@ -8,8 +8,10 @@ use lib.Dec.{eqb, ltb}
 use lib.ListN.{length, getD, drop, replicate}
 use Rattle.decimal.specs.Denotes.{space, point, digitChar, value, Digits}
 use Rattle.decimal.specs.declared.Kind.{Kind}
-use Rattle.scan.specs.Read.{State, walk, answer}
+use Rattle.scan.specs.Answers.{numberNumbers}
+use Rattle.scan.specs.Read.{State, Before, Minus, Behind, walk, answer, withSign}
 use Rattle.scan.specs.declared.Number.{Number}
+use Rattle.scan.specs.declared.Number.the-variants.{Malformed}
 use Rattle.scan.specs.declared.text.Walked.{Walked}
 
 -- a word of our own: all amounts from the cell of all ones on are one: over every largest amount
@@ -62,4 +64,23 @@ pointAt places text at = cond (ltb at (length text)) (not (eqb places 0) && eqb 
 
 -- a word of our own: what a text is, by what was read of it and its rest
 abbrev pub readOn : Kind → State → List ℕ → Number
-readOn kind s rest = answer kind (walk (kind .places) s rest)
+readOn kind s rest = answer kind (walk kind s rest)
+
+-- a word of our own: what was read before the first digit, where that may stand: a minus, or nothing but spaces
+abbrev pub begun : Bool → State
+begun minus = cond minus Minus Before
+
+-- a word of our own: nothing but a digit may stand at the place, after a minus or after none
+abbrev pub WantsDigit : Kind → List ℕ → ℕ → Bool → Type 0
+WantsDigit kind text at minus = (at < length text → NoDigit (getD text at 0)) → readOn kind (begun minus) (drop at text) ≡ Malformed
+
+-- a word of our own: what the text is by its rest from the first digit on, but for the sign: whichever was read before
+abbrev pub Unsigned : Kind → List ℕ → ℕ → Number → Type 0
+Unsigned kind text first r =
+    (minus : Bool) → WantsDigit kind text first minus
+    → numberNumbers (withSign minus r) ≡ numberNumbers (readOn kind (begun minus) (drop first text))
+
+-- a word of our own: what the text is by its rest behind the last digit, but for the sign
+abbrev pub UnsignedBehind : Kind → ℕ → ℕ → List ℕ → Number → Type 0
+UnsignedBehind kind amount digits rest r =
+    (minus : Bool) → numberNumbers (withSign minus r) ≡ numberNumbers (readOn kind (Behind minus amount digits) rest)

@@ -1,6 +1,6 @@
 // How a number in text is read: one walk in the order of document 01's sentence. A place moves forward through the text: past the
-// spaces, the digits, the point and its digits, the spaces, to the end. Each part stays while it may and hands the place on to
-// the next; what the next does not expect is malformed.
+// spaces, the minus, the digits, the point and its digits, the spaces, to the end. Each part stays while it may and hands the place
+// on to the next; what the next does not expect is malformed.
 use crate::Number;
 use crate::units;
 use decimal::Kind;
@@ -8,10 +8,12 @@ ghost use mathlib.Core.Path.{_≡_};
 ghost use Prim.Native.Nat.{_+_, _-_, _^_, _<_};
 ghost use lib.ListN.{drop};
 ghost use Rattle.scan.specs.Answers.{numberNumbers};
-ghost use Rattle.scan.specs.Read.{Behind, readAs};
-ghost use Rattle.scan.specs.Parts.{pointAt, readOn, PassedSpaces, PassedDigits};
+ghost use Rattle.scan.specs.Read.{readAs};
+ghost use Rattle.scan.specs.Parts.{pointAt, PassedSpaces, PassedDigits, Unsigned, UnsignedBehind};
 
 const SPACE: u8 = b' ';
+
+const MINUS: u8 = b'-';
 
 const POINT: u8 = b'.';
 
@@ -31,6 +33,18 @@ pub fn read(text: &[u8], kind: Kind) -> Number
     if text.len() <= first {
         return Number::None;
     }
+    // At most one minus, where the kind has a sign.
+    if kind.signed & (text[first] == MINUS) {
+        return units::below_zero(unsigned(text, first + 1, kind));
+    }
+    unsigned(text, first, kind)
+}
+
+// Behind the sign, or where there is none: the number without it.
+fn unsigned(text: &[u8], first: usize, kind: Kind) -> Number
+    requires { ⌜ kind .most + 1 < 2 ^ 64 ⌝ }
+    ensures { λ r. ⌜ Unsigned kind (now (text .entry)) first r ⌝ }
+{
     // One or more digits.
     let whole = digits(text, first, 0);
     let point = whole.at;
@@ -118,7 +132,7 @@ fn point_at(text: &[u8], at: usize, places: usize) -> bool
 // Behind the last digit: spaces up to the end.
 fn behind(text: &[u8], from: usize, amount: u64, digits: usize, kind: Kind) -> Number
     requires { ⌜ kind .most + 1 < 2 ^ 64 ⌝ }
-    ensures { λ r. ⌜ numberNumbers r ≡ numberNumbers (readOn kind (Behind amount digits) (drop from (now (text .entry)))) ⌝ }
+    ensures { λ r. ⌜ UnsignedBehind kind amount digits (drop from (now (text .entry))) r ⌝ }
 {
     let end = spaces(text, from);
     if end < text.len() {

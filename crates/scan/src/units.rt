@@ -2,9 +2,10 @@
 use crate::Number;
 use decimal::Kind;
 ghost use mathlib.Core.Path.{_≡_};
+ghost use mathlib.Core.Bool.{true};
 ghost use Prim.Native.Nat.{_+_, _*_, _^_, _<_};
 ghost use Rattle.scan.specs.Answers.{numberNumbers};
-ghost use Rattle.scan.specs.Read.{ranged};
+ghost use Rattle.scan.specs.Read.{ranged, withSign};
 ghost use Rattle.scan.specs.Parts.{cap, CountsAs, TellsOver};
 
 // All ones, which is no amount's cell: what would be larger counts as this, so that no width overflows.
@@ -62,5 +63,23 @@ pub fn ranged(amount: u64, digits: usize, kind: Kind) -> Number
         Number::Amount(units)
     } else {
         Number::OutOfRange
+    }
+}
+
+// What a number is behind a minus. Minus zero is zero.
+pub fn below_zero(number: Number) -> Number
+    ensures { λ r. ⌜ numberNumbers r ≡ numberNumbers (withSign true number) ⌝ }
+{
+    match number {
+        Number::None => Number::None,
+        Number::Amount(units) => {
+            if units != 0 {
+                return Number::Below(units);
+            }
+            Number::Amount(0)
+        }
+        Number::Below(units) => Number::Below(units),
+        Number::Malformed => Number::Malformed,
+        Number::OutOfRange => Number::OutOfRange,
     }
 }

@@ -1,12 +1,12 @@
 -- How a number is written: 01 "Numbers in text", the writer. A text is its characters' codes, a digit is its value, 0 to 9.
 use Prim.Native.Nat.{ℕ, zero, suc, _-_, _/_, _%_, _^_}
 use mathlib.Core.Path.{_≡_}
-use mathlib.Core.Bool.{cond}
+use mathlib.Core.Bool.{Bool, cond, not, _&&_, _||_}
 use mathlib.Core.List.{List, [], _∷_, _++_, map}
 use lib.Dec.{leb, ltb}
 use lib.ListN.{length, replicate}
 use Rattle.laws.specs.Refused.{rangeNo}
-use Rattle.decimal.specs.Denotes.{space, digitChar, pointed, Denotes}
+use Rattle.decimal.specs.Denotes.{space, digitChar, pointed, sign, belowZero, Denotes}
 use Rattle.decimal.specs.declared.Kind.{Kind}
 use Rattle.print.specs.declared.text.Put.{Put}
 use Rattle.print.specs.declared.text.Put.the-variants.{Fits, OutOfRange}
@@ -46,6 +46,10 @@ trimmed (d ∷ ds) = kept d (trimmed ds)
 unfoldable pub textOf : ℕ → ℕ → List ℕ
 textOf places n = map digitChar (digits (n / 10 ^ places)) ++ pointed (trimmed (lastDigits places n))
 
+-- M-100: the same behind its sign: a minus stands directly before the digits
+abbrev pub signedText : Bool → ℕ → ℕ → List ℕ
+signedText minus places n = sign minus ++ textOf places n
+
 -- 01 "Numbers in text": what becomes of a field: the characters that fill it, or a refusal
 pub data Written : Type 0 where
   filled : List ℕ → Written
@@ -63,18 +67,24 @@ spaced width text = replicate (width - length text) space ++ text
 abbrev pub inField : ℕ → List ℕ → Written
 inField width text = cond (leb (length text) width) (filled (spaced width text)) refused
 
--- 01, the table's row 12: so many units of that kind in a field of that width; 12 where they are over the largest amount, or
--- their text doesn't fit
-abbrev pub writtenAs : Kind → ℕ → ℕ → Written
-writtenAs kind width units = cond (leb units (kind .most)) (inField width (textOf (kind .places) units)) refused
+-- M-100: whether the kind has numbers on that side of zero
+abbrev pub hasSide : Kind → Bool → Bool
+hasSide kind below = not below || kind .signed
+
+-- 01, the table's row 12: so many units of that kind in a field of that width; 12 where they are on a side of zero that the kind
+-- has not (M-100), over the largest amount, or their text doesn't fit. M-100: minus zero is written as zero
+abbrev pub writtenAs : Kind → ℕ → Bool → ℕ → Written
+writtenAs kind width below n =
+    let minus = belowZero below n in
+    cond (hasSide kind minus && leb n (kind .most)) (inField width (signedText minus (kind .places) n)) refused
 
 -- 01 "Numbers in text": "none" is all spaces
 abbrev pub blankText : ℕ → List ℕ
 blankText width = replicate width space
 
--- 01, the table's row 12, "in the writer also no text fits": no text of that width denotes n units
-abbrev pub NoText : ℕ → ℕ → ℕ → Type 0
-NoText places width n = (text : List ℕ) → length text ≡ width → Denotes places text n → ⊥
+-- 01, the table's row 12, "in the writer also no text fits": no text of that width denotes n units, on their side of zero
+abbrev pub NoText : Kind → ℕ → Bool → ℕ → Type 0
+NoText kind width below n = (text : List ℕ) → length text ≡ width → Denotes kind text (belowZero below n) n → ⊥
 
 -- 01, the table's row 12: the number of a refusal, 0 where there is none, by what is to be written
 abbrev pub refusal : Written → ℕ

@@ -1,10 +1,11 @@
 // The writer of numbers in text: the shortest text, spaces in front. A field is written only once the text is known to fit.
 use decimal::Kind;
 ghost use mathlib.Core.Path.{_≡_};
-ghost use Prim.Native.Nat.{_/_, _%_, _^_, _≤_, _<_};
+ghost use Prim.Native.Nat.{_+_, _/_, _%_, _^_, _≤_, _<_};
 ghost use lib.ListN.{length};
-ghost use Rattle.print.specs.Write.{writtenAs, Wrote, inField, textOf, blankText, size};
-ghost use Rattle.print.specs.WriteSteps.{Stripped, digitsIn, wholeIn, fractionIn};
+ghost use Rattle.decimal.specs.Denotes.{sign};
+ghost use Rattle.print.specs.Write.{writtenAs, Wrote, inField, signedText, blankText, size};
+ghost use Rattle.print.specs.WriteSteps.{Stripped, digitsIn, behindIn, wholeIn};
 
 // What writing a number answers: the text fills the field, or 01's refusal 12 and the field is as it was.
 pub enum Put {
@@ -77,6 +78,14 @@ fn size(n: u64) -> usize
     count
 }
 
+// How many characters the sign and the digits of a number take.
+fn front_size(minus: bool, n: u64) -> usize
+    ensures { λ r. ⌜ r ≡ length (sign minus) + size n ⌝ }
+{
+    let digits = size(n);
+    if minus { digits + 1 } else { digits }
+}
+
 // The last digits of a number, as many as there is room for.
 fn put_digits(n: u64, field: &mut [u8])
     ensures { λ _. ⌜ now (field .exit) ≡ digitsIn n (length (now (field .entry))) ⌝ }
@@ -90,56 +99,64 @@ fn put_digits(n: u64, field: &mut [u8])
     }
 }
 
-// The last `count` digits of a number, spaces in front.
-fn put_whole(n: u64, count: usize, field: &mut [u8])
-    requires { ⌜ count ≤ length (now field) ⌝ }
-    ensures { λ _. ⌜ now (field .exit) ≡ wholeIn n count (length (now (field .entry))) ⌝ }
+// A minus or a point, and behind it the last digits of a number, as many as there is room for.
+fn put_behind(first: u8, n: u64, field: &mut [u8])
+    requires { ⌜ 0 < length (now field) ⌝ }
+    ensures { λ _. ⌜ now (field .exit) ≡ behindIn first n (length (now (field .entry))) ⌝ }
+{
+    put_digits(n, field);
+    field[0] = first;
+}
+
+// The sign and the last digits of a number, `count` characters, and spaces in front.
+fn put_whole(minus: bool, n: u64, count: usize, field: &mut [u8])
+    requires { ⌜ (length (sign minus) ≤ count) × (count ≤ length (now field)) ⌝ }
+    ensures { λ _. ⌜ now (field .exit) ≡ wholeIn minus n count (length (now (field .entry))) ⌝ }
 {
     let at = field.len() - count;
     blank(&mut field[..at]);
+    if minus {
+        put_behind(b'-', n, &mut field[at..]);
+        return;
+    }
     put_digits(n, &mut field[at..]);
 }
 
-// The point, and behind it the last digits of a number, as many as there is room for.
-fn put_fraction(n: u64, field: &mut [u8])
-    requires { ⌜ 0 < length (now field) ⌝ }
-    ensures { λ _. ⌜ now (field .exit) ≡ fractionIn n (length (now (field .entry))) ⌝ }
-{
-    field[0] = b'.';
-    put_digits(n, &mut field[1..]);
-}
-
-// A number with so many digits behind the point, the last of them not zero.
-fn lay(n: u64, behind: usize, field: &mut [u8]) -> Put
+// A number behind its sign, with so many digits behind the point, the last of them not zero.
+fn lay(minus: bool, n: u64, behind: usize, field: &mut [u8]) -> Put
     requires { ⌜ (0 < behind → 0 < n % 10) ⌝ }
-    ensures { λ r. ⌜ Wrote (inField (length (now (field .entry))) (textOf behind n)) (now (field .entry)) r (now (field .exit)) ⌝ }
+    ensures { λ r. ⌜ Wrote (inField (length (now (field .entry))) (signedText minus behind n)) (now (field .entry)) r (now (field .exit)) ⌝ }
 {
     let front = whole(n, behind);
-    let count = size(front);
+    let count = front_size(minus, front);
     let width = field.len();
     if width < count {
         return Put::OutOfRange;
     }
     if behind == 0 {
-        put_whole(front, count, field);
+        put_whole(minus, front, count, field);
         return Put::Fits;
     }
     if width - count <= behind {
         return Put::OutOfRange;
     }
     let point = width - behind - 1;
-    put_whole(front, count, &mut field[..point]);
-    put_fraction(n, &mut field[point..]);
+    put_whole(minus, front, count, &mut field[..point]);
+    put_behind(b'.', n, &mut field[point..]);
     Put::Fits
 }
 
-// So many units of any kind.
-pub fn write(units: u64, kind: Kind, field: &mut [u8]) -> Put
-    ensures { λ r. ⌜ Wrote (writtenAs kind (length (now (field .entry))) units) (now (field .entry)) r (now (field .exit)) ⌝ }
+// So many units of any kind, below zero or not. Minus zero is zero.
+pub fn write(below: bool, units: u64, kind: Kind, field: &mut [u8]) -> Put
+    ensures { λ r. ⌜ Wrote (writtenAs kind (length (now (field .entry))) below units) (now (field .entry)) r (now (field .exit)) ⌝ }
 {
+    let minus = below & (units != 0);
+    if minus & !kind.signed {
+        return Put::OutOfRange;
+    }
     if kind.most < units {
         return Put::OutOfRange;
     }
     let bare = stripped(units, kind.places);
-    lay(bare.units, bare.places, field)
+    lay(minus, bare.units, bare.places, field)
 }

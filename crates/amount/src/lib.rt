@@ -1,8 +1,10 @@
-// Numbers in text: the three kinds, each of them read and written as its own type.
+// Numbers in text: the kinds, each of them read and written as its own type.
+mod difference;
 mod price;
 mod quantity;
 mod turnover;
 
+pub use difference::Difference;
 pub use price::Price;
 pub use print::Put;
 pub use print::blank;

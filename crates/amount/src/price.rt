@@ -3,6 +3,7 @@ use decimal::Kind;
 use print::Put;
 use scan::Number;
 ghost use mathlib.Core.Path.{_≡_};
+ghost use mathlib.Core.Bool.{false};
 ghost use lib.ListN.{length};
 ghost use Rattle.decimal.specs.Kinds.{price};
 ghost use Rattle.scan.specs.Answers.{numberNumbers};
@@ -20,6 +21,7 @@ impl Price {
     pub const KIND: Kind = Kind {
         places: Price::PLACES,
         most: Price::MAX,
+        signed: false,
     };
 
     pub const ZERO: Price = Price(0);
@@ -37,8 +39,8 @@ impl Price {
     }
 
     pub fn write(self, field: &mut [u8]) -> Put
-        ensures { λ r. ⌜ Wrote (writtenAs price (length (now (field .entry))) (self .0)) (now (field .entry)) r (now (field .exit)) ⌝ }
+        ensures { λ r. ⌜ Wrote (writtenAs price (length (now (field .entry))) false (self .0)) (now (field .entry)) r (now (field .exit)) ⌝ }
     {
-        print::write(self.0, Price::KIND, field)
+        print::write(false, self.0, Price::KIND, field)
     }
 }

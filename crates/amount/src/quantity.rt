@@ -3,6 +3,7 @@ use decimal::Kind;
 use print::Put;
 use scan::Number;
 ghost use mathlib.Core.Path.{_≡_};
+ghost use mathlib.Core.Bool.{false};
 ghost use lib.ListN.{length};
 ghost use Rattle.decimal.specs.Kinds.{quantity};
 ghost use Rattle.scan.specs.Answers.{numberNumbers};
@@ -20,6 +21,7 @@ impl Quantity {
     pub const KIND: Kind = Kind {
         places: Quantity::PLACES,
         most: Quantity::MAX,
+        signed: false,
     };
 
     pub const ZERO: Quantity = Quantity(0);
@@ -37,8 +39,8 @@ impl Quantity {
     }
 
     pub fn write(self, field: &mut [u8]) -> Put
-        ensures { λ r. ⌜ Wrote (writtenAs quantity (length (now (field .entry))) (self .0)) (now (field .entry)) r (now (field .exit)) ⌝ }
+        ensures { λ r. ⌜ Wrote (writtenAs quantity (length (now (field .entry))) false (self .0)) (now (field .entry)) r (now (field .exit)) ⌝ }
     {
-        print::write(self.0, Quantity::KIND, field)
+        print::write(false, self.0, Quantity::KIND, field)
     }
 }

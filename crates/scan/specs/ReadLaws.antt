@@ -42,7 +42,7 @@ module _ (kind : Kind) (t : List ℕ) where
       (λ (long : kind .places < length (s .fraction)). inr (inl (λ fine. omega arith)))
       (order (length (s .fraction)) (kind .places))
 
-  denoted : (below : Bool) (n : ℕ) → Denotes kind t below n → n ≤ kind .most → readAs kind t ≡ sided below n
+  pub denoted : (below : Bool) (n : ℕ) → Denotes kind t below n → n ≤ kind .most → readAs kind t ≡ sided below n
   denoted below n d fits = shape-amount (d .shape) (d .fine) (rw (← d .amount) fits) ∙ rw (← d .amount, ← d .side)
 
   side-said : (below : Bool) (n : ℕ) → Denotes kind t below n → n ≤ kind .most → Says kind t (sided below n)

@@ -6,5 +6,6 @@ pub mod EndsLaws
 pub mod Parts
 pub mod PartsLaws
 pub mod Read
+pub mod ReadCases
 pub mod ReadLaws
 pub mod WalkLaws

@@ -30,7 +30,7 @@ pub data State : Type 0 where
 abbrev pub isDigit : ℕ → Bool
 isDigit c = cond (leb (digitChar 0) c) (leb c (digitChar 9)) false
 
--- 01 "Numbers in text": spaces stand before the first digit and behind the last
+-- 01 "Numbers in text": spaces stand before the first digit, there before its minus (M-100), and behind the last
 abbrev pub onSpace : State → State
 onSpace Before = Before
 onSpace Minus = Bad

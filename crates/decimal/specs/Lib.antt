@@ -1,2 +1,3 @@
 pub mod Denotes
+pub mod DenotesLaws
 pub mod Kinds

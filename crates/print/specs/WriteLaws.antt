@@ -12,8 +12,9 @@ use lib.ListN.{length, replicate, length-append, length-replicate, length-map}
 use borrow.Author.Tests.{le-leb, lt-leb}
 use Rattle.laws.specs.Choice.{either}
 use Rattle.laws.specs.Order.{order}
-use Rattle.laws.specs.Tests.{and-false, both}
+use Rattle.laws.specs.Tests.{and-false}
 use Rattle.decimal.specs.Denotes.{space, digitChar, value, Digits, pointed, sign, belowZero, Denotes, AllSpaces}
+use Rattle.decimal.specs.DenotesLaws.{below-signed}
 use Rattle.print.specs.Write.{
   lastDigits,
   size,
@@ -164,7 +165,7 @@ module _ {kind : Kind} {below : Bool} {n : ℕ} {text : List ℕ} (d : Denotes k
 
 -- only a kind that has the side has texts on it
 denoted-side : (kind : Kind) (below : Bool) (n : ℕ) (text : List ℕ) → Denotes kind text below n → hasSide kind below ≡ true
-denoted-side kind true n text d = d .shape .may-minus (both (d .shape .minus) (not (eqb n 0)) (sym (d .side)) .0)
+denoted-side kind true n text d = below-signed d
 denoted-side kind false n text d = refl
 
 -- ---- the field is filled, or it is refused

@@ -1,7 +1,7 @@
 -- What reading answers is what the text denotes, in both directions: demand 2 of 01 for numbers in text.
 use Prim.Native.Nat.{ℕ, _<_, _≤_}
 use mathlib.Core.Path.{_≡_, refl, sym, _∙_, ap, subst}
-use mathlib.Core.Bool.{Bool, true, false}
+use mathlib.Core.Bool.{Bool, true, false, true≢false}
 use mathlib.Core.List.{List}
 use mathlib.Core.Logic.{_↔_, _⊎_, inl, inr, ⊎-elim}
 use native.Mathlib.Omega.{arith}
@@ -10,6 +10,7 @@ use borrow.Author.Tests.{le-leb, lt-leb}
 use Rattle.laws.specs.Choice.{cond-same, clash}
 use Rattle.laws.specs.Order.{order}
 use Rattle.decimal.specs.Denotes.{space, belowZero, Shape, units, FineEnough, Denotes, AllSpaces}
+use Rattle.decimal.specs.DenotesLaws.{below-signed, below-some}
 use Rattle.scan.specs.Answers.{Beyond, Says}
 use Rattle.scan.specs.Read.{State, Before, Minus, Whole, Pointed, Fraction, Behind, Bad, readAs, walk, sided, answer}
 use Rattle.scan.specs.WalkLaws.{shape-reads, spaces-read}
@@ -106,3 +107,10 @@ module _ (kind : Kind) (t : List ℕ) where
   -- each answer is given exactly where what it says of the text is so
   pub reads-exactly : (r : Number) → (readAs kind t ≡ r) ↔ Says kind t r
   reads-exactly r = (λ e. subst (Says kind t) e (says sorted), said sorted r)
+
+  -- what is below zero is not zero, and a kind with no sign has none of it
+  pub below-not-zero : (n : ℕ) → readAs kind t ≡ Below n → 0 < n
+  below-not-zero n e = below-some (reads-exactly (Below n) .0 e .0)
+
+  pub never-below : kind .signed ≡ false → (n : ℕ) → readAs kind t ≡ Below n → ⊥
+  never-below plain n e = true≢false (sym (below-signed (reads-exactly (Below n) .0 e .0)) ∙ plain)

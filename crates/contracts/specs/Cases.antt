@@ -5,15 +5,16 @@ use mathlib.Core.Bool.{true, false}
 use mathlib.Core.List.{List, [], _∷_, _++_, map}
 use mathlib.Core.Option.{none, some}
 use lib.ListN.{length, replicate}
-use Rattle.contracts.specs.File.{segmentsOf, letterAt, zeroAt, countAt, offsetAt, keySize, keyFrom, contractsBefore}
+use Rattle.contracts.specs.File.{segmentsOf, letterAt, zeroAt, countAt, offsetAt, keyFrom, contractsBefore}
+use Rattle.contracts.specs.Habits.{contracts}
 use Rattle.contracts.specs.Halving.{halvedIn, digits}
 use Rattle.contracts.specs.Lookup.{segmentOf, lookup, placeIn}
 use Rattle.contracts.specs.Records.{contractAmong}
-use Rattle.contracts.specs.SoundTests.{entrySound, headerSound, keySound, bodySound, sound}
+use Rattle.contracts.specs.SoundTests.{entrySound, headerSoundBy, headerSound, keySound, bodySound, soundBy, sound}
 
 -- 01 "The contract list": a 39-byte key of one byte throughout
 abbrev pub keyOfBytes : ℕ → List ℕ
-keyOfBytes byte = replicate keySize byte
+keyOfBytes byte = replicate (contracts .key) byte
 
 -- 01 "The contract list": an entry of the contents, for a letter, a count below 256 and an offset below 256
 abbrev pub entryOf : ℕ → ℕ → ℕ → List ℕ
@@ -43,11 +44,11 @@ lists =
 
 -- the last three pass the short check, which doesn't look at the bodies
 pub checked : map sound lists ≡ true ∷ false ∷ false ∷ true ∷ false ∷ false ∷ false ∷ false ∷ false ∷ false ∷ false ∷ false ∷ []
-unfolding segmentsOf letterAt zeroAt countAt offsetAt keyFrom contractsBefore entrySound headerSound keySound bodySound sound
+unfolding segmentsOf letterAt zeroAt countAt offsetAt keyFrom contractsBefore entrySound headerSoundBy keySound bodySound soundBy
 checked = refl
 
 pub header-checked : map headerSound lists ≡ true ∷ false ∷ false ∷ true ∷ false ∷ false ∷ false ∷ false ∷ false ∷ true ∷ true ∷ true ∷ []
-unfolding segmentsOf letterAt zeroAt countAt offsetAt contractsBefore entrySound headerSound
+unfolding segmentsOf letterAt zeroAt countAt offsetAt contractsBefore entrySound headerSoundBy
 header-checked = refl
 
 pub size-of-one : (length oneT ≡ 49) × (offsetAt oneT 0 ≡ 10)

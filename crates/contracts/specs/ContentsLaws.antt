@@ -5,12 +5,13 @@ use mathlib.Core.Path.{_≡_, refl, ap, ap₂, _∙_}
 use mathlib.Core.List.{List}
 use native.Mathlib.Omega.{arith}
 use Rattle.wire.specs.Number.{numberAt}
+use Rattle.contracts.specs.declared.habit.Habit.{Habit}
 use Rattle.contracts.specs.File.{sumBelow, segmentsOf, entryAt, letterAt, zeroAt, countAt, offsetAt, contractsBefore}
 use Rattle.contracts.specs.BelowLaws.{all-same, sum-same}
 use Rattle.contracts.specs.Sound.{SameContents}
-use Rattle.contracts.specs.SoundTests.{letterAscends, entrySound, headerSound}
+use Rattle.contracts.specs.SoundTests.{letterAscends, entrySound, headerSoundBy}
 
-module _ (list other : List ℕ) (same : SameContents list other) where
+module _ (habit : Habit) (list other : List ℕ) (same : SameContents list other) where
   number-same : (width at : ℕ) → at + width ≤ entryAt (segmentsOf list) → numberAt width list at ≡ numberAt width other at
   number-same zero at h = refl
   number-same (suc w) at h =
@@ -46,13 +47,13 @@ module _ (list other : List ℕ) (same : SameContents list other) where
   ascends-same zero h = refl
   ascends-same (suc i) h = rw (letter-same i (omega arith), letter-same (suc i) h)
 
-  entry-same : (i : ℕ) → i < segmentsOf list → entrySound list i ≡ entrySound other i
+  entry-same : (i : ℕ) → i < segmentsOf list → entrySound habit list i ≡ entrySound habit other i
   unfolding entrySound
   entry-same i h = rw (letter-same i h, ascends-same i h, zero-same i h, count-same i h, offset-same i h, segments-same, before-same i)
 
-  pub bodies-unread : headerSound list ≡ headerSound other
-  unfolding headerSound
+  pub bodies-unread : headerSoundBy habit list ≡ headerSoundBy habit other
+  unfolding headerSoundBy
   bodies-unread =
       let n : ℕ = segmentsOf list in
-      let entries = all-same (entrySound list) (entrySound other) n entry-same in
+      let entries = all-same (entrySound habit list) (entrySound habit other) n entry-same in
       rw (entries, before-same n, segments-same, same .size)

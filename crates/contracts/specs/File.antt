@@ -1,8 +1,10 @@
--- 01 "The contract list": the file as it is laid out. Numbers are big endian, and past the end every byte reads as zero.
+-- 01 "The contract list": a house file as it is laid out, of any habit. Numbers are big endian, and past the end every byte reads as zero.
 use Prim.Native.Nat.{ℕ, _+_, _*_, min, zero, suc}
 use mathlib.Core.List.{List}
 use lib.ListN.{take, drop}
 use Rattle.wire.specs.Number.{numberAt}
+use Rattle.contracts.specs.declared.habit.Habit.{Habit}
+use Rattle.contracts.specs.Habits.{contracts}
 
 -- a word of our own: what the numbers below n give, added up
 abbrev pub sumBelow : ℕ → (ℕ → ℕ) → ℕ
@@ -33,26 +35,26 @@ countAt list i = numberAt 2 list (entryAt i + 2)
 unfoldable pub offsetAt : List ℕ → ℕ → ℕ
 offsetAt list i = numberAt 4 list (entryAt i + 4)
 
--- 01 "The contract list": 39-byte keys
-abbrev pub keySize : ℕ
-keySize = 39
-
--- 01 "The contract list": a key from a place on, as far as the file goes
-unfoldable pub keyFrom : List ℕ → ℕ → List ℕ
-keyFrom list at = take keySize (drop at list)
+-- 01 "The contract list": a key of so many bytes from a place on, as far as the file goes
+unfoldable pub keyFrom : ℕ → List ℕ → ℕ → List ℕ
+keyFrom size list at = take size (drop at list)
 
 -- 01 "The contract list": key k of segment i stands in its body, behind the k keys before it
-abbrev pub keyAt : List ℕ → ℕ → ℕ → ℕ
-keyAt list i k = offsetAt list i + keySize * k
+abbrev pub keyAt : Habit → List ℕ → ℕ → ℕ → ℕ
+keyAt habit list i k = offsetAt list i + habit .key * k
 
 -- 01 "The contract list": key k of segment i
-abbrev pub listedKey : List ℕ → ℕ → ℕ → List ℕ
-listedKey list i k = keyFrom list (keyAt list i k)
+abbrev pub keyBy : Habit → List ℕ → ℕ → ℕ → List ℕ
+keyBy habit list i k = keyFrom (habit .key) list (keyAt habit list i k)
 
--- 01 "The contract list": the contracts of all segments before segment i
+-- 01 "The contract list": key k of segment i of a contract list
+abbrev pub listedKey : List ℕ → ℕ → ℕ → List ℕ
+listedKey = keyBy contracts
+
+-- 01 "The contract list": the contracts of all segments before segment i; of a spread list, the pairs
 unfoldable pub contractsBefore : List ℕ → ℕ → ℕ
 contractsBefore list i = sumBelow (min i (segmentsOf list)) (countAt list)
 
--- 01 "The contract list": the contracts of all segments
+-- 01 "The contract list": the contracts of all segments; of a spread list, the pairs
 abbrev pub contractsOf : List ℕ → ℕ
 contractsOf list = contractsBefore list (segmentsOf list)

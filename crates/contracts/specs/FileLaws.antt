@@ -2,12 +2,12 @@
 use Prim.Native.Nat.{ℕ, _+_, _-_, _*_, _^_, _≤_, _<_, min}
 use mathlib.Core.Path.{_≡_, ap, sym, _∙_}
 use mathlib.Core.List.{List}
-use native.Mathlib.Nat.{min-eq-left, zero-min}
+use native.Mathlib.Nat.{min-eq-left, zero-min, mul-le-mul}
 use native.Mathlib.Omega.{arith}
 use lib.ListN.{length, getD, drop, length-drop}
 use lib.Seq.{length-take-le}
 use Rattle.wire.specs.NumberLaws.{number-under}
-use Rattle.contracts.specs.File.{sumBelow, segmentsOf, countAt, offsetAt, keyFrom, keySize, contractsBefore, contractsOf}
+use Rattle.contracts.specs.File.{sumBelow, segmentsOf, countAt, offsetAt, keyFrom, contractsBefore, contractsOf}
 use Rattle.contracts.specs.BelowLaws.{sum-on, sum-reaches, sum-under}
 
 module _ (list : List ℕ) where
@@ -32,6 +32,10 @@ module _ (list : List ℕ) where
         let sum = sum-under (countAt list) n 65535 (λ j h. omega (arith, count-under j)) in
         omega arith
 
+    -- of keys of less than 65,536 bytes
+    pub bodies-under : (size i : ℕ) → size < 65536 → size * contractsBefore list i ≤ 65535 * (65535 * 65535)
+    bodies-under size i few = let h : size ≤ 65535 = omega arith in mul-le-mul h (before-under i)
+
   -- no segment stands before the first
   pub none-before : contractsBefore list 0 ≡ 0
   unfolding contractsBefore
@@ -53,8 +57,8 @@ module _ (list : List ℕ) where
       (sum-reaches (countAt list) (segmentsOf list) i h)
 
   -- a key that ends within the file has all its bytes
-  pub whole-key : (at : ℕ) → at + keySize ≤ length list → length (keyFrom list at) ≡ keySize
+  pub whole-key : (size at : ℕ) → at + size ≤ length list → length (keyFrom size list at) ≡ size
   unfolding keyFrom
-  whole-key at h =
+  whole-key size at h =
       let left : length (drop at list) ≡ length list - at = length-drop at list in
-      length-take-le keySize (drop at list) (omega arith)
+      length-take-le size (drop at list) (omega arith)

@@ -7,6 +7,7 @@ use lib.ListN.{length}
 use Rattle.wire.specs.Number.{numberAt}
 use Rattle.contracts.specs.declared.check.Part.{Part}
 use Rattle.contracts.specs.declared.check.Part.the-variants.{Entry, Body}
+use Rattle.contracts.specs.declared.habit.Habit.{Habit}
 use Rattle.contracts.specs.Below.{allBelow}
 use Rattle.contracts.specs.File.{segmentsOf, entryAt}
 use Rattle.contracts.specs.SoundTests.{entrySound, bodySound}
@@ -18,10 +19,10 @@ pub record EntryPlace (list : List ℕ) (i place : ℕ) : Type 0 where
   pub near : place ≤ length list + 2
 
 -- a word of our own: the test of segment i, of its entry or of its body
-abbrev pub partSound : List ℕ → Part → ℕ → Bool
-partSound list Entry i = entrySound list i
-partSound list Body i = bodySound list i
+abbrev pub partSound : Habit → List ℕ → Part → ℕ → Bool
+partSound habit list Entry i = entrySound habit list i
+partSound habit list Body i = bodySound habit list i
 
 -- a word of our own: the test of every segment
-abbrev pub eachSound : List ℕ → Part → Bool
-eachSound list part = allBelow (segmentsOf list) (partSound list part)
+abbrev pub eachSound : Habit → List ℕ → Part → Bool
+eachSound habit list part = allBelow (segmentsOf list) (partSound habit list part)

@@ -6,6 +6,7 @@ pub mod Cases
 pub mod ContentsLaws
 pub mod File
 pub mod FileLaws
+pub mod Habits
 pub mod Halving
 pub mod HalvingLaws
 pub mod HeaderLaws

@@ -3,9 +3,11 @@ use Prim.Native.Nat.{ℕ}
 use mathlib.Core.List.{List}
 use mathlib.Core.Option.{Option}
 use lib.Dec.{eqb}
+use Rattle.contracts.specs.declared.habit.Habit.{Habit}
 use Rattle.contracts.specs.declared.key.Stands.{Stands}
 use Rattle.contracts.specs.Below.{firstBelow}
-use Rattle.contracts.specs.File.{segmentsOf, letterAt, countAt, listedKey}
+use Rattle.contracts.specs.File.{segmentsOf, letterAt, countAt, keyBy}
+use Rattle.contracts.specs.Habits.{contracts}
 use Rattle.contracts.specs.Halving.{Halved, halved}
 use Rattle.contracts.specs.Keys.{orderOf}
 
@@ -14,13 +16,13 @@ unfoldable pub segmentOf : List ℕ → ℕ → Option ℕ
 segmentOf list letter = firstBelow (segmentsOf list) (λ i. eqb (letterAt list i) letter)
 
 -- 01 "The contract list": how a key stands to key k of segment i
-abbrev pub standsTo : List ℕ → ℕ → List ℕ → ℕ → Stands
-standsTo list i key k = orderOf key (listedKey list i k)
+abbrev pub standsTo : Habit → List ℕ → ℕ → List ℕ → ℕ → Stands
+standsTo habit list i key k = orderOf key (keyBy habit list i k)
 
 -- M-102: a key is looked up in segment i by halving, whatever the bodies hold
-unfoldable pub lookup : List ℕ → ℕ → List ℕ → Halved
-lookup list i key = halved (standsTo list i key) (countAt list i)
+unfoldable pub lookup : Habit → List ℕ → ℕ → List ℕ → Halved
+lookup habit list i key = halved (standsTo habit list i key) (countAt list i)
 
--- M-102: the place found
+-- M-102: the place found in a contract list
 abbrev pub placeIn : List ℕ → ℕ → List ℕ → Option ℕ
-placeIn list i key = lookup list i key .place
+placeIn list i key = lookup contracts list i key .place

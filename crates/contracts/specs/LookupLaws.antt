@@ -9,19 +9,20 @@ use borrow.Author.Tests.{eqb-true, eqb-false}
 use lib.Dec.{eqb}
 use Rattle.laws.specs.Choice.{never}
 use Rattle.laws.specs.Refused.{codeNo, contractNo}
+use Rattle.contracts.specs.declared.habit.Habit.{Habit}
 use Rattle.contracts.specs.declared.lookup.Found.{Found}
 use Rattle.contracts.specs.declared.lookup.Found.the-variants.{At, Nowhere}
 use Rattle.contracts.specs.Answers.{foundNumbers, lookedUp}
 use Rattle.contracts.specs.AnswersLaws.{found-told}
 use Rattle.contracts.specs.BelowLaws.{first-passes, none-passes}
-use Rattle.contracts.specs.File.{segmentsOf, letterAt, countAt, listedKey}
+use Rattle.contracts.specs.File.{segmentsOf, letterAt, countAt, keyBy}
 use Rattle.contracts.specs.Halving.{digits}
 use Rattle.contracts.specs.HeaderLaws.{letters-apart}
 use Rattle.contracts.specs.HalvingLaws.{compared-few, found-matches, match-found}
 use Rattle.contracts.specs.Keys.{orderOf}
 use Rattle.contracts.specs.KeysLaws.{between, same-key, key-same}
-use Rattle.contracts.specs.Lookup.{segmentOf, standsTo, lookup, placeIn}
-use Rattle.contracts.specs.Sound.{Header, SoundList}
+use Rattle.contracts.specs.Lookup.{segmentOf, standsTo, lookup}
+use Rattle.contracts.specs.Sound.{HeaderBy, SoundBy}
 use Rattle.contracts.specs.SoundLaws.{keys-climb}
 
 -- a lookup that answers a place exactly where something is listed answers none exactly where nothing is
@@ -49,7 +50,7 @@ module _ (list : List ℕ) where
       (h .0, eqb-true (letterAt list i) letter (h .1))
 
   -- where the header is sound the segment with a letter is found, and it is the only one
-  pub segment-exact : Header list → (letter i : ℕ) → segmentOf list letter ≡ some i ↔ (i < segmentsOf list) × (letterAt list i ≡ letter)
+  pub segment-exact : {habit : Habit} → HeaderBy habit list → (letter i : ℕ) → segmentOf list letter ≡ some i ↔ (i < segmentsOf list) × (letterAt list i ≡ letter)
   unfolding segmentOf
   segment-exact h letter i = (segment-has letter i, (λ l. go l (segmentOf list letter) refl))
     where
@@ -61,39 +62,40 @@ module _ (list : List ℕ) where
           e ∙ ap some (letters-apart list h j i (k .0) (l .0) (k .1 ∙ sym (l .1)))
 
   -- 6 is given exactly when no segment has the letter
-  pub letter-refused : Header list → (letter : ℕ) (r : Found) → foundNumbers codeNo r ≡ lookedUp codeNo (segmentOf list letter)
+  pub letter-refused : {habit : Habit} → HeaderBy habit list → (letter : ℕ) (r : Found) → foundNumbers codeNo r ≡ lookedUp codeNo (segmentOf list letter)
       → foundNumbers codeNo r ≡ codeNo ∷ [] ↔ ((i : ℕ) → (i < segmentsOf list) × (letterAt list i ≡ letter) → ⊥)
   letter-refused h letter r e =
       refused-exact (segmentOf list letter) (λ i. (i < segmentsOf list) × (letterAt list i ≡ letter)) (segment-exact h letter)
       codeNo r e
 
-  module _ (i : ℕ) (key : List ℕ) where
-    -- M-102: at most the binary digits of the segment's count
-    pub lookup-steps : lookup list i key .compared ≤ digits (countAt list i)
-    unfolding lookup
-    lookup-steps = compared-few (standsTo list i key) (countAt list i)
+module _ (habit : Habit) (list : List ℕ) (i : ℕ) (key : List ℕ) where
+  -- M-102: at most the binary digits of the segment's count
+  pub lookup-steps : lookup habit list i key .compared ≤ digits (countAt list i)
+  unfolding lookup
+  lookup-steps = compared-few (standsTo habit list i key) (countAt list i)
 
-    -- a key that is found stands at its place, whatever the bodies hold
-    pub key-at-place : (k : ℕ) → placeIn list i key ≡ some k → (k < countAt list i) × (listedKey list i k ≡ key)
-    unfolding lookup
-    key-at-place k e =
-        let h = found-matches (standsTo list i key) (countAt list i) k e in
-        (h .0, sym (same-key key (listedKey list i k) (h .1)))
+  -- a key that is found stands at its place, whatever the bodies hold
+  pub key-at-place : (k : ℕ) → lookup habit list i key .place ≡ some k → (k < countAt list i) × (keyBy habit list i k ≡ key)
+  unfolding lookup
+  key-at-place k e =
+      let h = found-matches (standsTo habit list i key) (countAt list i) k e in
+      (h .0, sym (same-key key (keyBy habit list i k) (h .1)))
 
-    -- in a sound list a key is found exactly when it is listed, at its place
-    pub key-exact : SoundList list → i < segmentsOf list → (k : ℕ) → placeIn list i key ≡ some k ↔ (k < countAt list i) × (listedKey list i k ≡ key)
-    unfolding lookup
-    key-exact s l k = (
-      key-at-place k,
-      (λ h.
-          match-found (standsTo list i key) (countAt list i) k
-          (λ a b m n. between key (listedKey list i a) (listedKey list i b) (keys-climb list s i a b l m n))
-          (h .0) (ap (orderOf key) (h .1) ∙ key-same key)),
-    )
+module _ {habit : Habit} (list : List ℕ) (i : ℕ) (key : List ℕ) where
+  -- in a sound list a key is found exactly when it is listed, at its place
+  pub key-exact : SoundBy habit list → i < segmentsOf list → (k : ℕ) → lookup habit list i key .place ≡ some k ↔ (k < countAt list i) × (keyBy habit list i k ≡ key)
+  unfolding lookup
+  key-exact s l k = (
+    key-at-place habit list i key k,
+    (λ h.
+        match-found (standsTo habit list i key) (countAt list i) k
+        (λ a b m n. between key (keyBy habit list i a) (keyBy habit list i b) (keys-climb list s i a b l m n))
+        (h .0) (ap (orderOf key) (h .1) ∙ key-same key)),
+  )
 
-    -- 13 is given exactly when the key isn't listed
-    pub key-refused : SoundList list → i < segmentsOf list → (r : Found) → foundNumbers contractNo r ≡ lookedUp contractNo (placeIn list i key)
-        → foundNumbers contractNo r ≡ contractNo ∷ [] ↔ ((k : ℕ) → (k < countAt list i) × (listedKey list i k ≡ key) → ⊥)
-    key-refused s l r e =
-        refused-exact (placeIn list i key) (λ k. (k < countAt list i) × (listedKey list i k ≡ key)) (key-exact s l)
-        contractNo r e
+  -- 13 is given exactly when the key isn't listed
+  pub key-refused : SoundBy habit list → i < segmentsOf list → (r : Found) → foundNumbers contractNo r ≡ lookedUp contractNo (lookup habit list i key .place)
+      → foundNumbers contractNo r ≡ contractNo ∷ [] ↔ ((k : ℕ) → (k < countAt list i) × (keyBy habit list i k ≡ key) → ⊥)
+  key-refused s l r e =
+      refused-exact (lookup habit list i key .place) (λ k. (k < countAt list i) × (keyBy habit list i k ≡ key)) (key-exact s l)
+      contractNo r e

@@ -1,21 +1,19 @@
--- 01 "The contract list": what a sound list is, rule by rule.
+-- 01 "The contract list": what a sound house file is, rule by rule.
 use Prim.Native.Nat.{ℕ, _+_, _*_, _≤_, _<_}
 use mathlib.Core.Path.{_≡_}
 use mathlib.Core.Logic.{_⊎_}
 use mathlib.Core.List.{List}
 use lib.ListN.{length, getD}
 use Rattle.wire.specs.Bytes.{lowestByte, highestByte}
+use Rattle.contracts.specs.declared.habit.Habit.{Habit}
 use Rattle.contracts.specs.declared.key.Stands.the-variants.{Below}
-use Rattle.contracts.specs.File.{segmentsOf, entryAt, letterAt, zeroAt, countAt, offsetAt, keySize, listedKey}
+use Rattle.contracts.specs.File.{segmentsOf, entryAt, letterAt, zeroAt, countAt, offsetAt, keyBy}
+use Rattle.contracts.specs.Habits.{contracts}
 use Rattle.contracts.specs.Keys.{orderOf}
 
 -- 01 "The contract list": 1 or 2 segments
 abbrev pub mostSegments : ℕ
 mostSegments = 2
-
--- 01 "The contract list": a count of 1 to 4,096
-abbrev pub mostContracts : ℕ
-mostContracts = 4096
 
 -- 01 "The contract list": letters are D or T
 abbrev pub letterD : ℕ
@@ -27,18 +25,23 @@ letterT = 84
 
 -- 01, the table's row 16: the short check of the calls after start: the rules for all that stands before the bodies, and for
 -- the size
-pub record Header (list : List ℕ) : Type 0 where
+pub record HeaderBy (habit : Habit) (list : List ℕ) : Type 0 where
   pub some-segments : 1 ≤ segmentsOf list
   pub few-segments : segmentsOf list ≤ mostSegments
   pub letters : (i : ℕ) → i < segmentsOf list → (letterAt list i ≡ letterD) ⊎ (letterAt list i ≡ letterT)
   pub letters-ascend : (i : ℕ) → i + 1 < segmentsOf list → letterAt list i < letterAt list (i + 1)
   pub zero-bytes : (i : ℕ) → i < segmentsOf list → zeroAt list i ≡ 0
-  pub some-contracts : (i : ℕ) → i < segmentsOf list → 1 ≤ countAt list i
-  pub few-contracts : (i : ℕ) → i < segmentsOf list → countAt list i ≤ mostContracts
+  -- how many keys a segment may have
+  pub enough-keys : (i : ℕ) → i < segmentsOf list → habit .fewest ≤ countAt list i
+  pub few-keys : (i : ℕ) → i < segmentsOf list → countAt list i ≤ habit .most
   -- contents first, then the bodies without holes, and the file ends with the last
   pub first-body : offsetAt list 0 ≡ entryAt (segmentsOf list)
-  pub next-body : (i : ℕ) → i + 1 < segmentsOf list → offsetAt list (i + 1) ≡ offsetAt list i + keySize * countAt list i
-  pub file-ends : (i : ℕ) → i + 1 ≡ segmentsOf list → length list ≡ offsetAt list i + keySize * countAt list i
+  pub next-body : (i : ℕ) → i + 1 < segmentsOf list → offsetAt list (i + 1) ≡ offsetAt list i + habit .key * countAt list i
+  pub file-ends : (i : ℕ) → i + 1 ≡ segmentsOf list → length list ≡ offsetAt list i + habit .key * countAt list i
+
+-- 01, the table's row 16: the short check of a contract list
+abbrev pub Header : List ℕ → Type 0
+Header = HeaderBy contracts
 
 -- 01, the table's row 16: "after start only its header, counts, offsets and size are looked at": two lists that are the same in
 -- these: of one size, and with the same bytes before the bodies
@@ -47,8 +50,12 @@ pub record SameContents (list other : List ℕ) : Type 0 where
   pub contents : (j : ℕ) → j < entryAt (segmentsOf list) → getD list j 0 ≡ getD other j 0
 
 -- 01, the table's row 16: the full check of start: the keys' bytes, and their order within a segment
-pub record SoundList (list : List ℕ) : Type 0 where
-  pub header : Header list
-  pub key-bytes : (i k b : ℕ) → i < segmentsOf list → k < countAt list i → b < keySize
-      → (lowestByte ≤ getD (listedKey list i k) b 0) × (getD (listedKey list i k) b 0 ≤ highestByte)
-  pub keys-ascend : (i k : ℕ) → i < segmentsOf list → k + 1 < countAt list i → orderOf (listedKey list i k) (listedKey list i (k + 1)) ≡ Below
+pub record SoundBy (habit : Habit) (list : List ℕ) : Type 0 where
+  pub header : HeaderBy habit list
+  pub key-bytes : (i k b : ℕ) → i < segmentsOf list → k < countAt list i → b < habit .key
+      → (lowestByte ≤ getD (keyBy habit list i k) b 0) × (getD (keyBy habit list i k) b 0 ≤ highestByte)
+  pub keys-ascend : (i k : ℕ) → i < segmentsOf list → k + 1 < countAt list i → orderOf (keyBy habit list i k) (keyBy habit list i (k + 1)) ≡ Below
+
+-- 01, the table's row 16: the full check of a contract list
+abbrev pub SoundList : List ℕ → Type 0
+SoundList = SoundBy contracts

@@ -1,15 +1,14 @@
 ghost use mathlib.Core.Path.{_≡_};
 ghost use Prim.Native.Nat.{_<_};
-ghost use Rattle.contracts.specs.File.{countAt, listedKey};
+ghost use Rattle.contracts.specs.File.{countAt, keyBy};
 ghost use Rattle.contracts.specs.Inner.{partSound, eachSound};
-ghost use Rattle.contracts.specs.SoundTests.{within, isLetter, letterAscends, bodyAt, entrySound, headerSound, isBelow, keyAscends, keySound, bodySound, sound};
+ghost use Rattle.contracts.specs.SoundTests.{within, isLetter, letterAscends, bodyAt, entrySound, headerSoundBy, isBelow, keyAscends, keySound, bodySound, soundBy};
+use crate::habit::Habit;
 use crate::header;
 use crate::key;
 use crate::key::Stands;
 
 const MOST_SEGMENTS: usize = 2;
-
-const MOST_CONTRACTS: usize = 4096;
 
 // What is looked at of a segment: its entry in the contents, or its body.
 pub enum Part {
@@ -41,29 +40,33 @@ fn letter_ascends(list: &[u8], segment: usize) -> bool
 }
 
 // Where the body of a segment begins, with no hole before it.
-fn body_at(list: &[u8], segment: usize) -> usize
-    ensures { λ r. ⌜ r ≡ bodyAt (now (list .entry)) segment ⌝ }
+fn body_at(list: &[u8], habit: Habit, segment: usize) -> usize
+    ensures { λ r. ⌜ r ≡ bodyAt habit (now (list .entry)) segment ⌝ }
 {
     header::NUMBER
         + header::ENTRY * header::segments(list)
-        + key::KEY * header::contracts_before(list, segment)
+        + (habit.key as usize) * header::contracts_before(list, segment)
 }
 
-fn entry_sound(list: &[u8], segment: usize) -> bool
-    ensures { λ r. ⌜ r ≡ entrySound (now (list .entry)) segment ⌝ }
+fn entry_sound(list: &[u8], habit: Habit, segment: usize) -> bool
+    ensures { λ r. ⌜ r ≡ entrySound habit (now (list .entry)) segment ⌝ }
 {
     is_letter(header::letter_at(list, segment))
         & letter_ascends(list, segment)
         & (header::zero_at(list, segment) == 0)
-        & within(1, MOST_CONTRACTS, header::count_at(list, segment))
-        & (header::offset_at(list, segment) == body_at(list, segment))
+        & within(
+            habit.fewest as usize,
+            habit.most as usize,
+            header::count_at(list, segment),
+        )
+        & (header::offset_at(list, segment) == body_at(list, habit, segment))
 }
 
-fn key_of(list: &[u8], segment: usize, place: usize) -> &[u8]
+fn key_of(list: &[u8], habit: Habit, segment: usize, place: usize) -> &[u8]
     requires { ⌜ place < countAt (now list) segment ⌝ }
-    ensures { λ r. ⌜ now r ≡ listedKey (now (list .entry)) segment place ⌝ }
+    ensures { λ r. ⌜ now r ≡ keyBy habit (now (list .entry)) segment place ⌝ }
 {
-    key::key_from(list, header::offset_at(list, segment) + key::KEY * place)
+    key::key_in(list, habit, header::offset_at(list, segment), place)
 }
 
 fn is_below(order: Stands) -> bool
@@ -76,33 +79,34 @@ fn is_below(order: Stands) -> bool
     }
 }
 
-fn key_ascends(list: &[u8], segment: usize, place: usize) -> bool
+fn key_ascends(list: &[u8], habit: Habit, segment: usize, place: usize) -> bool
     requires { ⌜ place < countAt (now list) segment ⌝ }
-    ensures { λ r. ⌜ r ≡ keyAscends (now (list .entry)) segment place ⌝ }
+    ensures { λ r. ⌜ r ≡ keyAscends habit (now (list .entry)) segment place ⌝ }
 {
     if place == 0 {
         return true;
     }
     is_below(key::order_of(
-        key_of(list, segment, place - 1),
-        key_of(list, segment, place),
+        key_of(list, habit, segment, place - 1),
+        key_of(list, habit, segment, place),
     ))
 }
 
-fn key_sound(list: &[u8], segment: usize, place: usize) -> bool
+fn key_sound(list: &[u8], habit: Habit, segment: usize, place: usize) -> bool
     requires { ⌜ place < countAt (now list) segment ⌝ }
-    ensures { λ r. ⌜ r ≡ keySound (now (list .entry)) segment place ⌝ }
+    ensures { λ r. ⌜ r ≡ keySound habit (now (list .entry)) segment place ⌝ }
 {
-    wire::all_printable(key_of(list, segment, place)) & key_ascends(list, segment, place)
+    wire::all_printable(key_of(list, habit, segment, place))
+        & key_ascends(list, habit, segment, place)
 }
 
-fn body_sound(list: &[u8], segment: usize) -> bool
-    ensures { λ r. ⌜ r ≡ bodySound (now (list .entry)) segment ⌝ }
+fn body_sound(list: &[u8], habit: Habit, segment: usize) -> bool
+    ensures { λ r. ⌜ r ≡ bodySound habit (now (list .entry)) segment ⌝ }
 {
     let count = header::count_at(list, segment);
     let mut place = 0;
     while place < count {
-        if !key_sound(list, segment, place) {
+        if !key_sound(list, habit, segment, place) {
             return false;
         }
         place += 1;
@@ -110,22 +114,22 @@ fn body_sound(list: &[u8], segment: usize) -> bool
     true
 }
 
-fn part_sound(list: &[u8], segment: usize, part: Part) -> bool
-    ensures { λ r. ⌜ r ≡ partSound (now (list .entry)) part segment ⌝ }
+fn part_sound(list: &[u8], habit: Habit, segment: usize, part: Part) -> bool
+    ensures { λ r. ⌜ r ≡ partSound habit (now (list .entry)) part segment ⌝ }
 {
     match part {
-        Part::Entry => entry_sound(list, segment),
-        Part::Body => body_sound(list, segment),
+        Part::Entry => entry_sound(list, habit, segment),
+        Part::Body => body_sound(list, habit, segment),
     }
 }
 
-fn each_sound(list: &[u8], part: Part) -> bool
-    ensures { λ r. ⌜ r ≡ eachSound (now (list .entry)) part ⌝ }
+fn each_sound(list: &[u8], habit: Habit, part: Part) -> bool
+    ensures { λ r. ⌜ r ≡ eachSound habit (now (list .entry)) part ⌝ }
 {
     let listed = header::segments(list);
     let mut i = 0;
     while i < listed {
-        if !part_sound(list, i, part) {
+        if !part_sound(list, habit, i, part) {
             return false;
         }
         i += 1;
@@ -134,20 +138,20 @@ fn each_sound(list: &[u8], part: Part) -> bool
 }
 
 // The check of the calls after start: all that stands before the bodies, and the size.
-pub fn header_sound(list: &[u8]) -> bool
-    ensures { λ r. ⌜ r ≡ headerSound (now (list .entry)) ⌝ }
+pub fn header_sound(list: &[u8], habit: Habit) -> bool
+    ensures { λ r. ⌜ r ≡ headerSoundBy habit (now (list .entry)) ⌝ }
 {
     let listed = header::segments(list);
     if within(1, MOST_SEGMENTS, listed) {
-        each_sound(list, Part::Entry) & (list.len() == body_at(list, listed))
+        each_sound(list, habit, Part::Entry) & (list.len() == body_at(list, habit, listed))
     } else {
         false
     }
 }
 
 // The check of start: the bodies too.
-pub fn sound(list: &[u8]) -> bool
-    ensures { λ r. ⌜ r ≡ sound (now (list .entry)) ⌝ }
+pub fn sound(list: &[u8], habit: Habit) -> bool
+    ensures { λ r. ⌜ r ≡ soundBy habit (now (list .entry)) ⌝ }
 {
-    header_sound(list) && each_sound(list, Part::Body)
+    header_sound(list, habit) && each_sound(list, habit, Part::Body)
 }

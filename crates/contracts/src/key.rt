@@ -1,11 +1,9 @@
 ghost use mathlib.Core.Path.{_≡_};
-ghost use Prim.Native.Nat.{_≤_};
+ghost use Prim.Native.Nat.{_+_, _*_, _^_, _≤_, _<_};
 ghost use lib.ListN.{length, drop};
 ghost use Rattle.contracts.specs.File.{keyFrom};
 ghost use Rattle.contracts.specs.Keys.{orderOf};
-
-// The bytes of a key.
-pub(crate) const KEY: usize = 39;
+use crate::habit::Habit;
 
 // How a key stands to another.
 pub enum Stands {
@@ -58,16 +56,25 @@ pub(crate) fn order_of(a: &[u8], b: &[u8]) -> Stands
     order_from(a, b, i)
 }
 
-// The key that begins at a place of the list: what stands past the end is left out.
-pub(crate) fn key_from(list: &[u8], at: usize) -> &[u8]
-    ensures { λ r. ⌜ now r ≡ keyFrom (now (list .entry)) at ⌝ }
+// The key of so many bytes that begins at a place of the list: what stands past the end is left out.
+fn key_from(list: &[u8], size: usize, at: usize) -> &[u8]
+    ensures { λ r. ⌜ now r ≡ keyFrom size (now (list .entry)) at ⌝ }
 {
     if list.len() <= at {
         return &list[..0];
     }
-    if KEY <= list.len() - at {
-        &list[at..at + KEY]
+    if size <= list.len() - at {
+        &list[at..at + size]
     } else {
         &list[at..]
     }
+}
+
+// The key that so many keys of a body stand before.
+pub(crate) fn key_in(list: &[u8], habit: Habit, body: usize, place: usize) -> &[u8]
+    requires { ⌜ (body < 2 ^ 32) × (place < 65536) ⌝ }
+    ensures { λ r. ⌜ now r ≡ keyFrom (habit .key) (now (list .entry)) (body + habit .key * place) ⌝ }
+{
+    let size = habit.key as usize;
+    key_from(list, size, body + size * place)
 }

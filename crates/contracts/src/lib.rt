@@ -1,5 +1,6 @@
-// The contract list: checking the file, reading its header, and finding a segment's letter and a contract's key.
+// The house files, which are the contract list and the spread list: checking the file, reading its header, and finding a segment's letter and a contract's key.
 mod check;
+mod habit;
 mod header;
 mod key;
 mod lookup;
@@ -7,6 +8,9 @@ mod lookup;
 pub use check::header_sound;
 pub use check::is_letter;
 pub use check::sound;
+pub use habit::CONTRACTS;
+pub use habit::Habit;
+pub use habit::PAIRS;
 pub use header::all_contracts;
 pub use header::contracts_before;
 pub use header::count_at;

@@ -1,7 +1,8 @@
 ghost use mathlib.Core.Path.{_≡_};
 ghost use Rattle.laws.specs.Refused.{codeNo, contractNo};
 ghost use Rattle.contracts.specs.Answers.{foundNumbers, lookedUp};
-ghost use Rattle.contracts.specs.Lookup.{segmentOf, placeIn};
+ghost use Rattle.contracts.specs.Lookup.{segmentOf, lookup};
+use crate::habit::Habit;
 use crate::header;
 use crate::key;
 use crate::key::Stands;
@@ -29,8 +30,8 @@ pub fn segment_of(list: &[u8], letter: u8) -> Found
 }
 
 // The place of a key in a segment, by halving: `left` keys are left, the first of which is key `low`.
-pub fn place_of(list: &[u8], segment: usize, wanted: &[u8]) -> Found
-    ensures { λ r. ⌜ foundNumbers contractNo r ≡ lookedUp contractNo (placeIn (now (list .entry)) segment (now (wanted .entry))) ⌝ }
+pub fn place_of(list: &[u8], habit: Habit, segment: usize, wanted: &[u8]) -> Found
+    ensures { λ r. ⌜ foundNumbers contractNo r ≡ lookedUp contractNo (lookup habit (now (list .entry)) segment (now (wanted .entry)) .place) ⌝ }
 {
     let offset = header::offset_at(list, segment);
     let mut low = 0;
@@ -38,7 +39,7 @@ pub fn place_of(list: &[u8], segment: usize, wanted: &[u8]) -> Found
     while 0 < left {
         let below = (left - 1) / 2;
         let place = low + below;
-        match key::order_of(wanted, key::key_from(list, offset + key::KEY * place)) {
+        match key::order_of(wanted, key::key_in(list, habit, offset, place)) {
             Stands::Same => {
                 return Found::At(place);
             }

@@ -14,10 +14,10 @@ use Rattle.contracts.proofs.check.body_sound.Statement.{statement}
 use Rattle.contracts.proofs.check.body_sound.Tie as tie
 
 abbrev Inv-loop : tie.InvT-loop
-Inv-loop list segment count place₀ place = (place ≤ count) × (allBelow place (keySound list segment) ≡ true)
+Inv-loop list habit segment count place₀ place = (place ≤ count) × (allBelow place (keySound habit list segment) ≡ true)
 
 abbrev μ-loop : tie.MeasureT-loop
-μ-loop list segment count place₀ place = count - place
+μ-loop list habit segment count place₀ place = count - place
 
 loop-holds : tie.Need-loop-holds Inv-loop μ-loop
 loop-holds c = (omega arith, refl)
@@ -32,7 +32,7 @@ returns c =
     let a = at .before .before .before .args in
     let inside : at .loop .place < countAt (now (a .list)) (a .segment) = omega arith in
     let fails = not-true (c .before .key-sound .result) (c .if1 .taken) in
-    sym (one-fails (keySound (now (a .list)) (a .segment)) (countAt (now (a .list)) (a .segment)) (at .loop .place) inside (sym (c .before .key-sound .ensures) ∙ fails))
+    sym (one-fails (keySound (a .habit) (now (a .list)) (a .segment)) (countAt (now (a .list)) (a .segment)) (at .loop .place) inside (sym (c .before .key-sound .ensures) ∙ fails))
 
 add-place : tie.Need-add-place Inv-loop μ-loop
 add-place c = omega arith
@@ -45,7 +45,7 @@ loop-again c =
     let at = c .before .before .before in
     let a = at .before .before .before .args in
     let passes = not-false (c .before .key-sound .result) (c .if1 .left) in
-    (omega arith, pass-on (keySound (now (a .list)) (a .segment)) (at .loop .place) (at .loop .inv .1) (sym (c .before .key-sound .ensures) ∙ passes))
+    (omega arith, pass-on (keySound (a .habit) (now (a .list)) (a .segment)) (at .loop .place) (at .loop .inv .1) (sym (c .before .key-sound .ensures) ∙ passes))
 
 returns-2 : tie.Need-returns-2 Inv-loop μ-loop
 unfolding bodySound
@@ -53,7 +53,7 @@ returns-2 c =
     let at = c .before in
     let a = at .before .before .before .args in
     let all : at .loop .place ≡ countAt (now (a .list)) (a .segment) = omega arith in
-    sym (at .loop .inv .1) ∙ ap (λ (k : ℕ). allBelow k (keySound (now (a .list)) (a .segment))) all
+    sym (at .loop .inv .1) ∙ ap (λ (k : ℕ). allBelow k (keySound (a .habit) (now (a .list)) (a .segment))) all
 
 pub body-sound-spec : {M : Type 1} → statement M
 body-sound-spec =

@@ -14,10 +14,10 @@ use Rattle.contracts.proofs.check.each_sound.Statement.{statement}
 use Rattle.contracts.proofs.check.each_sound.Tie as tie
 
 abbrev Inv-loop : tie.InvT-loop
-Inv-loop list part listed i₀ i = (i ≤ listed) × (allBelow i (partSound list part) ≡ true)
+Inv-loop list habit part listed i₀ i = (i ≤ listed) × (allBelow i (partSound habit list part) ≡ true)
 
 abbrev μ-loop : tie.MeasureT-loop
-μ-loop list part listed i₀ i = listed - i
+μ-loop list habit part listed i₀ i = listed - i
 
 loop-holds : tie.Need-loop-holds Inv-loop μ-loop
 loop-holds c = (omega arith, refl)
@@ -28,7 +28,7 @@ returns c =
     let a = at .before .before .before .args in
     let inside : at .loop .i < segmentsOf (now (a .list)) = omega arith in
     let fails = not-true (c .before .part-sound .result) (c .if1 .taken) in
-    sym (one-fails (partSound (now (a .list)) (a .part)) (segmentsOf (now (a .list))) (at .loop .i) inside (sym (c .before .part-sound .ensures) ∙ fails))
+    sym (one-fails (partSound (a .habit) (now (a .list)) (a .part)) (segmentsOf (now (a .list))) (at .loop .i) inside (sym (c .before .part-sound .ensures) ∙ fails))
 
 add-i : tie.Need-add-i Inv-loop μ-loop
 add-i c = omega arith
@@ -41,14 +41,14 @@ loop-again c =
     let at = c .before .before .before in
     let a = at .before .before .before .args in
     let passes = not-false (c .before .part-sound .result) (c .if1 .left) in
-    (omega arith, pass-on (partSound (now (a .list)) (a .part)) (at .loop .i) (at .loop .inv .1) (sym (c .before .part-sound .ensures) ∙ passes))
+    (omega arith, pass-on (partSound (a .habit) (now (a .list)) (a .part)) (at .loop .i) (at .loop .inv .1) (sym (c .before .part-sound .ensures) ∙ passes))
 
 returns-2 : tie.Need-returns-2 Inv-loop μ-loop
 returns-2 c =
     let at = c .before in
     let a = at .before .before .before .args in
     let all : at .loop .i ≡ segmentsOf (now (a .list)) = omega arith in
-    sym (at .loop .inv .1) ∙ ap (λ (k : ℕ). allBelow k (partSound (now (a .list)) (a .part))) all
+    sym (at .loop .inv .1) ∙ ap (λ (k : ℕ). allBelow k (partSound (a .habit) (now (a .list)) (a .part))) all
 
 pub each-sound-spec : {M : Type 1} → statement M
 each-sound-spec =

@@ -10,4 +10,4 @@ returns c = (cc)
 
 pub entry-sound-spec : {M : Type 1} → statement M
 entry-sound-spec =
-    tie.close (tie.spec (search needs) (search needs) (search needs) (search needs) (search needs) (search needs) (search needs) (search needs) returns)
+    tie.close (tie.spec (search needs) (search needs) (search needs) (search needs) (search needs) (search needs) (search needs) (search needs) (search needs) (search needs) returns)

@@ -7,7 +7,7 @@ use lib.ListN.{length}
 use denote.Ref.{now}
 use Rattle.contracts.specs.File.{segmentsOf}
 use Rattle.contracts.specs.Sound.{mostSegments}
-use Rattle.contracts.specs.SoundTests.{within, bodyAt, headerSound}
+use Rattle.contracts.specs.SoundTests.{within, bodyAt, headerSoundBy}
 use Rattle.contracts.proofs.check.header_sound.Statement.{statement}
 use Rattle.contracts.proofs.check.header_sound.Tie as tie
 
@@ -16,16 +16,17 @@ tested : (c : tie.After-within) → within 1 mostSegments (segmentsOf (now (c .b
 tested c = ap (within 1 mostSegments) (sym (c .before .segments .ensures)) ∙ sym (c .within .ensures)
 
 returns : tie.Need-returns
-unfolding headerSound
+unfolding headerSoundBy
 returns c =
     let d = c .before .before .before in
-    let l = now (d .before .before .before .args .list) in
+    let a = d .before .before .before .args in
+    let l = now (a .list) in
     let few : within 1 mostSegments (segmentsOf l) ≡ true = tested d ∙ c .before .before .if1 .taken in
     rw few
-    (ap₂ _&&_ (c .before .each-sound .ensures) (ap (eqb (length l)) (c .body-at .ensures ∙ ap (bodyAt l) (d .before .segments .ensures))))
+    (ap₂ _&&_ (c .before .each-sound .ensures) (ap (eqb (length l)) (c .body-at .ensures ∙ ap (bodyAt (a .habit) l) (d .before .segments .ensures))))
 
 returns-2 : tie.Need-returns-2
-unfolding headerSound
+unfolding headerSoundBy
 returns-2 c =
     let l = now (c .before .before .before .before .args .list) in
     let many : within 1 mostSegments (segmentsOf l) ≡ false = tested (c .before) ∙ c .if1 .left in

@@ -4,7 +4,7 @@ use mathlib.Core.Path.{_≡_, ap₂, sym, ap, _∙_}
 use native.Mathlib.Omega.{arith}
 use borrow.Author.Needs.{needs}
 use denote.Ref.{now}
-use Rattle.contracts.specs.File.{listedKey}
+use Rattle.contracts.specs.File.{keyBy}
 use Rattle.contracts.specs.Keys.{orderOf}
 use Rattle.contracts.specs.SoundTests.{isBelow, keyAscends}
 use Rattle.contracts.proofs.check.key_ascends.Statement.{statement}
@@ -16,12 +16,12 @@ returns c = rw (c .if1 .taken)
 returns-2 : tie.Need-returns-2
 returns-2 c =
     let a = c .before .before .before .before .before .before .args in
-    let key = listedKey (now (a .list)) (a .segment) in
+    let key = keyBy (a .habit) (now (a .list)) (a .segment) in
     let later : a .place ≡ suc (a .place - 1) = omega arith in
     c .is-below .ensures
     ∙ ap isBelow (c .before .order-of .ensures
     ∙ ap₂ orderOf (c .before .before .before .key-of .ensures) (c .before .before .key-of2 .ensures ∙ ap key later))
-    ∙ ap (keyAscends (now (a .list)) (a .segment)) (sym later)
+    ∙ ap (keyAscends (a .habit) (now (a .list)) (a .segment)) (sym later)
 
 pub key-ascends-spec : {M : Type 1} → statement M
 key-ascends-spec =

@@ -5,7 +5,7 @@ use native.Mathlib.Nat.{add-sub-cancel-left}
 use native.Mathlib.Omega.{arith}
 use borrow.Author.Needs.{needs}
 use lib.ListN.{length, drop, drop-of-length-le, length-drop}
-use lib.Seq.{take-all}
+use lib.Seq.{take-nil, take-all}
 use denote.Ref.{now}
 use Rattle.contracts.specs.File.{keyFrom}
 use Rattle.contracts.proofs.key.key_from.Statement.{statement}
@@ -13,11 +13,13 @@ use Rattle.contracts.proofs.key.key_from.Tie as tie
 
 returns : tie.Need-returns
 unfolding keyFrom
-returns c = rw (drop-of-length-le (now (c .before .before .args .list)) (c .before .if1 .taken))
+returns c =
+    let a = c .before .before .args in
+    rw (drop-of-length-le (now (a .list)) (c .before .if1 .taken)) (sym (take-nil (a .size)))
 
 returns-2 : tie.Need-returns-2
 unfolding keyFrom
-returns-2 c = rw (add-sub-cancel-left (c .before .before .before .args .at) 39)
+returns-2 c = rw (add-sub-cancel-left (c .before .before .before .args .at) (c .before .before .before .args .size))
 
 returns-3 : tie.Need-returns-3
 unfolding keyFrom
@@ -25,7 +27,7 @@ returns-3 c =
     let a = c .before .before .before .args in
     let l = now (a .list) in
     let left : length (drop (a .at) l) ≡ length l - a .at = length-drop (a .at) l in
-    take-all (length l - a .at) (drop (a .at) l) (omega arith) ∙ sym (take-all 39 (drop (a .at) l) (omega arith))
+    take-all (length l - a .at) (drop (a .at) l) (omega arith) ∙ sym (take-all (a .size) (drop (a .at) l) (omega arith))
 
 pub key-from-spec : {M : Type 1} → statement M
 key-from-spec =

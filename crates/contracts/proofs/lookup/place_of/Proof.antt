@@ -14,25 +14,25 @@ use Rattle.contracts.specs.FileLaws.{count-under, offset-under}
 use Rattle.contracts.specs.Halving.{Halved, halvedFrom}
 use Rattle.contracts.specs.HalvingLaws.{none-left, match-stops, goes-below, goes-above}
 use Rattle.contracts.specs.Keys.{orderOf}
-use Rattle.contracts.specs.Lookup.{lookup, standsTo, placeIn}
+use Rattle.contracts.specs.Lookup.{lookup, standsTo}
 use Rattle.contracts.proofs.lookup.place_of.Statement.{statement}
 use Rattle.contracts.proofs.lookup.place_of.Tie as tie
 
 abbrev Inv-loop : tie.InvT-loop
-Inv-loop list segment wanted offset low₀ left₀ low left = (low + left ≤ countAt list segment)
-    × (placeIn list segment wanted ≡ halvedFrom (standsTo list segment wanted) low left .place)
+Inv-loop list habit segment wanted offset low₀ left₀ low left = (low + left ≤ countAt list segment)
+    × (lookup habit list segment wanted .place ≡ halvedFrom (standsTo habit list segment wanted) low left .place)
 
 abbrev μ-loop : tie.MeasureT-loop
-μ-loop list segment wanted offset low₀ left₀ low left = left
+μ-loop list habit segment wanted offset low₀ left₀ low left = left
 
--- in a turn: no place behind the keys left overflows
+-- in a turn: the keys left are among less than 65,536, and their body begins below 2 ^ 32
 room : (c : tie.In-loop Inv-loop μ-loop)
-    → c .before .before .before .offset-at .result + 39 * (c .before .loop .low + c .before .loop .left) < 2 ^ 64
+    → (c .before .before .before .offset-at .result < 2 ^ 32) × (c .before .loop .low + c .before .loop .left < 65536)
 room c =
     let start = c .before .before .before .before .before .before in
     let l = now (start .args .list) in
     let byte : (j : ℕ) → getD l j 0 < 256 = λ j. c .before .before .before .before .before .shared-slice-known .given j .fits in
-    omega (arith, count-under l byte (start .args .segment), offset-under l byte (start .args .segment))
+    (omega (arith, offset-under l byte (start .args .segment)), omega (arith, count-under l byte (start .args .segment)))
 
 -- the key that is compared
 abbrev middle : tie.After-order-of Inv-loop μ-loop → ℕ
@@ -42,21 +42,22 @@ middle c = c .before .before .before .loop .low + (c .before .before .before .lo
 abbrev sought : tie.After-order-of Inv-loop μ-loop → ℕ → Stands
 sought c =
     let a = c .before .before .before .before .before .before .before .before .args in
-    standsTo (now (a .list)) (a .segment) (now (a .wanted))
+    standsTo (a .habit) (now (a .list)) (a .segment) (now (a .wanted))
 
 stands : (c : tie.After-order-of Inv-loop μ-loop) → sought c (middle c) ≡ c .order-of .result
 stands c =
     let a = c .before .before .before .before .before .before .before .before .args in
-    let key : keyFrom (now (a .list)) (offsetAt (now (a .list)) (a .segment) + 39 * middle c) ≡ now (c .before .key-from .result) =
-    ap (λ (o : ℕ). keyFrom (now (a .list)) (o + 39 * middle c)) (sym (c .before .before .before .before .before .offset-at .ensures))
-    ∙ sym (c .before .key-from .ensures) in
+    let size = a .habit .key in
+    let key : keyFrom size (now (a .list)) (offsetAt (now (a .list)) (a .segment) + size * middle c) ≡ now (c .before .key-in .result) =
+    ap (λ (o : ℕ). keyFrom size (now (a .list)) (o + size * middle c)) (sym (c .before .before .before .before .before .offset-at .ensures))
+    ∙ sym (c .before .key-in .ensures) in
     ap (orderOf (now (a .wanted))) key ∙ sym (c .order-of .ensures)
 
 loop-holds : tie.Need-loop-holds Inv-loop μ-loop
 unfolding lookup
 loop-holds c =
     let a = c .before .before .before .before .args in
-    (omega arith, ap (λ (n : ℕ). halvedFrom (standsTo (now (a .list)) (a .segment) (now (a .wanted))) 0 n .place) (sym (c .count-at .ensures)))
+    (omega arith, ap (λ (n : ℕ). halvedFrom (standsTo (a .habit) (now (a .list)) (a .segment) (now (a .wanted))) 0 n .place) (sym (c .count-at .ensures)))
 
 sub-below : tie.Need-sub-below Inv-loop μ-loop
 sub-below c = omega arith
@@ -64,11 +65,8 @@ sub-below c = omega arith
 add-place : tie.Need-add-place Inv-loop μ-loop
 add-place c = omega (arith, room c)
 
-mul-key-from : tie.Need-mul-key-from Inv-loop μ-loop
-mul-key-from c = omega (arith, room c)
-
-add-key-from : tie.Need-add-key-from Inv-loop μ-loop
-add-key-from c = omega (arith, room c)
+key-in-requires : tie.Need-key-in-requires Inv-loop μ-loop
+key-in-requires c κs = (room c .0, omega (arith, room c .1))
 
 returns : tie.Need-returns Inv-loop μ-loop
 returns c =
@@ -110,10 +108,10 @@ returns-2 : tie.Need-returns-2 Inv-loop μ-loop
 returns-2 c =
     let a = c .before .before .before .before .before .before .args in
     let at = c .before .loop in
-    let s = standsTo (now (a .list)) (a .segment) (now (a .wanted)) in
+    let s = standsTo (a .habit) (now (a .list)) (a .segment) (now (a .wanted)) in
     let none-left-over : at .left ≡ 0 = omega arith in
     ap (lookedUp contractNo) (sym (at .inv .1 ∙ ap (λ (n : ℕ). halvedFrom s (at .low) n .place) none-left-over ∙ ap (λ (h : Halved). h .place) (none-left s 0 (at .low))))
 
 pub place-of-spec : {M : Type 1} → statement M
 place-of-spec =
-    tie.close (tie.spec Inv-loop μ-loop (search needs) (search needs) loop-holds sub-below add-place mul-key-from add-key-from (search needs) (search needs) (search needs) returns (search needs) loop-less loop-again (search needs) add-low sub-left sub-left-2 loop-less-2 loop-again-2 returns-2)
+    tie.close (tie.spec Inv-loop μ-loop (search needs) (search needs) loop-holds sub-below add-place key-in-requires (search needs) (search needs) returns (search needs) loop-less loop-again (search needs) add-low sub-left sub-left-2 loop-less-2 loop-again-2 returns-2)

@@ -1,0 +1,20 @@
+// The habit of a house file: the bytes of a key, and how few and how many keys a segment may have.
+pub struct Habit {
+    pub key: u16,
+    pub fewest: u16,
+    pub most: u16,
+}
+
+// The contract list.
+pub const CONTRACTS: Habit = Habit {
+    key: 39,
+    fewest: 1,
+    most: 4096,
+};
+
+// The spread list: a pair is two contracts' keys.
+pub const PAIRS: Habit = Habit {
+    key: 78,
+    fewest: 0,
+    most: 1024,
+};

@@ -4,6 +4,7 @@ use mathlib.Core.Path.{_≡_, refl, sym, ap, subst, _∙_}
 use mathlib.Core.Bool.{true}
 use mathlib.Core.List.{List}
 use mathlib.Core.Option.{Option, none, some}
+use Rattle.contracts.specs.Habits.{contracts}
 use Rattle.contracts.specs.Lookup.{segmentOf}
 use Rattle.contracts.specs.LookupLaws.{segment-has, key-at-place}
 use Rattle.quote.specs.declared.quote.Quote.{Quote}
@@ -84,7 +85,7 @@ module _ (list : List ℕ) (letter i : ℕ) (bytes : List ℕ) where
             let level : Level = u .tells .0 in
             let subject : subjectOf form ≡ Contract level = u .tells .1 in
             let form-is : form ≡ recordForm level = contract-form form level subject in
-            let key = key-at-place list i (messageKey bytes) place (sym (key-in list letter (messageKey bytes) listed) ∙ u .place-is) in
+            let key = key-at-place contracts list i (messageKey bytes) place (sym (key-in list letter (messageKey bytes) listed) ∙ u .place-is) in
             let number-is : number ≡ sequenceNumber m = sym (ap numberIn e) in
             let some-number : 0 < number = rw (u .form-is, subject, u .number-is) at (good-exact list letter bytes .0 (ap verdictOf e) .numbering) in
             let quote : Quote = quoteOf form (zerosBehind (readRows 0 (rowsOf form) (dataOf bytes) .cells)) in

@@ -15,6 +15,7 @@ use Rattle.laws.specs.RulesLaws.{last-held}
 use Rattle.laws.specs.Lists.{part-of-front}
 use Rattle.contracts.specs.BelowLaws.{all-same}
 use Rattle.contracts.specs.File.{segmentsOf}
+use Rattle.contracts.specs.Habits.{contracts}
 use Rattle.contracts.specs.Lookup.{segmentOf}
 use Rattle.contracts.specs.LookupLaws.{segment-has, key-at-place}
 use Rattle.contracts.specs.SoundTests.{headerSound, sound}
@@ -362,7 +363,7 @@ module _ (lent : Lent) (enough : Enough lent) where
         let place = is-some (keyPlace list letter key) (held .1) in
         let f = key-found list letter key (place .0) (place .1) in
         let slot : Slot = contract (f .0) (place .0) level in
-        let there : SlotListed list slot = (segment-has list letter (f .0) (f .1) .0, key-at-place list (f .0) key (place .0) (f .2) .0) in
+        let there : SlotListed list slot = (segment-has list letter (f .0) (f .1) .0, key-at-place contracts list (f .0) key (place .0) (f .2) .0) in
         omega (arith, slot-inside list slot there, cells-by-rows level, record-found lent letter key (held .0) (f .0) (f .1) (place .0) (f .2) level)
 
     cells-same : readRefusal lent letter key ≡ none → cellsAt (front .records) at level ≡ cellsAt (lent .records) at level

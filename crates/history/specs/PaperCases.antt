@@ -21,7 +21,7 @@ use Rattle.contracts.specs.Cases.{keyOfBytes, twoOf, threeKeys}
 use Rattle.contracts.specs.File.{segmentsOf, letterAt, zeroAt, countAt, offsetAt, keyFrom, contractsBefore}
 use Rattle.contracts.specs.Halving.{halvedIn}
 use Rattle.contracts.specs.Lookup.{segmentOf, lookup}
-use Rattle.contracts.specs.SoundTests.{entrySound, headerSound, keySound, bodySound, sound}
+use Rattle.contracts.specs.SoundTests.{entrySound, headerSoundBy, keySound, bodySound, soundBy}
 use Rattle.sequence.specs.Row.{gapsOf}
 use Rattle.sequence.specs.RowLaid.{laid, soundGapRow}
 use Rattle.forms.specs.Forms.{namedRows, rowsOf, formsOf, formOf, sumRule, writtenForm}
@@ -80,7 +80,7 @@ abbrev pub box : List Call → BoxNow
 box cs = allAfter started (map own cs)
 
 start-accepted : started .since ≡ some (record { starts = starts; past = [] })
-unfolding startRules eachStarts segmentsOf letterAt zeroAt countAt offsetAt keyFrom contractsBefore entrySound headerSound keySound bodySound sound
+unfolding startRules eachStarts segmentsOf letterAt zeroAt countAt offsetAt keyFrom contractsBefore entrySound headerSoundBy keySound bodySound soundBy
 start-accepted = refl
 
 -- whatever calls follow, they are a history
@@ -240,7 +240,7 @@ unfoldable pub sayings : List Case → List (List ℕ)
 sayings = map (λ (c : Case). c .says)
 
 pub P1-to-P14 : answered cases ≡ sayings cases
-unfolding cases answered sayings bitStep byteStep step walk readAs segmentsOf letterAt zeroAt countAt offsetAt contractsBefore segmentOf entrySound headerSound gapsOf laid soundGapRow formsOf formOf sumRule writtenForm letterOf secondOf lengthOf numberOf dataIn sumSent endByte formIn sumIn rightSum framed coded trailed summed headOf messageKey keyPlace contentsBy messageOf flagOf sizeOf countOf messageActs messagesAct batchActs gapsOfLetter listRules runsPut writeOffRules lentWrittenOff rowsStarted recordsCleared segmentRules writeRules lengthWritten dataWritten rowText quoteOf cellsOf textOf size sizeIn startRules eachStarts keyFrom keySound bodySound sound rowsOf namedRows
+unfolding cases answered sayings bitStep byteStep step walk readAs segmentsOf letterAt zeroAt countAt offsetAt contractsBefore segmentOf entrySound headerSoundBy gapsOf laid soundGapRow formsOf formOf sumRule writtenForm letterOf secondOf lengthOf numberOf dataIn sumSent endByte formIn sumIn rightSum framed coded trailed summed headOf messageKey keyPlace contentsBy messageOf flagOf sizeOf countOf messageActs messagesAct batchActs gapsOfLetter listRules runsPut writeOffRules lentWrittenOff rowsStarted recordsCleared segmentRules writeRules lengthWritten dataWritten rowText quoteOf cellsOf textOf size sizeIn startRules eachStarts keyFrom keySound bodySound soundBy rowsOf namedRows
 P1-to-P14 = refl
 
 -- ---- the table of refusals, where P1 to P14 are silent
@@ -300,5 +300,5 @@ refusals =
     ∷ []
 
 pub refusals-told : answered refusals ≡ sayings refusals
-unfolding refusals answered sayings bitStep byteStep step walk readAs segmentsOf letterAt zeroAt countAt offsetAt keyFrom contractsBefore segmentOf lookup halvedIn entrySound headerSound keySound bodySound sound gapsOf laid soundGapRow formsOf formOf sumRule writtenForm letterOf secondOf lengthOf numberOf dataIn sumSent endByte formIn sumIn rightSum framed coded trailed summed headOf messageKey keyPlace contentsBy messageOf flagOf sizeOf countOf messageActs messagesAct batchActs gapsOfLetter listRules runsPut writeOffRules recordRules startRules eachStarts rowsStarted recordsCleared segmentRules messageBytes readRow rowsOf namedRows
+unfolding refusals answered sayings bitStep byteStep step walk readAs segmentsOf letterAt zeroAt countAt offsetAt keyFrom contractsBefore segmentOf lookup halvedIn entrySound headerSoundBy keySound bodySound soundBy gapsOf laid soundGapRow formsOf formOf sumRule writtenForm letterOf secondOf lengthOf numberOf dataIn sumSent endByte formIn sumIn rightSum framed coded trailed summed headOf messageKey keyPlace contentsBy messageOf flagOf sizeOf countOf messageActs messagesAct batchActs gapsOfLetter listRules runsPut writeOffRules recordRules startRules eachStarts rowsStarted recordsCleared segmentRules messageBytes readRow rowsOf namedRows
 refusals-told = refl

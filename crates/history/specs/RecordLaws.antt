@@ -13,6 +13,7 @@ use lib.Seq.{drop-drop}
 use Rattle.laws.specs.Choice.{clash}
 use Rattle.laws.specs.Lists.{middle}
 use Rattle.contracts.specs.File.{letterAt, listedKey}
+use Rattle.contracts.specs.Habits.{contracts}
 use Rattle.contracts.specs.Lookup.{segmentOf, placeIn}
 use Rattle.contracts.specs.LookupLaws.{segment-has, segment-exact, key-exact, key-at-place}
 use Rattle.forms.specs.declared.rows.Level.{Level}
@@ -106,7 +107,7 @@ module _ {starts : List ℕ} {lent : Lent} {past : List Event} (r : Reached star
   read-newest letter i s key place found level reading p =
       let list : List ℕ = lent .list in
       let slot : Slot = contract i place level in
-      let there : SlotListed list slot = (segment-has list letter i s .0, key-at-place list i key place found .0) in
+      let there : SlotListed list slot = (segment-has list letter i s .0, key-at-place contracts list i key place found .0) in
       let good = segment-good r letter i s in
       let holds = key-holds lent letter key good i s place found in
       let here : slotAt list slot ≡ recordOfKey list letter key level = record-found lent letter key good i s place found level in

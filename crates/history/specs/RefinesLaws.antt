@@ -9,6 +9,7 @@ use Rattle.laws.specs.Rules.{firstBroken}
 use Rattle.laws.specs.RulesLaws.{some-broken, front-broken}
 use Rattle.laws.specs.Choice.{never}
 use Rattle.laws.specs.Order.{order}
+use Rattle.contracts.specs.Habits.{contracts}
 use Rattle.contracts.specs.Lookup.{segmentOf, placeIn}
 use Rattle.contracts.specs.LookupLaws.{segment-has, segment-exact, key-at-place}
 use Rattle.contracts.specs.Sound.{SoundList}
@@ -144,7 +145,7 @@ module _ {starts : List ℕ} {lent : Lent} {past : List Event} (r : Reached star
           (machine.Reads.no-key (i, has .0, has .1) none-there)
       reads-listed (some place) found =
           let has = segment-has list letter i s in
-          let stands = key-at-place list i key place found in
+          let stands = key-at-place contracts list i key place found in
           subst (Reads now letter key level) (sym (read-newest r letter i s key place found level reading p))
           (machine.Reads.the-newest (contract i place level) (record { listed = (has .0, stands .0); of-letter = has .1; of-key = stands .1; of-level = refl }))
 

@@ -12,6 +12,7 @@ use Rattle.laws.specs.Tests.{eqb-is}
 use Rattle.laws.specs.Rules.{firstBroken}
 use Rattle.laws.specs.RulesLaws.{last-held}
 use Rattle.contracts.specs.File.{listedKey}
+use Rattle.contracts.specs.Habits.{contracts}
 use Rattle.contracts.specs.Lookup.{segmentOf, placeIn}
 use Rattle.contracts.specs.LookupLaws.{segment-has, key-at-place}
 use Rattle.forms.specs.declared.rows.Level.{Level}
@@ -239,7 +240,7 @@ module _ {starts : List ℕ} {lent : Lent} {past : List Event} (r : Reached star
       let found = record-listed p e in
       let i : ℕ = found .0 in
       let place : ℕ = found .1 in
-      go i (found .2) place (key-at-place list i key place (found .3) .1) (reads-key r letter i (found .2) key place (found .3) level reading p)
+      go i (found .2) place (key-at-place contracts list i key place (found .3) .1) (reads-key r letter i (found .2) key place (found .3) level reading p)
     where
       go : (i : ℕ) → segmentOf list letter ≡ some i → (place : ℕ) → listedKey list i place ≡ key
           → ReadsNewest (contract i place level) (takenOf i (startOf starts i) past) reading → ShownAsSent (batchesOf r) letter key level number (reading .quote)

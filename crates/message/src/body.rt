@@ -47,7 +47,7 @@ pub fn find(list: &[u8], segment: Found, key: &[u8]) -> Found
     ensures { λ r. ⌜ foundNumbers contractNo r ≡ lookedUp contractNo (placeThere (now (list .entry)) (now (key .entry)) (placeOf segment)) ⌝ }
 {
     match segment {
-        Found::At(place) => contracts::place_of(list, place, key),
+        Found::At(place) => contracts::place_of(list, contracts::CONTRACTS, place, key),
         Found::Nowhere => Found::Nowhere,
     }
 }

@@ -5,13 +5,16 @@ use crate::say::say_with;
 use contracts::Found;
 
 pub fn say_list(list: &[u8]) {
-    say_bool(b"sound ", contracts::sound(list));
-    say_bool(b" header ", contracts::header_sound(list));
+    say_bool(b"sound ", contracts::sound(list, contracts::CONTRACTS));
+    say_bool(
+        b" header ",
+        contracts::header_sound(list, contracts::CONTRACTS),
+    );
 }
 
 fn say_place(list: &[u8], segment: usize, key: &[u8]) {
     say_with(b"segment ", segment as u64);
-    match contracts::place_of(list, segment, key) {
+    match contracts::place_of(list, contracts::CONTRACTS, segment, key) {
         Found::Nowhere => say(b" nowhere"),
         Found::At(place) => say_with(b" place ", place as u64),
     }

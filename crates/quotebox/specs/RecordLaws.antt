@@ -12,6 +12,7 @@ use Rattle.laws.specs.Rules.{firstBroken}
 use Rattle.laws.specs.RulesLaws.{front-broken, last-holds, last-broken}
 use Rattle.contracts.specs.File.{contractsBefore, contractsOf}
 use Rattle.contracts.specs.FileLaws.{before-reaches}
+use Rattle.contracts.specs.Habits.{contracts}
 use Rattle.contracts.specs.HeaderLaws.{contracts-few}
 use Rattle.contracts.specs.Lookup.{segmentOf, placeIn}
 use Rattle.contracts.specs.LookupLaws.{segment-has, key-at-place}
@@ -81,7 +82,7 @@ module _ (lent : Lent) (letter : ℕ) (key : List ℕ) where
           ∙ ap (λ (o : Option ℕ). slotAt (lent .list) (slotIn o place level)) s)
 
       contract-inside : contractsBefore (lent .list) i + place < contractsOf (lent .list)
-      contract-inside = omega (arith, before-reaches (lent .list) i (segment-has (lent .list) letter i s .0), key-at-place (lent .list) i key place found .0)
+      contract-inside = omega (arith, before-reaches (lent .list) i (segment-has (lent .list) letter i s .0), key-at-place contracts (lent .list) i key place found .0)
 
       pub contract-few : contractsBefore (lent .list) i + place < 65536
       contract-few = omega (arith, contract-inside, contracts-few (lent .list) (state-held lent letter e .header))

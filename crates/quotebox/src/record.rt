@@ -56,7 +56,12 @@ fn find_record(
     ensures { λ r. ⌜ Finds (lends (now (list .entry)) (now (rows .entry)) (now (records .entry))) letter (now (key .entry)) level r ⌝ }
 {
     match state::check_segment(list, rows, records, letter) {
-        Asked::Segment(segment) => match contracts::place_of(list, segment, key) {
+        Asked::Segment(segment) => match contracts::place_of(
+            list,
+            contracts::CONTRACTS,
+            segment,
+            key,
+        ) {
             Found::At(place) => {
                 Place::At(state::record_at(
                     contracts::contracts_before(list, segment) + place,

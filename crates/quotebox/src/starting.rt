@@ -39,7 +39,7 @@ fn each_starts(starts: &[u32], segments: usize) -> bool
 fn check_start(list: &[u8], starts: &[u32], rows: usize, records: usize) -> Checked
     ensures { λ r. ⌜ checkedNumbers r ≡ checkedBy (firstBroken (startRules (now (list .entry)) (now (starts .entry)) rows records)) ⌝ }
 {
-    if !contracts::sound(list) {
+    if !contracts::sound(list, contracts::CONTRACTS) {
         return Checked::Refused(Refusal::List);
     }
     if !each_starts(starts, contracts::segments(list)) {

@@ -11,6 +11,7 @@ use lib.ListN.{length, drop}
 use lib.Seq.{drop-append-le}
 use Rattle.laws.specs.Choice.{either}
 use Rattle.laws.specs.Rules.{firstBroken}
+use Rattle.contracts.specs.Habits.{contracts}
 use Rattle.contracts.specs.Lookup.{segmentOf}
 use Rattle.contracts.specs.HeaderLaws.{header-exact}
 use Rattle.contracts.specs.File.{segmentsOf}
@@ -76,7 +77,7 @@ module _ (lent : Lent) (h : headerSound (lent .list) ≡ false) where
   start-unlisted : (starts : List ℕ) → startBroken lent starts ≡ some ListOf
   unfolding startRules
   start-unlisted starts =
-      ⊎-elim (λ (s : sound (lent .list) ≡ true). absurd (true≢false (sym (sound-header (lent .list) s) ∙ h))) (λ (s : sound (lent .list) ≡ false). rw s) (either (sound (lent .list)))
+      ⊎-elim (λ (s : sound (lent .list) ≡ true). absurd (true≢false (sym (sound-header contracts (lent .list) s) ∙ h))) (λ (s : sound (lent .list) ≡ false). rw s) (either (sound (lent .list)))
 
   pub started-unlisted : (starts : List ℕ) {lent′ : Lent} (answer : Started) → StartedBox lent starts answer lent′ → startedNumbers answer ≡ refusalNumbers ListOf
   started-unlisted starts answer p = p .answers ∙ told-as _ [] (start-unlisted starts)

@@ -57,7 +57,7 @@ fn rows_sound(rows: &[u32], segments: usize) -> bool
 pub fn check_state(list: &[u8], rows: &[u32], records: &[u64]) -> Checked
     ensures { λ r. ⌜ checkedNumbers r ≡ checkedBy (firstBroken (stateRules (lends (now (list .entry)) (now (rows .entry)) (now (records .entry))))) ⌝ }
 {
-    if !contracts::header_sound(list) {
+    if !contracts::header_sound(list, contracts::CONTRACTS) {
         return Checked::Refused(Refusal::List);
     }
     match check_memory(list, rows.len(), records.len()) {

@@ -8,6 +8,7 @@ use native.Mathlib.Omega.{arith}
 use lib.ListN.{length, take, drop, length-take, length-drop}
 use lib.Seq.{sets}
 use Rattle.contracts.specs.File.{contractsBefore, contractsOf}
+use Rattle.contracts.specs.Habits.{contracts}
 use Rattle.contracts.specs.HeaderLaws.{contracts-few}
 use Rattle.contracts.specs.Lookup.{segmentOf, placeIn}
 use Rattle.contracts.specs.LookupLaws.{segment-has, key-at-place}
@@ -71,7 +72,7 @@ module _ (list : List ℕ) (letter : ℕ) (bytes : List ℕ) {number : ℕ} {for
   contract-listed : contractsBefore list (found .0) + place < contractsOf list
   contract-listed =
       let f = found in
-      let kept = record-kept list (f .0) place (record { segment = segment-has list letter (f .0) (f .1) .0; place = key-at-place list (f .0) (messageKey bytes) place (f .2) .0 }) in
+      let kept = record-kept list (f .0) place (record { segment = segment-has list letter (f .0) (f .1) .0; place = key-at-place contracts list (f .0) (messageKey bytes) place (f .2) .0 }) in
       omega (arith, kept)
 
   -- so its record, number and rows, lies in the cells wanted

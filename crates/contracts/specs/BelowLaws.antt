@@ -2,11 +2,12 @@
 use Prim.Native.Nat.{ℕ, zero, suc, _+_, _*_, _≤_, _<_}
 use mathlib.Core.Path.{_≡_, refl, ap, ap₂, sym, _∙_}
 use mathlib.Core.Logic.{_⊎_, inl, inr, ⊎-elim}
-use mathlib.Core.Bool.{Bool, true, false, _&&_}
+use mathlib.Core.Bool.{Bool, true, false, not, _&&_}
 use mathlib.Core.Option.{Option, none, some}
 use native.Mathlib.Nat.{suc-mul}
 use native.Mathlib.Numerals.{add-one}
 use native.Mathlib.Omega.{arith}
+use borrow.Author.Tests.{not-true, not-false}
 use Rattle.laws.specs.Choice.{either, never}
 use Rattle.laws.specs.Tests.{both, conj}
 use Rattle.laws.specs.Order.{order}
@@ -35,6 +36,19 @@ module _ (p : ℕ → Bool) where
   -- one number more passes
   pub pass-on : (i : ℕ) → allBelow i p ≡ true → p i ≡ true → allBelow (i + 1) p ≡ true
   pass-on i all e = rw (add-one i) (conj (allBelow i p) (p i) all e)
+
+  -- a loop over the numbers below n that is told what the test of number i says: it stops where that fails, goes on where it passes
+  -- and ends behind the last
+  module _ (n i : ℕ) (before : allBelow i p ≡ true) where
+    pub loop-ends : i ≤ n → n ≤ i → true ≡ allBelow n p
+    loop-ends h k = let last : n ≡ i = omega arith in sym (ap (λ (m : ℕ). allBelow m p) last ∙ before)
+
+    module _ (told : Bool) (is : told ≡ p i) where
+      pub loop-stops : i < n → not told ≡ true → false ≡ allBelow n p
+      loop-stops h e = sym (one-fails n i h (sym is ∙ not-true told e))
+
+      pub loop-goes-on : not told ≡ false → allBelow (i + 1) p ≡ true
+      loop-goes-on e = pass-on i before (sym is ∙ not-false told e)
 
   -- one number more fails, and it is still the first to pass
   pub first-on : (i : ℕ) → firstBelow i p ≡ none → p i ≡ false → firstBelow (i + 1) p ≡ none

@@ -20,3 +20,6 @@ pub mod RecordsLaws
 pub mod Sound
 pub mod SoundLaws
 pub mod SoundTests
+pub mod SpreadLaws
+pub mod SpreadTests
+pub mod Spreads

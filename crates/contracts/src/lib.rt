@@ -4,6 +4,7 @@ mod habit;
 mod header;
 mod key;
 mod lookup;
+mod spreads;
 
 pub use check::header_sound;
 pub use check::is_letter;
@@ -20,3 +21,5 @@ pub use header::segments;
 pub use lookup::Found;
 pub use lookup::place_of;
 pub use lookup::segment_of;
+pub use spreads::spread_header_sound;
+pub use spreads::spreads_sound;

@@ -1,13 +1,12 @@
 -- `contracts::check::body_sound` meets its contract. The loop's invariant: the keys passed are sound.
-use Prim.Native.Nat.{ℕ, _-_, _≤_, _<_}
-use mathlib.Core.Path.{_≡_, refl, sym, ap, _∙_}
+use Prim.Native.Nat.{_-_, _≤_}
+use mathlib.Core.Path.{_≡_, refl}
 use mathlib.Core.Bool.{true}
 use native.Mathlib.Omega.{arith}
 use borrow.Author.Needs.{needs}
-use borrow.Author.Tests.{not-true, not-false}
 use denote.Ref.{now}
 use Rattle.contracts.specs.Below.{allBelow}
-use Rattle.contracts.specs.BelowLaws.{pass-on, one-fails}
+use Rattle.contracts.specs.BelowLaws.{loop-ends, loop-stops, loop-goes-on}
 use Rattle.contracts.specs.File.{countAt}
 use Rattle.contracts.specs.SoundTests.{keySound, bodySound}
 use Rattle.contracts.proofs.check.body_sound.Statement.{statement}
@@ -30,9 +29,7 @@ unfolding bodySound
 returns c =
     let at = c .before .before .before in
     let a = at .before .before .before .args in
-    let inside : at .loop .place < countAt (now (a .list)) (a .segment) = omega arith in
-    let fails = not-true (c .before .key-sound .result) (c .if1 .taken) in
-    sym (one-fails (keySound (a .habit) (now (a .list)) (a .segment)) (countAt (now (a .list)) (a .segment)) (at .loop .place) inside (sym (c .before .key-sound .ensures) ∙ fails))
+    loop-stops (keySound (a .habit) (now (a .list)) (a .segment)) (countAt (now (a .list)) (a .segment)) (at .loop .place) (at .loop .inv .1) (c .before .key-sound .result) (c .before .key-sound .ensures) (omega arith) (c .if1 .taken)
 
 add-place : tie.Need-add-place Inv-loop μ-loop
 add-place c = omega arith
@@ -44,16 +41,14 @@ loop-again : tie.Need-loop-again Inv-loop μ-loop
 loop-again c =
     let at = c .before .before .before in
     let a = at .before .before .before .args in
-    let passes = not-false (c .before .key-sound .result) (c .if1 .left) in
-    (omega arith, pass-on (keySound (a .habit) (now (a .list)) (a .segment)) (at .loop .place) (at .loop .inv .1) (sym (c .before .key-sound .ensures) ∙ passes))
+    (omega arith, loop-goes-on (keySound (a .habit) (now (a .list)) (a .segment)) (countAt (now (a .list)) (a .segment)) (at .loop .place) (at .loop .inv .1) (c .before .key-sound .result) (c .before .key-sound .ensures) (c .if1 .left))
 
 returns-2 : tie.Need-returns-2 Inv-loop μ-loop
 unfolding bodySound
 returns-2 c =
     let at = c .before in
     let a = at .before .before .before .args in
-    let all : at .loop .place ≡ countAt (now (a .list)) (a .segment) = omega arith in
-    sym (at .loop .inv .1) ∙ ap (λ (k : ℕ). allBelow k (keySound (a .habit) (now (a .list)) (a .segment))) all
+    loop-ends (keySound (a .habit) (now (a .list)) (a .segment)) (countAt (now (a .list)) (a .segment)) (at .loop .place) (at .loop .inv .1) (omega arith) (omega arith)
 
 pub body-sound-spec : {M : Type 1} → statement M
 body-sound-spec =

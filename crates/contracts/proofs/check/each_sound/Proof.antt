@@ -1,13 +1,12 @@
 -- `contracts::check::each_sound` meets its contract. The loop's invariant: this part of the segments passed is sound.
-use Prim.Native.Nat.{ℕ, _-_, _≤_, _<_}
-use mathlib.Core.Path.{_≡_, refl, sym, ap, _∙_}
+use Prim.Native.Nat.{_-_, _≤_}
+use mathlib.Core.Path.{_≡_, refl}
 use mathlib.Core.Bool.{true}
 use native.Mathlib.Omega.{arith}
 use borrow.Author.Needs.{needs}
-use borrow.Author.Tests.{not-true, not-false}
 use denote.Ref.{now}
 use Rattle.contracts.specs.Below.{allBelow}
-use Rattle.contracts.specs.BelowLaws.{pass-on, one-fails}
+use Rattle.contracts.specs.BelowLaws.{loop-ends, loop-stops, loop-goes-on}
 use Rattle.contracts.specs.File.{segmentsOf}
 use Rattle.contracts.specs.Inner.{partSound}
 use Rattle.contracts.proofs.check.each_sound.Statement.{statement}
@@ -26,9 +25,7 @@ returns : tie.Need-returns Inv-loop μ-loop
 returns c =
     let at = c .before .before .before in
     let a = at .before .before .before .args in
-    let inside : at .loop .i < segmentsOf (now (a .list)) = omega arith in
-    let fails = not-true (c .before .part-sound .result) (c .if1 .taken) in
-    sym (one-fails (partSound (a .habit) (now (a .list)) (a .part)) (segmentsOf (now (a .list))) (at .loop .i) inside (sym (c .before .part-sound .ensures) ∙ fails))
+    loop-stops (partSound (a .habit) (now (a .list)) (a .part)) (segmentsOf (now (a .list))) (at .loop .i) (at .loop .inv .1) (c .before .part-sound .result) (c .before .part-sound .ensures) (omega arith) (c .if1 .taken)
 
 add-i : tie.Need-add-i Inv-loop μ-loop
 add-i c = omega arith
@@ -40,15 +37,13 @@ loop-again : tie.Need-loop-again Inv-loop μ-loop
 loop-again c =
     let at = c .before .before .before in
     let a = at .before .before .before .args in
-    let passes = not-false (c .before .part-sound .result) (c .if1 .left) in
-    (omega arith, pass-on (partSound (a .habit) (now (a .list)) (a .part)) (at .loop .i) (at .loop .inv .1) (sym (c .before .part-sound .ensures) ∙ passes))
+    (omega arith, loop-goes-on (partSound (a .habit) (now (a .list)) (a .part)) (segmentsOf (now (a .list))) (at .loop .i) (at .loop .inv .1) (c .before .part-sound .result) (c .before .part-sound .ensures) (c .if1 .left))
 
 returns-2 : tie.Need-returns-2 Inv-loop μ-loop
 returns-2 c =
     let at = c .before in
     let a = at .before .before .before .args in
-    let all : at .loop .i ≡ segmentsOf (now (a .list)) = omega arith in
-    sym (at .loop .inv .1) ∙ ap (λ (k : ℕ). allBelow k (partSound (a .habit) (now (a .list)) (a .part))) all
+    loop-ends (partSound (a .habit) (now (a .list)) (a .part)) (segmentsOf (now (a .list))) (at .loop .i) (at .loop .inv .1) (omega arith) (omega arith)
 
 pub each-sound-spec : {M : Type 1} → statement M
 each-sound-spec =

@@ -15,6 +15,8 @@ pub mod Keys
 pub mod KeysLaws
 pub mod Lookup
 pub mod LookupLaws
+pub mod NoSpreads
+pub mod NoSpreadsLaws
 pub mod Records
 pub mod RecordsLaws
 pub mod Sound

@@ -1,9 +1,11 @@
-// The house files, which are the contract list and the spread list: checking the file, reading its header, and finding a segment's letter and a contract's key.
+// The house files, which are the contract list and the spread list: checking a file, reading its header, and finding a segment's
+// letter and a key.
 mod check;
 mod habit;
 mod header;
 mod key;
 mod lookup;
+mod no_spreads;
 mod spreads;
 
 pub use check::header_sound;
@@ -21,5 +23,7 @@ pub use header::segments;
 pub use lookup::Found;
 pub use lookup::place_of;
 pub use lookup::segment_of;
+pub use no_spreads::no_spreads_size;
+pub use no_spreads::put_no_spreads;
 pub use spreads::spread_header_sound;
 pub use spreads::spreads_sound;

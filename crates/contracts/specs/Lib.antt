@@ -22,6 +22,7 @@ pub mod RecordsLaws
 pub mod Sound
 pub mod SoundLaws
 pub mod SoundTests
+pub mod SpreadCases
 pub mod SpreadLaws
 pub mod SpreadTests
 pub mod Spreads

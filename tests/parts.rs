@@ -16,21 +16,36 @@ use std::collections::BTreeSet;
 struct Named {
     name: u8,
     kind: Kind,
+    signed: bool,
 }
 
-const KINDS: [Named; 3] = [Named { name: b'P', kind: PRICE }, Named { name: b'Q', kind: QUANTITY }, Named { name: b'T', kind: TURNOVER }];
+const KINDS: [Named; 4] = [
+    Named { name: b'P', kind: PRICE, signed: false },
+    Named { name: b'D', kind: PRICE, signed: true },
+    Named { name: b'Q', kind: QUANTITY, signed: false },
+    Named { name: b'T', kind: TURNOVER, signed: false },
+];
 
-fn read(kind: Kind, text: &[u8]) -> String {
-    match reference::read_number(kind, text) {
-        Ok(NONE) => "none".into(),
-        Ok(units) => format!("amount {units}"),
+// Below zero or not, and the amount; none for a blank text.
+fn number(of: Named, text: &[u8]) -> Result<Option<(bool, u64)>, u8> {
+    if of.signed {
+        return reference::read_difference(text);
+    }
+    let units = reference::read_number(of.kind, text)?;
+    Ok(if units == NONE { None } else { Some((false, units)) })
+}
+
+fn read(of: Named, text: &[u8]) -> String {
+    match number(of, text) {
+        Ok(None) => "none".into(),
+        Ok(Some((below, units))) => format!("{} {units}", if below { "below" } else { "amount" }),
         Err(11) => "malformed".into(),
         Err(_) => "out of range".into(),
     }
 }
 
-fn write(kind: Kind, units: u64, width: usize) -> String {
-    reference::write_number(kind, units, width).map_or("refused".into(), |text| format!("[{text}]"))
+fn written(of: Named, below: bool, units: u64, width: usize) -> Option<String> {
+    if of.signed { reference::write_difference(below, units, width) } else { reference::write_number(of.kind, units, width) }
 }
 
 struct Asked {
@@ -54,19 +69,29 @@ impl Asked {
     }
 
     fn read(&mut self, of: Named, text: &[u8]) {
-        self.ask(of.name, text, read(of.kind, text), "texts");
+        self.ask(of.name, text, read(of, text), "texts");
     }
 
-    fn write(&mut self, of: Named, units: u64, width: usize) {
-        let mut text = units.to_be_bytes().to_vec();
-        text.push(width as u8);
-        self.ask(of.name.to_ascii_lowercase(), &text, write(of.kind, units, width), "amounts");
+    // What is written is read back too.
+    fn write(&mut self, of: Named, below: bool, units: u64, width: usize) {
+        let mut asked = units.to_be_bytes().to_vec();
+        asked.extend([width as u8, below as u8]);
+        let text = written(of, below, units, width);
+        let line = text.as_ref().map_or("refused".into(), |text| format!("[{text}]"));
+        self.ask(of.name.to_ascii_lowercase(), &asked, line, "amounts");
+        if let Some(text) = text {
+            let side = if of.signed && below && units > 0 { "below" } else { "amount" };
+            self.ask(of.name, text.as_bytes(), format!("{side} {units}"), "amounts read back");
+        }
     }
 }
 
-// A text that is nearly a number: digits, a point and spaces where they belong, and sometimes one thing wrong.
-fn a_text(r: &mut Random, kind: Kind) -> Vec<u8> {
+// A text that is nearly a number: a minus, digits, a point and spaces where they belong, and sometimes one thing wrong.
+fn a_text(r: &mut Random, of: Named) -> Vec<u8> {
     let mut text = vec![b' '; r.below(8) as usize];
+    if r.one_in(if of.signed { 2 } else { 20 }) {
+        text.push(b'-');
+    }
     let few = r.below(14) as usize;
     let many = r.below(40) as usize;
     for _ in 0..if r.one_in(10) { many } else { few } {
@@ -74,7 +99,7 @@ fn a_text(r: &mut Random, kind: Kind) -> Vec<u8> {
     }
     if r.below(5) < 3 {
         text.push(b'.');
-        for _ in 0..r.below(kind.places as u64 + 3) {
+        for _ in 0..r.below(of.kind.places as u64 + 3) {
             text.push(b'0' + if r.one_in(3) { 0 } else { r.below(10) as u8 });
         }
     }
@@ -103,13 +128,13 @@ fn short_texts() -> Vec<Vec<u8>> {
     let mut all = vec![vec![]];
     let mut longest = all.clone();
     for _ in 0..6 {
-        longest = longest.iter().flat_map(|text: &Vec<u8>| b" .07x".map(|c| [&text[..], &[c]].concat())).collect();
+        longest = longest.iter().flat_map(|text: &Vec<u8>| b" -.07x".map(|c| [&text[..], &[c]].concat())).collect();
         all.extend(longest.clone());
     }
     all
 }
 
-// Digits about 2^64, with zeros in front, and a point in every place of them and in none.
+// Digits about 2^64, with zeros in front, and a point in every place of them and in none; each behind a minus too.
 fn long_texts() -> Vec<Vec<u8>> {
     let mut all = vec![];
     for digits in ["1844674407370955160", "1844674407370955161", "18446744073709551609", "18446744073709551614", "18446744073709551615", "18446744073709551616",
@@ -123,6 +148,15 @@ fn long_texts() -> Vec<Vec<u8>> {
             all.push(text);
         }
     }
+    let below: Vec<Vec<u8>> = all.iter().map(|text| [b"-", &text[..]].concat()).collect();
+    all.extend(below);
+    all
+}
+
+// A minus before, behind and amid each, and two of them: where one may stand, and where none may.
+fn with_minus(text: &str) -> Vec<String> {
+    let mut all = vec![text.to_string(), format!("--{text}"), format!("- {text}"), format!("+{text}"), format!("-{text}-")];
+    all.extend((0..=text.len()).map(|at| format!("{}-{}", &text[..at], &text[at..])));
     all
 }
 
@@ -136,31 +170,32 @@ fn sums_and_numbers(asked: &mut Asked, r: &mut Random, numbers: usize) {
     let (short, long) = (short_texts(), long_texts());
     for of in KINDS {
         short.iter().chain(&long).for_each(|text| asked.read(of, text));
-        for edge in ["", " ", ".", "0", "0.5", ".5", "5.", "00", "1 2", "1. 5", "1 .5", "1..5", "1.5.", "1.5.2", "0.0", "1.00000000", "100.", "-1", "999999999999", "1000000000000",
-            "99999999999.9999999", "100000000000", "9999999999999999.99", "10000000000000000", "18446744073709551616", "340282366920938463463374607431768211456"]
+        for edge in ["", " ", ".", "0", "0.5", ".5", "5.", "00", "007.5", "1 2", "1. 5", "1 .5", "1..5", "1.5.", "1.5.2", "0.0", "0.0000001", "0.00000001", "1.00000000", "100.",
+            "999999999999", "1000000000000", "99999999999.9999999", "99999999999.99999999", "100000000000", "9999999999999999.99", "10000000000000000", "18446744073709551616",
+            "340282366920938463463374607431768211456"]
         {
-            for pad in 0..4 {
-                let mut text = vec![b' '; pad % 2];
-                text.extend(edge.bytes());
-                text.extend(vec![b' '; pad / 2]);
-                asked.read(of, &text);
+            for text in with_minus(edge) {
+                for pad in 0..4 {
+                    asked.read(of, &[&b" "[..pad % 2], text.as_bytes(), &b" "[..pad / 2]].concat());
+                }
             }
         }
         for width in 0..=25usize {
-            for units in [0, 1, 5_000_000, of.kind.largest, of.kind.largest + 1, u64::MAX, 1_002_500_000] {
-                asked.write(of, units, width);
+            for units in [0, 1, 5_000_000, of.kind.largest - 1, of.kind.largest, of.kind.largest + 1, u64::MAX, 1_002_500_000] {
+                asked.write(of, false, units, width);
+                asked.write(of, true, units, width);
             }
         }
     }
     for i in 0..numbers {
-        let of = KINDS[i % 3];
+        let of = KINDS[i / 2 % KINDS.len()];
         if i % 2 == 0 {
-            let text = a_text(r, of.kind);
+            let text = a_text(r, of);
             asked.read(of, &text);
         } else {
             let units = an_amount(r, of.kind);
             let width = r.below(26) as usize;
-            asked.write(of, units, width);
+            asked.write(of, r.one_in(2), units, width);
         }
     }
 }

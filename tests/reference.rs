@@ -175,6 +175,25 @@ pub fn write_number(kind: Kind, units: u64, width: usize) -> Option<String> {
     if text.len() > width { None } else { Some(format!("{text:>width$}")) }
 }
 
+// A difference is a price that one minus may stand before, directly before its first digit: whether it is below zero, and the
+// amount; none where the text is blank. Minus zero is zero.
+pub fn read_difference(text: &[u8]) -> Result<Option<(bool, u64)>, u8> {
+    let first = past(text, 0, b' ');
+    let minus = text.get(first) == Some(&b'-');
+    if minus && !text.get(first + 1).map_or(false, u8::is_ascii_digit) {
+        return Err(FIELD);
+    }
+    let units = read_number(PRICE, &text[first + minus as usize..])?;
+    Ok(if units == NONE { None } else { Some((minus && units > 0, units)) })
+}
+
+// As a price, with the minus directly before the digits.
+pub fn write_difference(below: bool, units: u64, width: usize) -> Option<String> {
+    let bare = write_number(PRICE, units, MOST_DIGITS + 1)?;
+    let text = format!("{}{}", if below && units > 0 { "-" } else { "" }, bare.trim_start());
+    if text.len() > width { None } else { Some(format!("{text:>width$}")) }
+}
+
 // ---- the rows of an update
 
 #[derive(Clone, Copy, PartialEq)]

@@ -6,6 +6,7 @@ mod lists;
 mod rows;
 mod say;
 
+use amount::Difference;
 use amount::Price;
 use amount::Quantity;
 use amount::Turnover;
@@ -17,6 +18,7 @@ fn answer(kind: u8, asked: &[u8], row: &mut [u32; CELLS]) {
     match kind {
         b'C' => leaves::say_sum(asked),
         b'P' => leaves::say_number(Price::read(asked)),
+        b'D' => leaves::say_number(Difference::read(asked)),
         b'Q' => leaves::say_number(Quantity::read(asked)),
         b'T' => leaves::say_number(Turnover::read(asked)),
         b'L' => lists::say_list(asked),

@@ -2,11 +2,26 @@
 #![allow(dead_code)] // each test uses a part
 
 use crate::random::Random;
-use crate::reference::{self, Kind, Row, KEY, LENGTHS, MARKET_TYPE_ROW, NONE, PRICE, QUANTITY, RUNS};
+use crate::reference::{self, Kind, Row, KEY, LENGTHS, MARKET_TYPE_ROW, NONE, PAIR, PRICE, QUANTITY, RUNS};
 
 pub type Key = [u8; KEY];
+pub type Pair = [u8; PAIR];
 
-// ---- contract lists
+// ---- contract lists, and spread lists beside them
+
+// A house file of these segments and keys.
+pub fn file<const N: usize>(segments: &[(u8, Vec<[u8; N]>)]) -> Vec<u8> {
+    let mut list = (segments.len() as u16).to_be_bytes().to_vec();
+    let mut offset = list.len() + 8 * segments.len();
+    for (letter, keys) in segments {
+        list.extend([*letter, 0]);
+        list.extend((keys.len() as u16).to_be_bytes());
+        list.extend((offset as u32).to_be_bytes());
+        offset += N * keys.len();
+    }
+    list.extend(segments.iter().flat_map(|(_, keys)| keys.concat()));
+    list
+}
 
 #[derive(Clone)]
 pub struct Book {
@@ -15,16 +30,19 @@ pub struct Book {
 
 impl Book {
     pub fn bytes(&self) -> Vec<u8> {
-        let mut list = (self.segments.len() as u16).to_be_bytes().to_vec();
-        let mut offset = list.len() + 8 * self.segments.len();
-        for (letter, keys) in &self.segments {
-            list.extend([*letter, 0]);
-            list.extend((keys.len() as u16).to_be_bytes());
-            list.extend((offset as u32).to_be_bytes());
-            offset += KEY * keys.len();
-        }
-        list.extend(self.segments.iter().flat_map(|(_, keys)| keys.concat()));
-        list
+        file(&self.segments)
+    }
+
+    // Pairs of listed keys, at most `most` a segment.
+    pub fn pairs(&self, r: &mut Random, most: u64) -> Vec<(u8, Vec<Pair>)> {
+        let segments = self.segments.iter().map(|(letter, keys)| {
+            let number = if r.one_in(3) { 0 } else { r.below(most + 1) };
+            let mut pairs: Vec<Pair> = (0..number).map(|_| pair(&r.pick(keys), &r.pick(keys))).collect();
+            pairs.sort();
+            pairs.dedup();
+            (*letter, pairs)
+        });
+        segments.collect()
     }
 
     pub fn letters(&self) -> Vec<u8> {
@@ -41,6 +59,10 @@ impl Book {
             None => a_key(r),
         }
     }
+}
+
+pub fn pair(first: &Key, second: &Key) -> Pair {
+    [&first[..], second].concat().try_into().unwrap()
 }
 
 // Many keys begin alike, so that the last bytes count.
@@ -83,9 +105,13 @@ pub fn a_book(r: &mut Random, most: u64) -> Book {
 
 // One thing wrong: the contents, a body, the size, the order of two keys.
 pub fn damaged_list(r: &mut Random, list: &[u8]) -> Vec<u8> {
+    damaged_file(r, list, KEY)
+}
+
+fn damaged_file(r: &mut Random, list: &[u8], key: usize) -> Vec<u8> {
     let mut list = list.to_vec();
     let contents = if list[1] == 2 { 18 } else { 10 };
-    let keys = (list.len() - contents) / KEY;
+    let keys = (list.len() - contents) / key;
     match r.below(8) {
         0 => list.push(r.next() as u8),
         1 => {
@@ -95,13 +121,13 @@ pub fn damaged_list(r: &mut Random, list: &[u8]) -> Vec<u8> {
             let at = r.below(contents as u64) as usize;
             list[at] = list[at].wrapping_add(r.pick(&[1, 255, 16, 128]));
         }
-        4 => {
+        4 if keys > 0 => {
             let at = contents + r.below((list.len() - contents) as u64) as usize;
             list[at] = r.pick(&[0, 31, 127, 255]);
         }
         5 if keys > 1 => {
-            let at = contents + KEY * r.below(keys as u64 - 1) as usize;
-            let (a, b) = list[at..at + 2 * KEY].split_at_mut(KEY);
+            let at = contents + key * r.below(keys as u64 - 1) as usize;
+            let (a, b) = list[at..at + 2 * key].split_at_mut(key);
             if r.one_in(2) { a.swap_with_slice(b) } else { b.copy_from_slice(a) }
         }
         6 => list = list[..r.below(contents as u64 + 1) as usize].to_vec(),
@@ -111,6 +137,30 @@ pub fn damaged_list(r: &mut Random, list: &[u8]) -> Vec<u8> {
         }
     }
     list
+}
+
+// One thing wrong: a field of the file, a half that is not its segment's, other letters, or another list's pairs.
+pub fn damaged_spreads(r: &mut Random, book: &Book, pairs: &[(u8, Vec<Pair>)]) -> Vec<u8> {
+    let mut pairs = pairs.to_vec();
+    let which = r.below(pairs.len() as u64) as usize;
+    match r.below(6) {
+        0 => {
+            let keys = &book.segments[which].1;
+            let strange = a_key(r);
+            pairs[which].1.push(if r.one_in(2) { pair(&r.pick(keys), &strange) } else { pair(&strange, &r.pick(keys)) });
+            pairs[which].1.sort();
+        }
+        1 => {
+            let other = r.pick(&book.letters());
+            let (first, second) = (book.a_key(r, pairs[which].0), book.a_key(r, other));
+            pairs[which].1.push(pair(&first, &second));
+            pairs[which].1.sort();
+        }
+        2 => pairs[which].0 = r.pick(b"DTDTF"),
+        3 => pairs = a_book(r, 3).pairs(r, 3),
+        _ => return damaged_file(r, &file(&pairs), PAIR),
+    }
+    file(&pairs)
 }
 
 // The bodies in another order: the header still passes, and lookup goes by halving all the same.

@@ -1,5 +1,5 @@
 // The parts of the box as compiled, held against an implementation written from the papers: checksums, numbers in text, the
-// contract list, gap rows, the rows of an update.
+// contract list, the spread list, gap rows, the rows of an update.
 //   parts PROGRAM... [--seed N] [--times N] [--keep FOLDER]
 // PROGRAM is run once; it answers a line for each thing that it is asked (crate `parts`).
 mod feed;
@@ -228,6 +228,30 @@ fn lists(asked: &mut Asked, r: &mut Random, count: usize) {
     }
 }
 
+// ---- the spread list, beside a sound contract list
+
+fn spreads(asked: &mut Asked, r: &mut Random, count: usize) {
+    for _ in 0..count {
+        let book = feed::a_book(r, 5);
+        let (list, pairs) = (book.bytes(), book.pairs(r, 9));
+        let spreads = if r.one_in(3) { feed::file(&pairs) } else { feed::damaged_spreads(r, &book, &pairs) };
+        let header = reference::header(&list).unwrap();
+        let spread_header = reference::spread_header(&header, &spreads);
+        let whole = matches!(&spread_header, Some(h) if reference::pairs_sound(&list, &header, &spreads, h));
+        let both = [&(list.len() as u16).to_be_bytes()[..], &list, &spreads].concat();
+        asked.ask(b'X', &both, format!("sound {whole} header {}", spread_header.is_some()), "spread lists");
+        let none: Vec<(u8, Vec<feed::Pair>)> = pairs.iter().map(|(letter, _)| (*letter, vec![])).collect();
+        let empty = feed::file(&none);
+        let sent = reference::sum_by_bits(&empty);
+        asked.ask(b'Z', &list, format!("size {} sum {} {}", empty.len(), sent[0], sent[1]), "no spreads");
+        for (i, (letter, listed)) in pairs.iter().enumerate() {
+            let pair = feed::pair(&book.a_key(r, *letter), &book.a_key(r, *letter));
+            let place = listed.iter().position(|p| *p == pair).map_or("nowhere".into(), |k| format!("place {k}"));
+            asked.ask(b'V', &[&[*letter], &pair[..], &feed::file(&pairs)].concat(), format!("segment {i} {place}"), "pairs");
+        }
+    }
+}
+
 // ---- the gap row, against a set of missing numbers
 
 struct Gaps {
@@ -391,6 +415,7 @@ fn all_asked(seed: u64, times: usize) -> Asked {
     let mut asked = Asked { asks: vec![], lines: vec![], checks: vec![] };
     sums_and_numbers(&mut asked, &mut r, 100_000 * times);
     lists(&mut asked, &mut r, 1_000 * times);
+    spreads(&mut asked, &mut r, 1_000 * times);
     sequences(&mut asked, &mut r, 100 * times);
     rows_back(&mut asked, &mut r, 2_000 * times);
     rows(&mut asked, &mut r, 2_000 * times);

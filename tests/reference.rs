@@ -3,8 +3,10 @@
 #![allow(dead_code)] // each test uses a part
 
 use std::cmp::Ordering;
+use std::ops::RangeInclusive;
 
 pub const KEY: usize = 39;
+pub const PAIR: usize = 2 * KEY;
 pub const GAP_ROW: usize = 132;
 pub const RUNS: usize = 4; // where a gap row's runs begin
 pub const MOST_RUNS: usize = 64;
@@ -321,38 +323,60 @@ fn four(bytes: &[u8], at: usize) -> u32 {
     u32::from_be_bytes([bytes[at], bytes[at + 1], bytes[at + 2], bytes[at + 3]])
 }
 
-// All of the list but its bodies, which are not looked at after start.
-pub fn header(list: &[u8]) -> Option<Header> {
-    if list.len() < 2 {
+// A house file but its bodies: keys of so many bytes, and so many of them a segment.
+fn contents(file: &[u8], key: usize, counts: RangeInclusive<usize>) -> Option<Header> {
+    if file.len() < 2 {
         return None;
     }
-    let number = two(list, 0);
+    let number = two(file, 0);
     let mut next = 2 + 8 * number;
-    if !(1..=2).contains(&number) || list.len() < next {
+    if !(1..=2).contains(&number) || file.len() < next {
         return None;
     }
     let mut all = [Segment { letter: 0, count: 0, offset: 0 }; 2];
     for i in 0..number {
         let at = 2 + 8 * i;
-        let (letter, zero, count, offset) = (list[at], list[at + 1], two(list, at + 2), four(list, at + 4) as usize);
+        let (letter, zero, count, offset) = (file[at], file[at + 1], two(file, at + 2), four(file, at + 4) as usize);
         let ascends = i == 0 || letter > all[i - 1].letter;
-        if !matches!(letter, b'D' | b'T') || !ascends || zero != 0 || !(1..=4096).contains(&count) || offset != next {
+        if !matches!(letter, b'D' | b'T') || !ascends || zero != 0 || !counts.contains(&count) || offset != next {
             return None;
         }
         all[i] = Segment { letter, count, offset };
-        next += KEY * count;
+        next += key * count;
     }
-    if list.len() == next { Some(Header { number, all }) } else { None }
+    if file.len() == next { Some(Header { number, all }) } else { None }
+}
+
+// All of the list but its bodies, which are not looked at after start.
+pub fn header(list: &[u8]) -> Option<Header> {
+    contents(list, KEY, 1..=4096)
 }
 
 fn body<'a>(list: &'a [u8], segment: &Segment) -> &'a [u8] {
     &list[segment.offset..segment.offset + KEY * segment.count]
 }
 
+fn sound_keys(body: &[u8], key: usize) -> bool {
+    let keys: Vec<&[u8]> = body.chunks(key).collect();
+    keys.iter().all(|key| key.iter().all(|b| (32..=126).contains(b))) && keys.windows(2).all(|w| w[0] < w[1])
+}
+
 pub fn bodies_sound(list: &[u8], header: &Header) -> bool {
-    header.segments().iter().all(|segment| {
-        let keys: Vec<&[u8]> = body(list, segment).chunks(KEY).collect();
-        keys.iter().all(|key| key.iter().all(|b| (32..=126).contains(b))) && keys.windows(2).all(|w| w[0] < w[1])
+    header.segments().iter().all(|segment| sound_keys(body(list, segment), KEY))
+}
+
+// All of the spread list but its pairs, beside a contract list.
+pub fn spread_header(list: &Header, spreads: &[u8]) -> Option<Header> {
+    let letters = |h: &Header| h.segments().iter().map(|s| s.letter).collect::<Vec<u8>>();
+    contents(spreads, PAIR, 0..=1024).filter(|h| letters(h) == letters(list))
+}
+
+// The pairs of a spread list whose header is sound: each half is a key of its segment.
+pub fn pairs_sound(list: &[u8], header: &Header, spreads: &[u8], spread_header: &Header) -> bool {
+    spread_header.segments().iter().zip(header.segments()).all(|(pairs, contracts)| {
+        let body = &spreads[pairs.offset..pairs.offset + PAIR * pairs.count];
+        let listed: Vec<&[u8]> = self::body(list, contracts).chunks(KEY).collect();
+        sound_keys(body, PAIR) && body.chunks(KEY).all(|half| listed.contains(&half))
     })
 }
 

@@ -1,33 +1,62 @@
-// The contract list, and keys looked up in it.
+// The contract list, the spread list beside it, and keys looked up in them.
+use crate::leaves;
 use crate::say::say;
 use crate::say::say_bool;
 use crate::say::say_with;
+use contracts::CONTRACTS;
 use contracts::Found;
+use contracts::Habit;
 
 pub fn say_list(list: &[u8]) {
-    say_bool(b"sound ", contracts::sound(list, contracts::CONTRACTS));
-    say_bool(
-        b" header ",
-        contracts::header_sound(list, contracts::CONTRACTS),
-    );
+    say_bool(b"sound ", contracts::sound(list, CONTRACTS));
+    say_bool(b" header ", contracts::header_sound(list, CONTRACTS));
 }
 
-fn say_place(list: &[u8], segment: usize, key: &[u8]) {
+fn say_beside(list: &[u8], spreads: &[u8]) {
+    say_bool(b"sound ", contracts::spreads_sound(list, spreads));
+    say_bool(b" header ", contracts::spread_header_sound(list, spreads));
+}
+
+// What is asked has two bytes for the size of the contract list, that list and the spread list.
+pub fn say_spreads(asked: &[u8]) {
+    if asked.len() < 2 {
+        return;
+    }
+    let size = wire::u16_at(asked, 0) as usize;
+    let lists = &asked[2..];
+    if size <= lists.len() {
+        say_beside(&lists[0..size], &lists[size..]);
+    }
+}
+
+// The size of the spread list without pairs, and its sum.
+pub fn say_no_spreads(list: &[u8], room: &mut [u8]) {
+    let size = contracts::no_spreads_size(list);
+    contracts::put_no_spreads(list, room);
+    if size <= room.len() {
+        say_with(b"size ", size as u64);
+        say(b" sum ");
+        leaves::say_sum(&room[0..size]);
+    }
+}
+
+fn say_place(list: &[u8], habit: Habit, segment: usize, key: &[u8]) {
     say_with(b"segment ", segment as u64);
-    match contracts::place_of(list, contracts::CONTRACTS, segment, key) {
+    match contracts::place_of(list, habit, segment, key) {
         Found::Nowhere => say(b" nowhere"),
         Found::At(place) => say_with(b" place ", place as u64),
     }
 }
 
-// What is asked has a letter, a key of 39 bytes and the list.
-pub fn say_key(asked: &[u8]) {
-    if asked.len() < 40 {
+// What is asked has a letter, a key of the habit's size and the list.
+pub fn say_key(asked: &[u8], habit: Habit) {
+    let end = 1 + habit.key as usize;
+    if asked.len() < end {
         return;
     }
-    let list = &asked[40..];
+    let list = &asked[end..];
     match contracts::segment_of(list, asked[0]) {
         Found::Nowhere => say(b"nowhere"),
-        Found::At(segment) => say_place(list, segment, &asked[1..40]),
+        Found::At(segment) => say_place(list, habit, segment, &asked[1..end]),
     }
 }

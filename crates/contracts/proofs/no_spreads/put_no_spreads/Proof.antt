@@ -60,11 +60,12 @@ loop-again c =
     let at = turn .before .loop in
     let size = turn .before .before .before .before .before .before in
     let l = now (size .before .before .before .before .args .list) in
-    let entry = ap₂ emptyEntry (put .before .letter-at .ensures) (size .no-spreads-size .ensures) in
-    (omega arith,
+    let entry = ap₂ emptyEntry (put .before .letter-at .ensures) (size .no-spreads-size .ensures) in (
+      omega arith,
       put .put-empty-entry .ensures
-      ∙ ap₂ (λ (s e : List ℕ). sets s (entryAt (at .i)) e) (at .inv .1) entry
-      ∙ entries-next l (turn .before .before .before .before .put-u16 .last .0) (at .i))
+          ∙ ap₂ (λ (s e : List ℕ). sets s (entryAt (at .i)) e) (at .inv .1) entry
+          ∙ entries-next l (turn .before .before .before .before .put-u16 .last .0) (at .i),
+    )
 
 -- behind the loop
 put : (c : tie.After-loop Inv-loop μ-loop) → let a = c .before .before .before .before .before .before .before .before .before .before .args in

@@ -1,11 +1,9 @@
 -- `contracts::check::key_of` meets its contract: the numbers of a list are too small for a place to overflow.
-use Prim.Native.Nat.{ℕ, _+_, _*_, _<_}
-use mathlib.Core.Path.{ap, _∙_}
+use Prim.Native.Nat.{ℕ, _<_}
 use native.Mathlib.Omega.{arith}
 use borrow.Author.Needs.{needs}
 use lib.ListN.{getD}
 use denote.Ref.{now}
-use Rattle.contracts.specs.File.{keyFrom}
 use Rattle.contracts.specs.FileLaws.{count-under, offset-under}
 use Rattle.contracts.proofs.check.key_of.Statement.{statement}
 use Rattle.contracts.proofs.check.key_of.Tie as tie
@@ -18,9 +16,7 @@ key-in-requires c κs =
     (omega (arith, offset-under l byte (a .segment)), omega (arith, count-under l byte (a .segment)))
 
 returns : tie.Need-returns
-returns c =
-    let a = c .before .before .before .args in
-    c .key-in .ensures ∙ ap (λ (o : ℕ). keyFrom (a .habit .key) (now (a .list)) (o + a .habit .key * a .place)) (c .before .offset-at .ensures)
+returns c = rw (← c .before .offset-at .ensures) (c .key-in .ensures)
 
 pub key-of-spec : {M : Type 1} → statement M
 key-of-spec =

@@ -1,5 +1,5 @@
 -- `contracts::no_spreads::no_spreads_size` meets its contract: a list has less than 65,536 segments.
-use Prim.Native.Nat.{ℕ, _<_}
+use Prim.Native.Nat.{_<_}
 use native.Mathlib.Omega.{arith}
 use borrow.Author.Needs.{needs}
 use denote.Ref.{now}

@@ -9,9 +9,9 @@ use lib.ListN.{length}
 use lib.Seq.{sets, length-sets}
 use denote.Ref.{now}
 use Rattle.wire.specs.Number.{bytesOf}
-use Rattle.contracts.specs.File.{segmentsOf, entryAt}
+use Rattle.contracts.specs.File.{segmentsOf}
 use Rattle.contracts.specs.FileLaws.{segments-under}
-use Rattle.contracts.specs.NoSpreads.{emptyEntry, emptyEntries, noSpreads}
+use Rattle.contracts.specs.NoSpreads.{emptyEntries, noSpreads}
 use Rattle.contracts.specs.NoSpreadsLaws.{entries-next}
 use Rattle.contracts.proofs.no_spreads.put_no_spreads.Statement.{statement}
 use Rattle.contracts.proofs.no_spreads.put_no_spreads.Tie as tie
@@ -60,12 +60,7 @@ loop-again c =
     let at = turn .before .loop in
     let size = turn .before .before .before .before .before .before in
     let l = now (size .before .before .before .before .args .list) in
-    let entry = ap₂ emptyEntry (put .before .letter-at .ensures) (size .no-spreads-size .ensures) in (
-      omega arith,
-      put .put-empty-entry .ensures
-          ∙ ap₂ (λ (s e : List ℕ). sets s (entryAt (at .i)) e) (at .inv .1) entry
-          ∙ entries-next l (turn .before .before .before .before .put-u16 .last .0) (at .i),
-    )
+    (omega arith, rw (← entries-next l (turn .before .before .before .before .put-u16 .last .0) (at .i), ← at .inv .1, ← put .before .letter-at .ensures, ← size .no-spreads-size .ensures) (put .put-empty-entry .ensures))
 
 -- behind the loop
 put : (c : tie.After-loop Inv-loop μ-loop) → let a = c .before .before .before .before .before .before .before .before .before .before .args in

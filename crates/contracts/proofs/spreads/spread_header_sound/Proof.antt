@@ -1,7 +1,7 @@
 -- `contracts::spreads::spread_header_sound` meets its contract: letters are compared where the header is sound and the numbers of
 -- segments are the same.
 use Prim.Native.Nat.{ℕ}
-use mathlib.Core.Path.{_≡_, _∙_}
+use mathlib.Core.Path.{_≡_, ap₂, sym, _∙_}
 use mathlib.Core.Bool.{Bool, _&&_}
 use mathlib.Core.List.{List}
 use borrow.Author.Needs.{needs}
@@ -21,7 +21,7 @@ fits list spreads = headerSoundBy pairs spreads && eqb (segmentsOf spreads) (seg
 tested : (c : tie.After-segments2)
     → fits (now (c .before .before .before .before .before .args .list)) (now (c .before .before .before .before .before .args .spreads))
     ≡ c .before .before .header-sound .result && eqb (c .before .segments .result) (c .segments2 .result)
-tested c = cc
+tested c = sym (ap₂ _&&_ (c .before .before .header-sound .ensures) (ap₂ eqb (c .before .segments .ensures) (c .segments2 .ensures)))
 
 returns : tie.Need-returns
 unfolding spreadHeaderSound

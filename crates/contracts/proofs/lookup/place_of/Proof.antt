@@ -1,6 +1,6 @@
 -- `contracts::lookup::place_of` meets its contract. The loop's invariant: halving the keys that are left finds what halving
 -- all of them finds. The keys left are among all, so that no place overflows.
-use Prim.Native.Nat.{ℕ, _+_, _-_, _/_, _^_, _≤_, _<_}
+use Prim.Native.Nat.{ℕ, _+_, _-_, _*_, _/_, _^_, _≤_, _<_}
 use mathlib.Core.Path.{_≡_, sym, ap, _∙_}
 use native.Mathlib.Omega.{arith}
 use borrow.Author.Needs.{needs}
@@ -9,10 +9,11 @@ use denote.Ref.{now}
 use Rattle.laws.specs.Refused.{contractNo}
 use Rattle.contracts.specs.declared.key.Stands.{Stands}
 use Rattle.contracts.specs.Answers.{lookedUp}
-use Rattle.contracts.specs.File.{countAt}
+use Rattle.contracts.specs.File.{countAt, offsetAt, keyFrom}
 use Rattle.contracts.specs.FileLaws.{count-under, offset-under}
 use Rattle.contracts.specs.Halving.{Halved, halvedFrom}
 use Rattle.contracts.specs.HalvingLaws.{none-left, match-stops, goes-below, goes-above}
+use Rattle.contracts.specs.Keys.{orderOf}
 use Rattle.contracts.specs.Lookup.{lookup, standsTo}
 use Rattle.contracts.proofs.lookup.place_of.Statement.{statement}
 use Rattle.contracts.proofs.lookup.place_of.Tie as tie
@@ -45,8 +46,12 @@ sought c =
 
 stands : (c : tie.After-order-of Inv-loop μ-loop) → sought c (middle c) ≡ c .order-of .result
 stands c =
-    let offset = c .before .before .before .before .before .offset-at .ensures in
-    rw (← offset, ← c .before .key-in .ensures) (sym (c .order-of .ensures))
+    let a = c .before .before .before .before .before .before .before .before .args in
+    let size = a .habit .key in
+    let key : keyFrom size (now (a .list)) (offsetAt (now (a .list)) (a .segment) + size * middle c) ≡ now (c .before .key-in .result) =
+    ap (λ (o : ℕ). keyFrom size (now (a .list)) (o + size * middle c)) (sym (c .before .before .before .before .before .offset-at .ensures))
+    ∙ sym (c .before .key-in .ensures) in
+    ap (orderOf (now (a .wanted))) key ∙ sym (c .order-of .ensures)
 
 loop-holds : tie.Need-loop-holds Inv-loop μ-loop
 unfolding lookup

@@ -73,8 +73,8 @@ module _ (row : Row) (key : List ℕ) (cell : ℕ) (kind : Kind) (before : List 
     puts-none e p = rw (is-number, e, ← fits) p
 
     pub puts-amount : {put : Put} {answer : RowPut} {after : List ℕ} → rowPutNumber answer ≡ putNumber put → (n : ℕ) → heldIn cell ≡ Units n
-        → Wrote (writtenAs kind (length before) n) before put after → PutsRow (rowText row key cell) before answer after
-    puts-amount same n e p = rw (is-number, e, ← fits) (put-number (writtenAs kind (length before) n) same p)
+        → Wrote (writtenAs kind (length before) false n) before put after → PutsRow (rowText row key cell) before answer after
+    puts-amount same n e p = rw (is-number, e, ← fits) (put-number (writtenAs kind (length before) false n) same p)
 
 -- ---- what one row's answer tells of its text
 

@@ -8,7 +8,7 @@ use lib.ListN.{take, drop}
 use lib.Seq.{sets}
 use Rattle.wire.specs.Number.{numberAt}
 use Rattle.scan.specs.declared.Number.{Number}
-use Rattle.scan.specs.declared.Number.the-variants.{None, Amount, Malformed, OutOfRange}
+use Rattle.scan.specs.declared.Number.the-variants.{None, Amount, Below, Malformed, OutOfRange}
 use Rattle.layout.specs.declared.cells.Held.the-variants.{Nothing, Units}
 use Rattle.forms.specs.declared.rows.Row.{Row}
 use Rattle.forms.specs.declared.rows.Row.the-variants.{Key, MarketType, Status, Price, Quantity, Turnover}
@@ -23,10 +23,12 @@ use Rattle.forms.specs.Rows.{widthOf}
 use Rattle.layout.specs.Answers.{verdictNumbers}
 use Rattle.layout.specs.Cells.{cellOf}
 
--- 01, the table's rows 11 and 12: a number's cell, where the text is one
+-- 01, the table's rows 11 and 12: a number's cell, where the text is one. No row's kind has a sign, so that none is below zero
+-- (`never-below`)
 abbrev pub ofNumber : Number → RowRead
 ofNumber None = Cell (cellOf Nothing)
 ofNumber (Amount units) = Cell (cellOf (Units units))
+ofNumber (Below units) = Range
 ofNumber Malformed = Field
 ofNumber OutOfRange = Range
 

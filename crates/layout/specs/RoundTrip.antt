@@ -1,7 +1,7 @@
 -- What is written reads back: the cells are those that were written, and the key stands in front.
 use Prim.Native.Nat.{ℕ, suc, _+_, _≤_, _<_}
 use mathlib.Core.Path.{_≡_, refl, ap, sym, _∙_}
-use mathlib.Core.Bool.{Bool, true, and-eq-true-iff}
+use mathlib.Core.Bool.{Bool, true, false, and-eq-true-iff}
 use mathlib.Core.List.{List, [], _∷_, _++_}
 use native.Mathlib.Omega.{arith}
 use lib.ListN.{length, getD, take, drop, length-drop}
@@ -47,7 +47,7 @@ number-back : (kind : Kind) (width : ℕ) (held : Held) {t : List ℕ} → heldT
 number-back kind width Nothing {t} e =
     let same : t ≡ blankText width = cc in
     rw (same, none-reads-back kind width)
-number-back kind width (Units n) {t} e = rw (reads-back kind width n t (filled-is _ e))
+number-back kind width (Units n) {t} e = rw (reads-back kind width false n t (filled-is _ e))
 
 row-back : (row : Row) (key : List ℕ) (cell : ℕ) {t : List ℕ} → rowText row key cell ≡ text t → readRow row t ≡ Cell (seenCell row cell)
 unfolding rowText readRow

@@ -65,7 +65,7 @@ number-width : (kind : Kind) (width : ℕ) (held : Held) {t : List ℕ} → held
 number-width kind width Nothing {t} e =
     let same : t ≡ blankText width = cc in
     rw same (length-replicate width space)
-number-width kind width (Units n) {t} e = fills-right kind width n t (filled-is _ e) .full
+number-width kind width (Units n) {t} e = fills-right kind width false n t (filled-is _ e) .full
 
 pub text-width : (row : Row) (key : List ℕ) (cell : ℕ) {t : List ℕ} → rowText row key cell ≡ text t → length t ≡ widthOf row
 unfolding rowText
@@ -83,7 +83,7 @@ number-held : (kind : Kind) (width : ℕ) (held : Held) {t : List ℕ} → kind 
     → cellOf held ≡ none - 1 → ⊥
 number-held kind width Nothing small e h = omega arith
 number-held kind width (Units n) {t} small e h =
-    let most : n ≤ kind .most = fills-right kind width n t (filled-is _ e) .small in
+    let most : n ≤ kind .most = fills-right kind width false n t (filled-is _ e) .small in
     omega (arith, amount-cell n (omega arith))
 
 letter-held : (taken : ℕ → Bool) → ((byte : ℕ) → taken byte ≡ true → byte < 256) → (cell : ℕ) {t : List ℕ} → letterText taken cell ≡ text t

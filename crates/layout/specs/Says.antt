@@ -1,6 +1,7 @@
 -- The field of a row, and what it says, in the paper's words: 01 "The message", "Numbers in text", and the table's rows 11 and 12.
 use Prim.Native.Nat.{ℕ, _≤_}
 use mathlib.Core.Path.{_≡_}
+use mathlib.Core.Bool.{false}
 use mathlib.Core.List.{List}
 use mathlib.Core.Logic.{_⊎_}
 use Rattle.wire.specs.Number.{numberAt}
@@ -37,9 +38,9 @@ IsStatus letter = (letter ≡ 83) ⊎ (letter ≡ 32)
 -- 01 "Numbers in text" and the table's rows 11 and 12: "none" where the field is all spaces; the amount that its text denotes, where
 -- that is in range; 11 where it has not the shape; 12 where it is too fine or too large
 abbrev pub NumberSays : Kind → List ℕ → RowRead → Type 0
-NumberSays kind field (Cell cell) = (AllSpaces field × (cell ≡ none)) ⊎ (Denotes (kind .places) field cell × (cell ≤ kind .most))
-NumberSays kind field Field = (AllSpaces field → ⊥) × (Shape (kind .places) field → ⊥)
-NumberSays kind field Range = (s : Shape (kind .places) field) × Beyond kind s
+NumberSays kind field (Cell cell) = (AllSpaces field × (cell ≡ none)) ⊎ (Denotes kind field false cell × (cell ≤ kind .most))
+NumberSays kind field Field = (AllSpaces field → ⊥) × (Shape kind field → ⊥)
+NumberSays kind field Range = (s : Shape kind field) × Beyond kind s
 
 -- 01 "The message": what one row's field says; a key's text is only looked up, and its cell is 0
 abbrev pub RowSays : Row → List ℕ → RowRead → Type 0

@@ -12,10 +12,10 @@ use Rattle.laws.specs.Tests.{eqb-is, or-is}
 use Rattle.decimal.specs.declared.Kind.{Kind}
 use Rattle.decimal.specs.Kinds.{price, quantity, turnover}
 use Rattle.scan.specs.declared.Number.{Number}
-use Rattle.scan.specs.declared.Number.the-variants.{None, Amount, Malformed, OutOfRange}
+use Rattle.scan.specs.declared.Number.the-variants.{None, Amount, Below, Malformed, OutOfRange}
 use Rattle.scan.specs.Answers.{Says}
 use Rattle.scan.specs.Read.{readAs}
-use Rattle.scan.specs.ReadLaws.{reads-exactly}
+use Rattle.scan.specs.ReadLaws.{reads-exactly, never-below}
 use Rattle.forms.specs.declared.rows.Row.{Row}
 use Rattle.forms.specs.declared.rows.Row.the-variants.{Key, MarketType, Status, Price, Quantity, Turnover}
 use Rattle.layout.specs.declared.cells.Held.the-variants.{Units}
@@ -42,13 +42,14 @@ module _ (taken : ℕ → Bool) (Takes : ℕ → Type 0) (is : (letter : ℕ) �
 
 -- ---- a number
 
-module _ (kind : Kind) (small : kind .most < none) (field : List ℕ) where
+module _ (kind : Kind) (small : kind .most < none) (plain : kind .signed ≡ false) (field : List ℕ) where
   own-cell : (n : ℕ) → n ≤ kind .most → cellOf (Units n) ≡ n
   own-cell n h = rw (ne-eqb n none (λ e. absurd (omega arith)))
 
   number-says : (r : Number) → Says kind field r → NumberSays kind field (ofNumber r)
   number-says None h = inl (h, refl)
   number-says (Amount n) h = rw (own-cell n (h .1)) (inr h)
+  number-says (Below n) h = absurd (never-below kind field plain n (reads-exactly kind field (Below n) .1 h))
   number-says Malformed h = h
   number-says OutOfRange h = h
 
@@ -74,6 +75,6 @@ unfolding readRow
 row-exactly (Key width) field answer = key-exactly width field answer
 row-exactly MarketType field answer = letter-exactly isMarketType IsMarketType (λ b. eqb-is b 78) (letterIn field) answer
 row-exactly Status field answer = letter-exactly isStatus IsStatus (λ b. or-is (eqb-is b 83) (eqb-is b 32)) (letterIn field) answer
-row-exactly (Price width) field answer = number-exactly price (lit< tt) field answer
-row-exactly (Quantity width) field answer = number-exactly quantity (lit< tt) field answer
-row-exactly (Turnover width) field answer = number-exactly turnover (lit< tt) field answer
+row-exactly (Price width) field answer = number-exactly price (lit< tt) refl field answer
+row-exactly (Quantity width) field answer = number-exactly quantity (lit< tt) refl field answer
+row-exactly (Turnover width) field answer = number-exactly turnover (lit< tt) refl field answer

@@ -1,7 +1,7 @@
 -- Writing cells into the data of an update: 01 "Numbers in text", and the writer's order of checks: 11 and 12 by row.
 use Prim.Native.Nat.{ℕ, suc}
 use mathlib.Core.Path.{_≡_}
-use mathlib.Core.Bool.{Bool, cond, _&&_}
+use mathlib.Core.Bool.{Bool, false, cond, _&&_}
 use mathlib.Core.List.{List, [], _∷_, _++_}
 use lib.Dec.{leb}
 use lib.ListN.{length, getD, take, drop}
@@ -44,7 +44,7 @@ ofWritten refused = out-of-range
 -- 01 "Numbers in text": a number, as its kind is written: "none" is all spaces
 abbrev pub heldText : Kind → ℕ → Held → RowText
 heldText kind width Nothing = text (blankText width)
-heldText kind width (Units n) = ofWritten (writtenAs kind width n)
+heldText kind width (Units n) = ofWritten (writtenAs kind width false n)
 
 -- 01 "The message": the text of one row: from what is left of the key, or from the row's cell
 unfoldable pub rowText : Row → List ℕ → ℕ → RowText

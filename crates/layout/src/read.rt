@@ -35,6 +35,8 @@ fn of_number(number: Number) -> RowRead
     match number {
         Number::None => RowRead::Cell(cells::cell_of(Held::Nothing)),
         Number::Amount(units) => RowRead::Cell(cells::cell_of(Held::Units(units))),
+        // No row's kind has a sign.
+        Number::Below(_) => RowRead::Range,
         Number::Malformed => RowRead::Field,
         Number::OutOfRange => RowRead::Range,
     }

@@ -2,7 +2,7 @@
 -- 4.5, 003 sections 4.5 and 4.6.
 use Prim.Native.Nat.{ℕ, _≤_, _<_}
 use mathlib.Core.Path.{_≡_}
-use mathlib.Core.Bool.{cond}
+use mathlib.Core.Bool.{false, cond}
 use mathlib.Core.List.{List, [], _∷_}
 use mathlib.Core.Logic.{_↔_}
 use mathlib.Core.Option.{Option, none, some}
@@ -57,7 +57,7 @@ fieldNamed (row ∷ rows) bytes name =
 -- demand 2: "Each number is the exact decimal in its field", and 01 "Numbers in text": "All spaces means 'none'"
 pub record ShowsNumber (kind : Kind) (field : List ℕ) (held : Held) : Type 0 where
   pub none-exactly : held ≡ Nothing ↔ AllSpaces field
-  pub exact-decimal : (n : ℕ) → held ≡ Units n → Denotes (kind .places) field n
+  pub exact-decimal : (n : ℕ) → held ≡ Units n → Denotes kind field false n
   pub in-range : (n : ℕ) → held ≡ Units n → n ≤ kind .most
 
 -- 01 "The message": what the form has no field for is "none"

@@ -1,5 +1,6 @@
 -- What the writer refuses row by row, in the terms of the key and the quote: 01, the table's rows 11 and 12.
 use Prim.Native.Nat.{ℕ, _<_}
+use mathlib.Core.Bool.{false}
 use mathlib.Core.Path.{_≡_}
 use mathlib.Core.Logic.{_⊎_}
 use mathlib.Core.List.{List}
@@ -75,7 +76,7 @@ Malformed (Turnover width) part value = ⊥
 -- 01, the table's row 12: over the largest amount, or no text of the field's width denotes it; "none" always can be written
 abbrev pub Unwritable : Kind → ℕ → Held → Type 0
 Unwritable kind width Nothing = ⊥
-Unwritable kind width (Units n) = (kind .most < n) ⊎ NoText (kind .places) width n
+Unwritable kind width (Units n) = (kind .most < n) ⊎ NoText kind width false n
 
 -- 01, the table's row 12: only a number can be out of range, each by its kind
 abbrev pub OutOfRange : Row → Value → Type 0

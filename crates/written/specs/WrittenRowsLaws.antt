@@ -125,11 +125,11 @@ well-formed refused e = omega arith
 module _ (kind : Kind) (width : ℕ) where
   held-exact : (held : Held) → writeRefusal (heldText kind width held) ≡ 12 ↔ Unwritable kind width held
   held-exact Nothing = ((λ e. omega arith), (λ e. absurd e))
-  held-exact (Units n) = Iff·trans (of-written (writtenAs kind width n)) (refuses kind width n)
+  held-exact (Units n) = Iff·trans (of-written (writtenAs kind width false n)) (refuses kind width false n)
 
   held-formed : (held : Held) → writeRefusal (heldText kind width held) ≡ 11 → ⊥
   held-formed Nothing e = omega arith
-  held-formed (Units n) e = well-formed (writtenAs kind width n) e
+  held-formed (Units n) e = well-formed (writtenAs kind width false n) e
 
   -- the one amount that no cell holds is as far out of range as the one that its cell holds
   held-kept : kind .most < none - 1 → (held : Held) → Unwritable kind width (heldIn (cellOf held)) ↔ Unwritable kind width held

@@ -1,5 +1,6 @@
 -- Every number of a written message stands in its field as the shortest text.
 use Prim.Native.Nat.{ℕ, zero, suc, _+_, _-_, _≤_, _<_}
+use mathlib.Core.Bool.{false}
 use mathlib.Core.Path.{_≡_, refl, ap, ap₂, sym, _∙_}
 use mathlib.Core.Logic.{⊎-elim}
 use mathlib.Core.List.{List, [], _∷_, _++_}
@@ -46,25 +47,25 @@ apart : {characters : List ℕ} → refused ≡ filled characters → ⊥
 apart e = let z : _≡_ {A = ℕ} 0 1 = cc in omega arith
 
 -- what fills a field is the shortest text behind spaces
-module _ (kind : Kind) (width n : ℕ) (field : List ℕ) (e : writtenAs kind width n ≡ filled field) where
+module _ (kind : Kind) (width n : ℕ) (field : List ℕ) (e : writtenAs kind width false n ≡ filled field) where
   abbrev own : List ℕ
   own = textOf (kind .places) n
 
   filled-is : field ≡ spaced width own
   filled-is =
-      let right = fills-right kind width n field e in
+      let right = fills-right kind width false n field e in
       ⊎-elim (λ (room : length own ≤ width).
-      let same : filled field ≡ filled (spaced width own) = sym e ∙ within kind width n (right .small) ∙ fitting width own room in cc)
-      (λ (none : width < length own). absurd (apart (sym (within kind width n (right .small) ∙ narrow width own none) ∙ e)))
+      let same : filled field ≡ filled (spaced width own) = sym e ∙ within kind width false n refl (right .small) ∙ fitting width own room in cc)
+      (λ (none : width < length own). absurd (apart (sym (within kind width false n refl (right .small) ∙ narrow width own none) ∙ e)))
       (order (length own) width)
 
-  pub filled-shortest : Shortest (kind .places) n field
+  pub filled-shortest : Shortest kind n field
   filled-shortest =
       record {
         spaces = width - length own;
         characters = own;
         laid-out = filled-is;
-        means = fills-right kind width n field e .means;
+        means = fills-right kind width false n field e .means;
         no-shorter = λ other d. shortest d;
       }
 
@@ -105,7 +106,7 @@ number-field : (kind : Kind) (width : ℕ) (held : Held) (field : List ℕ) → 
 number-field kind width Nothing field e =
     let same : field ≡ blankText width = cc in
     rw same (none-spaces width)
-number-field kind width (Units n) field e = filled-shortest kind width n field (text-filled (writtenAs kind width n) e)
+number-field kind width (Units n) field e = filled-shortest kind width n field (text-filled (writtenAs kind width false n) e)
 
 row-number : (row : Row) (part : List ℕ) (value : Value) (field : List ℕ) → rowText row part (cellIn value) ≡ text field → NumberField row (heldOf value) field
 unfolding rowText

@@ -15,4 +15,4 @@ returns-2 c = rw (c .before .before .number .given .1) (ap (λ (cell : ℕ). row
 
 pub of-number-spec : {M : Type 1} → statement M
 of-number-spec =
-    tie.close (tie.spec (search needs) (search needs) (search needs) (search needs) (search needs) (search needs) returns returns-2 (λ c. search needs) (λ c. search needs))
+    tie.close (tie.spec (search needs) (search needs) (search needs) (search needs) (search needs) (search needs) (search needs) returns returns-2 (λ c. search needs) (λ c. search needs) (λ c. search needs))

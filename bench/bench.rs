@@ -11,8 +11,9 @@ mod random;
 mod reference;
 
 use feed::Book;
+use library::Lists;
 use random::Random;
-use reference::{Sum, GAP_ROW, RECORD};
+use reference::{Form, Sum, GAP_ROW, RECORD, SPREAD_RECORD};
 use std::ptr;
 use std::time::Instant;
 
@@ -35,6 +36,7 @@ fn unknown<T: Copy>(value: T) -> T {
     unsafe { ptr::read_volatile(&value) }
 }
 
+#[derive(Clone)]
 struct Memory {
     rows: Vec<u32>,
     records: Vec<u64>,
@@ -45,43 +47,47 @@ fn told(result: Result<reference::Counts, reference::Refusal>) -> Answered {
 }
 
 impl Box {
-    fn judge(self, list: &[u8], memory: &mut Memory, batch: &[u8]) -> Answered {
+    fn judge(self, lists: Lists, memory: &mut Memory, batch: &[u8]) -> Answered {
         let (rows, records) = (&memory.rows, &memory.records);
         match self {
-            Box::Ours => library::judge(list, rows, records, batch),
-            Box::Independent(sum) => told(reference::judge(sum, list, rows, records, batch)),
+            Box::Ours => lists.judge(rows, records, batch),
+            Box::Independent(sum) => told(reference::judge(sum, lists.list, lists.spreads, rows, records, batch)),
         }
     }
 
-    fn take(self, list: &[u8], memory: &mut Memory, batch: &[u8]) -> Answered {
+    fn take(self, lists: Lists, memory: &mut Memory, batch: &[u8]) -> Answered {
         let (rows, records) = (&mut memory.rows, &mut memory.records);
         match self {
-            Box::Ours => library::take(list, rows, records, batch),
-            Box::Independent(sum) => told(reference::take(sum, list, rows, records, batch)),
+            Box::Ours => lists.take(rows, records, batch),
+            Box::Independent(sum) => told(reference::take(sum, lists.list, lists.spreads, rows, records, batch)),
         }
     }
 }
 
 struct Feed {
     list: Vec<u8>,
+    spreads: Vec<u8>,
+    started: Memory,
     batches: Vec<Vec<u8>>,
     messages: usize,
     piece: usize, // batches timed in one piece
 }
 
-// An update as an exchange sends it: every row filled, prices to four places.
-fn an_update(r: &mut Random, level: usize, number: u32, key: &feed::Key) -> Vec<u8> {
-    let rows = &reference::layout(level)[reference::MARKET_TYPE_ROW..];
-    let values: Vec<u64> = rows
+// An update as an exchange sends it: every row filled, prices to four places; of a spread's prices every second one lies below zero.
+fn an_update(r: &mut Random, form: &Form, number: u32, key: &[u8]) -> Vec<u8> {
+    let values: Vec<u64> = form
+        .told()
         .iter()
         .map(|&(row, _)| match row {
             reference::Row::Number(kind) if kind == reference::PRICE => (800_000 + r.below(100_000)) * 1_000,
             reference::Row::Number(_) => 1 + r.below(10_000_000),
+            reference::Row::Difference => reference::difference_cell(r.one_in(2), (1 + r.below(100_000)) * 1_000),
             reference::Row::MarketType => b'N' as u64,
             _ => b' ' as u64,
         })
         .collect();
-    reference::write_message([LETTER, b'N'], level, number, key, &values, usize::MAX).expect("these can be written")
+    let data = reference::write_data(form, key, &values).unwrap_or_else(|_| panic!("these can be written"));
+    feed::sealed([LETTER, form.code], number, &data)
 }
 
 // Late ones come eight behind their place, and one of forty never.
@@ -100,8 +106,8 @@ fn a_mix(r: &mut Random, keys: &[feed::Key]) -> Vec<Vec<u8>> {
         let key = r.pick(keys);
         match r.below(10) {
             0 => messages.extend([feed::sealed([LETTER, b'H'], 0, &[]), feed::sealed([LETTER, b'O'], number, b"N")]),
-            1..=5 => messages.push(an_update(r, 1, number, &key)),
-            _ => messages.push(an_update(r, 2, number, &key)),
+            1..=5 => messages.push(an_update(r, reference::of_contract(1), number, &key)),
+            _ => messages.push(an_update(r, reference::of_contract(2), number, &key)),
         }
     }
     messages
@@ -112,28 +118,48 @@ const LEVEL_2: &str = "level 2";
 const HEARTBEATS: &str = "heartbeats";
 const PASSED_OVER: &str = "passed over, 505 bytes";
 
-// In batches of so many messages.
+// A spread for each contract, as far as a segment may have so many.
+fn pairs(keys: &[feed::Key]) -> Vec<feed::Pair> {
+    let mut r = Random::new(keys.len() as u64 + 1);
+    let mut pairs: Vec<feed::Pair> = vec![];
+    while pairs.len() < keys.len().min(1_024) {
+        pairs.push(feed::pair(&r.pick(keys), &r.pick(keys)));
+        pairs.sort();
+        pairs.dedup();
+    }
+    pairs
+}
+
+// In batches of so many messages. Every feed comes with both lists.
 fn feeds(contracts: usize, batch: usize) -> Vec<(&'static str, Feed)> {
     let mut r = Random::new(contracts as u64);
     let keys = feed::keys(&mut r, contracts);
-    let list = Book { segments: vec![(LETTER, keys.clone())] }.bytes();
+    let pairs = pairs(&keys);
+    let book = Book { segments: vec![(LETTER, keys.clone())], spreads: vec![(LETTER, pairs.clone())] };
     let numbers = || 1..=MESSAGES as u32;
-    let mut updates = |level| -> Vec<Vec<u8>> {
+    let mut updates = |form: &Form| -> Vec<Vec<u8>> {
         let update = |number| {
-            let key = r.pick(&keys);
-            an_update(&mut r, level, number, &key)
+            let key = if form.is_pair() { r.pick(&pairs).to_vec() } else { r.pick(&keys).to_vec() };
+            an_update(&mut r, form, number, &key)
         };
         numbers().map(update).collect()
     };
     let all = [
-        ("level 1", updates(1)),
-        (LEVEL_2, updates(2)),
+        ("level 1", updates(reference::of_contract(1))),
+        (LEVEL_2, updates(reference::of_contract(2))),
+        ("spreads, level 1", updates(reference::of_pair(1))),
+        ("spreads, level 2", updates(reference::of_pair(2))),
         (HEARTBEATS, numbers().map(|_| feed::sealed([LETTER, b'H'], 0, &[])).collect()),
         ("a mix, late and missing", a_mix(&mut r, &keys)),
         (PASSED_OVER, numbers().map(|number| feed::sealed([LETTER, b'B'], number, &[b'x'; 494])).collect()),
     ];
+    let (list, spreads) = (book.bytes(), book.spread_bytes());
+    let mut started = Memory { rows: vec![0; GAP_ROW], records: vec![0; RECORD * contracts + SPREAD_RECORD * pairs.len()] };
+    reference::start(&list, &spreads, &[1], &mut started.rows, &mut started.records).expect("the lists are sound");
     let cut = |messages: Vec<Vec<u8>>| Feed {
         list: list.clone(),
+        spreads: spreads.clone(),
+        started: started.clone(),
         batches: messages.chunks(batch).map(feed::batch).collect(),
         messages: messages.len(),
         piece: PIECE / batch,
@@ -141,24 +167,19 @@ fn feeds(contracts: usize, batch: usize) -> Vec<(&'static str, Feed)> {
     all.into_iter().map(|(name, messages)| (name, cut(messages))).collect()
 }
 
-fn started(feed: &Feed, contracts: usize) -> Memory {
-    let mut memory = Memory { rows: vec![0; GAP_ROW], records: vec![0; RECORD * contracts] };
-    reference::start(&feed.list, &[1], &mut memory.rows, &mut memory.records).expect("the list is sound");
-    memory
-}
-
 // Messages timed in one piece. On a busy machine a process is put aside every few milliseconds: a piece must be much shorter, or
 // the slower box meets that in every round and the faster one in few.
 const PIECE: usize = 256;
 
 // One round: all batches in turn, the nanoseconds of each piece and what was answered.
-fn timed(feed: &Feed, memory: &mut Memory, call: impl Fn(&[u8], &mut Memory, &[u8]) -> Answered) -> (Vec<f64>, Vec<Answered>) {
+fn timed(feed: &Feed, memory: &mut Memory, call: impl Fn(Lists, &mut Memory, &[u8]) -> Answered) -> (Vec<f64>, Vec<Answered>) {
     let mut answers = Vec::with_capacity(feed.batches.len());
     let mut times = vec![];
     for piece in feed.batches.chunks(feed.piece) {
         let begun = Instant::now();
         for batch in piece {
-            answers.push(call(unknown(&feed.list), memory, unknown(batch)));
+            let lists = Lists { list: unknown(&feed.list), spreads: unknown(&feed.spreads) };
+            answers.push(call(lists, memory, unknown(batch)));
         }
         times.push(begun.elapsed().as_nanos() as f64);
     }
@@ -166,17 +187,17 @@ fn timed(feed: &Feed, memory: &mut Memory, call: impl Fn(&[u8], &mut Memory, &[u
 }
 
 // Nanoseconds a message for each box: the best of the rounds for each piece, the boxes in turn so that all meet the same machine.
-fn best(feed: &Feed, contracts: usize, rounds: usize, call: impl Fn(Box, &[u8], &mut Memory, &[u8]) -> Answered) -> [f64; 3] {
+fn best(feed: &Feed, rounds: usize, call: impl Fn(Box, Lists, &mut Memory, &[u8]) -> Answered) -> [f64; 3] {
     let pieces = feed.batches.chunks(feed.piece).len();
     let mut best = [vec![f64::INFINITY; pieces], vec![f64::INFINITY; pieces], vec![f64::INFINITY; pieces]];
     for _ in 0..rounds {
         let mut right = None;
         for (of, best) in BOXES.into_iter().zip(&mut best) {
-            let mut memory = started(feed, contracts);
-            let (times, answers) = timed(feed, &mut memory, |list, memory, batch| call(of, list, memory, batch));
+            let mut memory = feed.started.clone();
+            let (times, answers) = timed(feed, &mut memory, |lists, memory, batch| call(of, lists, memory, batch));
             best.iter_mut().zip(times).for_each(|(best, time)| *best = best.min(time));
             assert!(answers.iter().all(|answer| answer.0 == 0), "a batch is refused");
-            let got = (answers, memory.rows[..feed::live_cells(&memory.rows)].to_vec());
+            let got = (answers, memory.rows[..feed::live_cells(&memory.rows)].to_vec(), memory.records);
             assert!(*right.get_or_insert(got.clone()) == got, "the boxes answer differently");
         }
     }
@@ -205,7 +226,7 @@ fn named<'a, T>(all: &'a [(&str, T)], wanted: &str) -> &'a T {
 
 // The two rows of a feed: judging and taking, ns a message for each box.
 fn shown(name: &str, feed: &Feed, contracts: usize, rounds: usize) -> [[f64; 3]; 2] {
-    let times = [best(feed, contracts, rounds, Box::judge), best(feed, contracts, rounds, Box::take)];
+    let times = [best(feed, rounds, Box::judge), best(feed, rounds, Box::take)];
     CALLS.into_iter().zip(times).for_each(|(what, times)| row(name, contracts, what, times));
     times
 }

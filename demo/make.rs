@@ -1,5 +1,5 @@
-// Makes the feed of the demonstration with the box's own writer, asked through the program `calls`.
-//   make FOLDER PROGRAM...      writes FOLDER/contracts and FOLDER/feed
+// Makes the feed of the demonstration with the box's own writers, asked through the program `calls`.
+//   make FOLDER PROGRAM...      writes FOLDER/contracts, FOLDER/spreads and FOLDER/feed
 #[path = "../tests/asks.rs"]
 mod asks;
 #[path = "../tests/feed.rs"]
@@ -11,8 +11,8 @@ mod random;
 mod reference;
 
 use asks::Ask;
-use feed::{Book, Key};
-use reference::NONE;
+use feed::{Book, Key, Pair};
+use reference::{difference_cell, NONE};
 use std::fs;
 use std::io::Write;
 use std::path::Path;
@@ -20,9 +20,19 @@ use std::process::{Command, Stdio};
 
 const EURO: Key = *b"FUTCUREURINR    27MAR2026            XX";
 const DOLLAR: Key = *b"FUTCURUSDINR    27MAR2026            XX";
+const FAR_DOLLAR: Key = *b"FUTCURUSDINR    28APR2026            XX";
 const DOLLAR_CALL: Key = *b"OPTCURUSDINR    27MAR2026     84.2500CE";
 const CRUDE: Key = *b"FUTCOMCRUDEOIL  19MAR2026            XX";
 const GOLD: Key = *b"FUTCOMGOLD      05APR2026            XX";
+const FAR_GOLD: Key = *b"FUTCOMGOLD      05JUN2026            XX";
+
+fn dollar_roll() -> Pair {
+    feed::pair(&DOLLAR, &FAR_DOLLAR)
+}
+
+fn gold_roll() -> Pair {
+    feed::pair(&GOLD, &FAR_GOLD)
+}
 
 fn price(whole: u64, ten_thousandths: u64) -> u64 {
     whole * 10_000_000 + ten_thousandths * 1_000
@@ -43,17 +53,38 @@ fn update(code: &[u8; 2], level: usize, number: u32, key: Key, (buy, sell, step)
     Ask::Write { code: *code, level, number, key, room: 505, values }
 }
 
+fn difference(units: i64) -> u64 {
+    difference_cell(units < 0, units.unsigned_abs())
+}
+
+// The same of a spread, whose prices are differences: those of a roll into a dearer contract lie below zero.
+fn spread(code: &[u8; 2], level: usize, number: u32, pair: Pair, (buy, sell, step): (i64, i64, i64), orders: i64) -> Ask {
+    let depth = if level == 1 { 1 } else { 5 };
+    let side = |k: i64, price: i64| if k < orders { [difference(price), 10 + 5 * k as u64] } else { [NONE, NONE] };
+    let mut values = vec![];
+    values.extend((0..depth).flat_map(|k| side(k, buy - step * k)));
+    values.extend((0..depth).flat_map(|k| side(k, sell + step * k)));
+    values.extend([difference(buy), 300 + number as u64, difference(sell), difference(sell), difference(buy - step)]);
+    if level == 2 {
+        values.extend([420, 385]);
+    }
+    Ask::WriteSpread { code: *code, level, number, pair, room: 483, values }
+}
+
 fn heartbeat(code: &[u8; 2]) -> Ask {
     Ask::Write { code: *code, level: 1, number: 0, key: EURO, room: 11, values: vec![NONE; 14] }
 }
 
-// A day's beginning on a bad line: number 4 of D comes late and 6 to 8 never, T starts at 3, and one batch is damaged.
+// A day's beginning on a bad line: number 4 of D comes late and 6 to 8 never, T starts at 3, and one batch is damaged. The dollar's roll
+// is quoted about zero, gold's far below it; they come in batches of their own, since the program `gaps` knows no spreads.
 fn batches() -> Vec<Vec<Ask>> {
     let euro = (price(90, 2_525), price(90, 2_550), price(0, 25));
     let dollar = (price(83, 5_000), price(83, 5_025), price(0, 25));
     let call = (price(0, 3_100), price(0, 3_350), price(0, 50));
     let crude = (price(5_812, 0), price(5_814, 0), price(1, 0));
     let gold = (price(61_234, 0), price(61_240, 0), price(5, 0));
+    let (dollars, golds) = ((-25_000, 50_000, 25_000), (-3_125_000_000, -3_110_000_000, 5_000_000));
+    let old = (-125_000_000, -120_000_000, 5_000_000);
     vec![
         vec![heartbeat(b"DH"), update(b"DN", 1, 1, EURO, euro, 1), update(b"DN", 2, 2, DOLLAR, dollar, 5), update(b"DN", 2, 3, DOLLAR_CALL, call, 2)],
         vec![heartbeat(b"TH"), update(b"TN", 2, 3, GOLD, gold, 4), update(b"TN", 1, 4, CRUDE, crude, 1)],
@@ -61,6 +92,12 @@ fn batches() -> Vec<Vec<Ask>> {
         vec![update(b"TN", 2, 5, GOLD, (price(61_200, 0), price(61_201, 0), price(1, 0)), 5)],
         vec![update(b"DN", 2, 9, EURO, (price(90, 2_475), price(90, 2_500), price(0, 25)), 3), heartbeat(b"DH")],
         vec![update(b"TN", 2, 6, CRUDE, crude, 5)],
+        vec![spread(b"TP", 2, 7, gold_roll(), golds, 3)],
+        vec![
+            spread(b"DP", 2, 11, dollar_roll(), dollars, 5),
+            spread(b"DP", 2, 10, dollar_roll(), old, 1),
+            spread(b"DP", 1, 12, dollar_roll(), dollars, 1),
+        ],
     ]
 }
 
@@ -80,8 +117,11 @@ fn message(line: &str) -> Vec<u8> {
 fn main() {
     let words: Vec<String> = std::env::args().skip(1).collect();
     let (folder, program) = (Path::new(&words[0]), &words[1..]);
-    let book = Book { segments: vec![(b'D', vec![EURO, DOLLAR, DOLLAR_CALL]), (b'T', vec![CRUDE, GOLD])] };
+    let mut book = Book::of(vec![(b'D', vec![EURO, DOLLAR, FAR_DOLLAR, DOLLAR_CALL]), (b'T', vec![CRUDE, GOLD, FAR_GOLD])]);
+    book.spreads[0].1.push(dollar_roll());
+    book.spreads[1].1.push(gold_roll());
     fs::write(folder.join("contracts"), book.bytes()).unwrap();
+    fs::write(folder.join("spreads"), book.spread_bytes()).unwrap();
     let input: Vec<u8> = batches().iter().flatten().flat_map(|ask| ask.bytes()).collect();
     let said = asked(program, &input);
     let mut lines = said.lines();

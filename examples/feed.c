@@ -1,10 +1,11 @@
-/* Writes a small feed with the library's own writer, two segments and three contracts, as a bad line would bring it: a number missing,
- * one late, a damaged batch and a batch cut short.
- *   feed CONTRACTS BATCHES */
+/* Writes a small feed with the library's own writers, two segments, five contracts and two spreads, as a bad line would bring it: a number
+ * missing, one late, a damaged batch and a batch cut short.
+ *   feed CONTRACTS BATCHES SPREADS */
 #include "quotebox.h"
 
 #include <stdio.h>
 #include <stdlib.h>
+#include <string.h>
 
 #define FRONT 5
 #define MOST_DATA 32767
@@ -12,7 +13,9 @@
 /* Instrument, symbol, expiry, strike, option type. */
 static const char EURO[] = "FUTCUREURINR    27MAR2026            XX";
 static const char DOLLAR[] = "FUTCURUSDINR    27MAR2026            XX";
+static const char FAR_DOLLAR[] = "FUTCURUSDINR    28APR2026            XX";
 static const char GOLD[] = "FUTCOMGOLD      05APR2026            XX";
+static const char FAR_GOLD[] = "FUTCOMGOLD      05JUN2026            XX";
 
 /* Ten-millionths. */
 #define PRICE(whole, part) ((uint64_t)(whole) * 10000000 + (part))
@@ -45,17 +48,32 @@ static void put_number(size_t number, int width) {
 }
 
 /* The contents first: for each segment its letter, a zero byte, its count and where its keys begin. */
-static void write_contracts(void) {
+static void write_contents(size_t d_count, size_t t_count, size_t key) {
     put_number(2, 2);
     put("D", 2);
-    put_number(2, 2);
+    put_number(d_count, 2);
     put_number(18, 4);
     put("T", 2);
-    put_number(1, 2);
-    put_number(18 + 2 * QUOTEBOX_KEY, 4);
+    put_number(t_count, 2);
+    put_number(18 + d_count * key, 4);
+}
+
+static void write_contracts(void) {
+    write_contents(3, 2, QUOTEBOX_KEY);
     put(EURO, QUOTEBOX_KEY);
     put(DOLLAR, QUOTEBOX_KEY);
+    put(FAR_DOLLAR, QUOTEBOX_KEY);
     put(GOLD, QUOTEBOX_KEY);
+    put(FAR_GOLD, QUOTEBOX_KEY);
+}
+
+/* The same habit: the same segments, and pairs of their contracts. */
+static void write_spreads(void) {
+    write_contents(1, 1, QUOTEBOX_PAIR);
+    put(DOLLAR, QUOTEBOX_KEY);
+    put(FAR_DOLLAR, QUOTEBOX_KEY);
+    put(GOLD, QUOTEBOX_KEY);
+    put(FAR_GOLD, QUOTEBOX_KEY);
 }
 
 /* A batch that is being written, its messages one behind the other. */
@@ -102,6 +120,30 @@ static void add_update(struct batch *batch, const char *code, uint32_t number, c
             answer);
 }
 
+/* A difference of prices as a value: below zero the amount with the minus beside it. */
+static uint64_t difference(int64_t units) { return units < 0 ? QUOTEBOX_MINUS | (uint64_t)-units : (uint64_t)units; }
+
+/* An update of a spread with the best order of a side and `depth` more behind it, a step apart. */
+static void add_spread(struct batch *batch, const char *code, uint32_t number, const char *first, const char *second, int64_t buy,
+                       int64_t sell, int64_t step, int depth) {
+    uint8_t pair[QUOTEBOX_PAIR];
+    uint64_t values[QUOTEBOX_VALUES], answer[4];
+    memcpy(pair, first, QUOTEBOX_KEY);
+    memcpy(pair + QUOTEBOX_KEY, second, QUOTEBOX_KEY);
+    for (int i = 0; i < QUOTEBOX_VALUES; i++) values[i] = QUOTEBOX_NONE;
+    for (int level = 0; level <= depth; level++) {
+        values[QUOTEBOX_SPREAD2_BUY + 2 * level] = difference(buy - step * level);
+        values[QUOTEBOX_SPREAD2_BUY + 2 * level + 1] = 10 + 2 * (uint64_t)level;
+        values[QUOTEBOX_SPREAD2_SELL + 2 * level] = difference(sell + step * level);
+        values[QUOTEBOX_SPREAD2_SELL + 2 * level + 1] = 3 + 5 * (uint64_t)level;
+    }
+    values[QUOTEBOX_SPREAD2_LAST_PRICE] = difference(buy);
+    written(batch,
+            quotebox_write_spread2((const uint8_t *)code, number, pair, values, batch->data + batch->length,
+                                   MOST_DATA - batch->length, answer),
+            answer);
+}
+
 /* Flag, size, number of messages, data; the batch begins anew. */
 static void end_batch(struct batch *batch) {
     put_number(1, 1);
@@ -125,18 +167,24 @@ static void write_batches(void) {
     batch.data[100] ^= 1;
     end_batch(&batch);
     add_update(&batch, "TN", 3, GOLD, PRICE(61234, 5000000), PRICE(61236, 0), 5000000, 3);
+    add_spread(&batch, "TP", 4, GOLD, FAR_GOLD, -125000000, -120000000, 5000000, 4);
+    end_batch(&batch);
+    add_spread(&batch, "DP", 6, DOLLAR, FAR_DOLLAR, -25000, 50000, 25000, 2);
     end_batch(&batch);
     put_number(1, 1);
     put_number(505, 2);
 }
 
 int main(int count, char **words) {
-    if (count != 3) fail("feed CONTRACTS BATCHES");
+    if (count != 4) fail("feed CONTRACTS BATCHES SPREADS");
     begin_file(words[1]);
     write_contracts();
     end_file();
     begin_file(words[2]);
     write_batches();
+    end_file();
+    begin_file(words[3]);
+    write_spreads();
     end_file();
     return 0;
 }

@@ -3,8 +3,12 @@
  * The box has no memory of its own. A host lends each call what it works on:
  *
  *   list      the contract list, a file's bytes; the same at every call.
+ *   spreads   the spread list, a file's bytes; the same at every call. It names pairs of listed contracts, 0 to 1,024 a segment, and is
+ *             laid out as the contract list, with QUOTEBOX_PAIR bytes for each key: the same segments in the same order, and the
+ *             pairs of each strictly ascending. A host without spreads has quotebox_no_spreads write it.
  *   rows      the gap rows, QUOTEBOX_ROW_CELLS numbers for each listed segment, in list order.
- *   records   the records, QUOTEBOX_RECORD_CELLS numbers for each listed contract, in list order.
+ *   records   the records: QUOTEBOX_RECORD_CELLS numbers for each listed contract, in list order, and behind all of these
+ *             QUOTEBOX_SPREAD_CELLS for each listed pair, in list order.
  *
  * quotebox_start fills rows and records; every later call is handed them as the last call left them. Any other contents
  * are refused or read as something, but never make a call read or write outside what is lent.
@@ -40,14 +44,23 @@ extern "C" {
 /* The cells of a contract's two records. */
 #define QUOTEBOX_RECORD_CELLS 48
 
+/* The cells of a pair's two records. */
+#define QUOTEBOX_SPREAD_CELLS 38
+
 /* The bytes of a contract's key: instrument 6, symbol 10, expiry 11, strike 10, option type 2. */
 #define QUOTEBOX_KEY 39
+
+/* The bytes of a pair: the first contract's key, then the second's. */
+#define QUOTEBOX_PAIR 78
 
 /* A segment has at most so many gaps; two cells each. */
 #define QUOTEBOX_MOST_RUNS 64
 
 /* What a value or a cell holds for "none", which is not 0. */
 #define QUOTEBOX_NONE UINT64_MAX
+
+/* Stands beside the amount in a price of a spread that is below zero; none is no such price. */
+#define QUOTEBOX_MINUS (UINT64_C(1) << 63)
 
 /* The refusals. */
 enum {
@@ -65,55 +78,68 @@ enum {
                                 at start: a listed segment's start number is 0 or missing */
     QUOTEBOX_FIELD = 11,     /* message, row: a number's text, market type, status or written key is malformed */
     QUOTEBOX_RANGE = 12,     /* message, row: a number is too large or too fine, or no text of the field's width holds it */
-    QUOTEBOX_CONTRACT = 13,  /* message: its contract is not listed; or the key asked for is not */
+    QUOTEBOX_CONTRACT = 13,  /* message: its contract or pair is not listed; or the key or pair asked for is not */
     QUOTEBOX_GAPS = 14,      /* message: more than 64 gaps would stand in its segment */
     QUOTEBOX_MEMORY = 15,    /* cells wanted: too few are lent. First the gap rows, then the records, then the call's own */
-    QUOTEBOX_LIST = 16,      /* the contract list is malformed; after start only its contents, counts, offsets and size are looked at */
+    QUOTEBOX_LIST = 16,      /* the contract list is malformed, or the spread list, which is looked at second: also where half a pair is not
+                                listed for its segment. After start only contents, counts, offsets and size are looked at */
     QUOTEBOX_NO_GAP = 17,    /* a write-off where the segment has no gap */
     QUOTEBOX_STATE = 18      /* a listed segment's gap row is handed back with start 0, highest under start - 1, over 64 runs, or runs
                                 that are not ascending, touch, or lie outside start to highest */
 };
 
+/* Writes the spread list without pairs for a contract list: what a host without spreads hands to every other call. With it a batch
+ * that has a message of a spread is refused (QUOTEBOX_CONTRACT), as any batch is that has an update of what is not listed.
+ * out: written where it is accepted; 10 bytes for one segment, 18 for two.
+ * Accepted: its length.
+ * Refused: QUOTEBOX_LIST (only contents, counts, offsets and size are looked at), QUOTEBOX_MEMORY (the bytes of out), in this order. */
+uint32_t quotebox_no_spreads(const uint8_t *list, size_t list_length, uint8_t *out, size_t out_length, uint64_t answer[4]);
+
 /* Starts the box: each listed segment, in list order, at its start number, 1 or more. Every gap row and record is cleared.
  * starts: one number for each listed segment; those beyond are not looked at.
  * rows, records: written. With too few of either lent the answer says how many are wanted, so a host may ask first.
- * Refused: QUOTEBOX_LIST, QUOTEBOX_NUMBERING, QUOTEBOX_MEMORY (first for rows, then for records), in this order. */
-uint32_t quotebox_start(const uint8_t *list, size_t list_length, const uint32_t *starts, size_t starts_length, uint32_t *rows,
-                        size_t rows_length, uint64_t *records, size_t records_length, uint64_t answer[4]);
+ * Refused: QUOTEBOX_LIST (first for list, then for spreads), QUOTEBOX_NUMBERING, QUOTEBOX_MEMORY (first for rows, then for
+ * records), in this order. */
+uint32_t quotebox_start(const uint8_t *list, size_t list_length, const uint8_t *spreads, size_t spreads_length, const uint32_t *starts,
+                        size_t starts_length, uint32_t *rows, size_t rows_length, uint64_t *records, size_t records_length,
+                        uint64_t answer[4]);
 
-/* Every call below but the writers first refuses QUOTEBOX_LIST, QUOTEBOX_MEMORY (for rows, then for records) and QUOTEBOX_STATE, in this order; what
- * it says under "Refused" comes after these. */
+/* Every call below but the writers first refuses QUOTEBOX_LIST (for list, then for spreads), QUOTEBOX_MEMORY (for rows, then for
+ * records) and QUOTEBOX_STATE, in this order; what it says under "Refused" comes after these. */
 
 /* Judges an unpacked batch and changes nothing: returns and answers what quotebox_take would.
  * Accepted: messages taken, messages old, heartbeats.
  * Refused: QUOTEBOX_SIZE to QUOTEBOX_GAPS. */
-uint32_t quotebox_judge(const uint8_t *list, size_t list_length, const uint32_t *rows, size_t rows_length, const uint64_t *records,
-                        size_t records_length, const uint8_t *batch, size_t batch_length, uint64_t answer[4]);
+uint32_t quotebox_judge(const uint8_t *list, size_t list_length, const uint8_t *spreads, size_t spreads_length, const uint32_t *rows,
+                        size_t rows_length, const uint64_t *records, size_t records_length, const uint8_t *batch,
+                        size_t batch_length, uint64_t answer[4]);
 
 /* Takes an unpacked batch whole, or refuses it and changes nothing.
  * rows, records: written where it is accepted.
  * Accepted: messages taken, messages old, heartbeats.
  * Refused: QUOTEBOX_SIZE to QUOTEBOX_GAPS. */
-uint32_t quotebox_take(const uint8_t *list, size_t list_length, uint32_t *rows, size_t rows_length, uint64_t *records,
-                       size_t records_length, const uint8_t *batch, size_t batch_length, uint64_t answer[4]);
+uint32_t quotebox_take(const uint8_t *list, size_t list_length, const uint8_t *spreads, size_t spreads_length, uint32_t *rows,
+                       size_t rows_length, uint64_t *records, size_t records_length, const uint8_t *batch, size_t batch_length,
+                       uint64_t answer[4]);
 
 /* Lists the gaps of the segment of a letter: puts first and last missing number of each run into cells, ascending.
  * cells: written, two for each run; 2 * QUOTEBOX_MOST_RUNS are always enough.
  * Accepted: the highest number, the number of runs.
  * Refused: QUOTEBOX_CODE (the letter is not listed), QUOTEBOX_MEMORY (cells). */
-uint32_t quotebox_list_gaps(const uint8_t *list, size_t list_length, const uint32_t *rows, size_t rows_length,
-                            const uint64_t *records, size_t records_length, uint8_t letter, uint32_t *cells, size_t cells_length,
-                            uint64_t answer[4]);
+uint32_t quotebox_list_gaps(const uint8_t *list, size_t list_length, const uint8_t *spreads, size_t spreads_length,
+                            const uint32_t *rows, size_t rows_length, const uint64_t *records, size_t records_length,
+                            uint8_t letter, uint32_t *cells, size_t cells_length, uint64_t answer[4]);
 
 /* Writes off the lowest run of gaps of the segment of a letter: its numbers are no longer missing, and old if they arrive.
  * rows: written where it is accepted.
  * Accepted: first and last number of the run.
  * Refused: QUOTEBOX_CODE (the letter is not listed), QUOTEBOX_NO_GAP. */
-uint32_t quotebox_write_off(const uint8_t *list, size_t list_length, uint32_t *rows, size_t rows_length, const uint64_t *records,
-                            size_t records_length, uint8_t letter, uint64_t answer[4]);
+uint32_t quotebox_write_off(const uint8_t *list, size_t list_length, const uint8_t *spreads, size_t spreads_length, uint32_t *rows,
+                            size_t rows_length, const uint64_t *records, size_t records_length, uint8_t letter, uint64_t answer[4]);
 
 /* The values of an update: its sequence number, then one value a row from the market type on, QUOTEBOX_NONE for none. A price
- * counts ten-millionths, a quantity contracts or units, turnover hundredths; market type and status are a character. */
+ * counts ten-millionths, a quantity contracts or units, turnover hundredths; market type and status are a character, and a number above
+ * 255 in their place is taken as 0. */
 #define QUOTEBOX_VALUES 33
 
 /* Where each value stands: at level 1, the first 15 alone, */
@@ -152,18 +178,59 @@ enum {
     QUOTEBOX2_TURNOVER = 32
 };
 
+/* The values of a spread's update: its sequence number, then one value a row behind the pair's two keys, QUOTEBOX_NONE for none. Every
+ * price is a difference of prices and counts ten-millionths: one below zero is its amount with QUOTEBOX_MINUS beside it. Quantities
+ * have no minus. At level 1 the first 10 alone, */
+enum {
+    QUOTEBOX_SPREAD1_BUY_PRICE = 1,
+    QUOTEBOX_SPREAD1_BUY_QUANTITY = 2,
+    QUOTEBOX_SPREAD1_SELL_PRICE = 3,
+    QUOTEBOX_SPREAD1_SELL_QUANTITY = 4,
+    QUOTEBOX_SPREAD1_LAST_PRICE = 5,
+    QUOTEBOX_SPREAD1_TRADED_QUANTITY = 6,
+    QUOTEBOX_SPREAD1_OPENING = 7,
+    QUOTEBOX_SPREAD1_HIGH = 8,
+    QUOTEBOX_SPREAD1_LOW = 9
+};
+
+/* and at level 2 the first 28, where the best of a side is level 0 and the fifth level 4. */
+enum {
+    QUOTEBOX_SPREAD2_BUY = 1,   /* QUOTEBOX_SPREAD2_BUY + 2 * level: its price; one behind: its quantity */
+    QUOTEBOX_SPREAD2_SELL = 11, /* the same for the sellers */
+    QUOTEBOX_SPREAD2_LAST_PRICE = 21,
+    QUOTEBOX_SPREAD2_TRADED_QUANTITY = 22,
+    QUOTEBOX_SPREAD2_OPENING = 23,
+    QUOTEBOX_SPREAD2_HIGH = 24,
+    QUOTEBOX_SPREAD2_LOW = 25,
+    QUOTEBOX_SPREAD2_ALL_BUYERS = 26,
+    QUOTEBOX_SPREAD2_ALL_SELLERS = 27
+};
+
 /* Reads a contract's record of level 1 or 2: the highest-numbered update taken.
  * key: QUOTEBOX_KEY bytes.
  * values: written where there is a record, the first 15 at level 1 and all 33 at level 2.
  * Accepted: 1 where there is a record, 0 where no update was taken.
  * Refused: QUOTEBOX_CODE (the letter is not listed), QUOTEBOX_CONTRACT (the key is not). */
-uint32_t quotebox_read_level1(const uint8_t *list, size_t list_length, const uint32_t *rows, size_t rows_length,
-                              const uint64_t *records, size_t records_length, uint8_t letter, const uint8_t key[QUOTEBOX_KEY],
-                              uint64_t values[QUOTEBOX_VALUES], uint64_t answer[4]);
+uint32_t quotebox_read_level1(const uint8_t *list, size_t list_length, const uint8_t *spreads, size_t spreads_length,
+                              const uint32_t *rows, size_t rows_length, const uint64_t *records, size_t records_length,
+                              uint8_t letter, const uint8_t key[QUOTEBOX_KEY], uint64_t values[QUOTEBOX_VALUES], uint64_t answer[4]);
 
-uint32_t quotebox_read_level2(const uint8_t *list, size_t list_length, const uint32_t *rows, size_t rows_length,
-                              const uint64_t *records, size_t records_length, uint8_t letter, const uint8_t key[QUOTEBOX_KEY],
-                              uint64_t values[QUOTEBOX_VALUES], uint64_t answer[4]);
+uint32_t quotebox_read_level2(const uint8_t *list, size_t list_length, const uint8_t *spreads, size_t spreads_length,
+                              const uint32_t *rows, size_t rows_length, const uint64_t *records, size_t records_length,
+                              uint8_t letter, const uint8_t key[QUOTEBOX_KEY], uint64_t values[QUOTEBOX_VALUES], uint64_t answer[4]);
+
+/* Reads a pair's record of level 1 or 2: the highest-numbered update of the pair taken.
+ * pair: QUOTEBOX_PAIR bytes.
+ * values: written where there is a record, the first 10 at level 1 and the first 28 at level 2.
+ * Accepted: 1 where there is a record, 0 where no update was taken.
+ * Refused: QUOTEBOX_CODE (the letter is not listed), QUOTEBOX_CONTRACT (the pair is not). */
+uint32_t quotebox_read_spread1(const uint8_t *list, size_t list_length, const uint8_t *spreads, size_t spreads_length,
+                               const uint32_t *rows, size_t rows_length, const uint64_t *records, size_t records_length,
+                               uint8_t letter, const uint8_t pair[QUOTEBOX_PAIR], uint64_t values[QUOTEBOX_VALUES], uint64_t answer[4]);
+
+uint32_t quotebox_read_spread2(const uint8_t *list, size_t list_length, const uint8_t *spreads, size_t spreads_length,
+                               const uint32_t *rows, size_t rows_length, const uint64_t *records, size_t records_length,
+                               uint8_t letter, const uint8_t pair[QUOTEBOX_PAIR], uint64_t values[QUOTEBOX_VALUES], uint64_t answer[4]);
 
 /* Writes a message for a test bench, an update of level 1 or 2 or a heartbeat, into out, from its first byte on.
  * code: "DN" or "TN" for an update, "DH" or "TH" for a heartbeat.
@@ -179,6 +246,20 @@ uint32_t quotebox_write_level1(const uint8_t code[2], uint32_t number, const uin
 
 uint32_t quotebox_write_level2(const uint8_t code[2], uint32_t number, const uint8_t key[QUOTEBOX_KEY],
                                const uint64_t values[QUOTEBOX_VALUES], uint8_t *out, size_t out_length, uint64_t answer[4]);
+
+/* Writes an update of a spread for a test bench, of level 1 or 2, into out, from its first byte on.
+ * code: "DP" or "TP".
+ * number: the sequence number, 1 or more.
+ * pair, values: as quotebox_read_spread1 and 2 have them. values[QUOTEBOX_NUMBER] changes nothing; QUOTEBOX_MINUS beside 0 is 0.
+ * out: written where it is accepted, one byte for each of the message's: 227 at level 1, 483 at level 2.
+ * Accepted: the message's length.
+ * Refused: QUOTEBOX_CODE, QUOTEBOX_NUMBERING, QUOTEBOX_FIELD (a byte of the pair, at its row 0 to 9) and QUOTEBOX_RANGE by row,
+ * QUOTEBOX_MEMORY (the bytes of out), in this order. Rows count from 0 with the keys' ten first, so values[i] is row i + 9. */
+uint32_t quotebox_write_spread1(const uint8_t code[2], uint32_t number, const uint8_t pair[QUOTEBOX_PAIR],
+                                const uint64_t values[QUOTEBOX_VALUES], uint8_t *out, size_t out_length, uint64_t answer[4]);
+
+uint32_t quotebox_write_spread2(const uint8_t code[2], uint32_t number, const uint8_t pair[QUOTEBOX_PAIR],
+                                const uint64_t values[QUOTEBOX_VALUES], uint8_t *out, size_t out_length, uint64_t answer[4]);
 
 #ifdef __cplusplus
 }

@@ -1,11 +1,11 @@
 // What the program `calls` is told, and the lines by which it answers as the reference computes them.
 #![allow(dead_code)] // each test uses a part
 
-use crate::feed::Key;
-use crate::reference::{self, Counts, Refusal, GAP_ROW, NONE, RECORD};
+use crate::feed::{Key, Pair};
+use crate::reference::{self, Counts, Form, Refusal, Row, GAP_ROW, MINUS, NONE, RECORD, SPREAD_RECORD};
 
 pub const MEMORY_ROWS: usize = 2 * GAP_ROW;
-pub const MEMORY_RECORDS: usize = 128 * RECORD;
+pub const MEMORY_RECORDS: usize = 128 * RECORD + 64 * SPREAD_RECORD;
 pub const LARGEST_LIST: usize = 16_384;
 pub const LARGEST_BATCH: usize = 40_000;
 pub const ROOM: usize = 1_024;
@@ -22,6 +22,9 @@ pub enum Ask {
     Lend { rows: u32, records: u32 },
     List(Vec<u8>),
     Poke { cell: u32, value: u32 },
+    Spreads(Vec<u8>),
+    Spread { letter: u8, level: usize, pair: Pair },
+    WriteSpread { code: [u8; 2], level: usize, number: u32, pair: Pair, room: u16, values: Vec<u64> },
 }
 
 fn level_byte(level: usize) -> u8 {
@@ -30,6 +33,13 @@ fn level_byte(level: usize) -> u8 {
 
 fn with_length(command: u8, bytes: &[u8]) -> Vec<u8> {
     [&[command], &(bytes.len() as u32).to_be_bytes()[..], bytes].concat()
+}
+
+#[rustfmt::skip]
+fn writing(command: u8, code: &[u8; 2], level: usize, number: u32, key: &[u8], room: u16, values: &[u64]) -> Vec<u8> {
+    let values: Vec<u8> = values.iter().flat_map(|v| v.to_be_bytes()).collect();
+    let head = [command, code[0], code[1], level_byte(level)];
+    [&head, &number.to_be_bytes()[..], key, &room.to_be_bytes(), &values].concat()
 }
 
 impl Ask {
@@ -44,14 +54,13 @@ impl Ask {
             Ask::Gaps { letter, cells } => [&[b'G', *letter], &cells.to_be_bytes()[..]].concat(),
             Ask::Off { letter } => vec![b'O', *letter],
             Ask::Record { letter, level, key } => [&[b'R', *letter, level_byte(*level)], &key[..]].concat(),
-            Ask::Write { code, level, number, key, room, values } => {
-                let values: Vec<u8> = values.iter().flat_map(|v| v.to_be_bytes()).collect();
-                let head = [b'W', code[0], code[1], level_byte(*level)];
-                [&head, &number.to_be_bytes()[..], key, &room.to_be_bytes(), &values].concat()
-            }
+            Ask::Write { code, level, number, key, room, values } => writing(b'W', code, *level, *number, key, *room, values),
             Ask::Lend { rows, records } => [&[b'M'], &rows.to_be_bytes()[..], &records.to_be_bytes()].concat(),
             Ask::List(list) => with_length(b'L', list),
             Ask::Poke { cell, value } => [&[b'P'], &cell.to_be_bytes()[..], &value.to_be_bytes()].concat(),
+            Ask::Spreads(spreads) => with_length(b'X', spreads),
+            Ask::Spread { letter, level, pair } => [&[b'Q', *letter, level_byte(*level)], &pair[..]].concat(),
+            Ask::WriteSpread { code, level, number, pair, room, values } => writing(b'V', code, *level, *number, pair, *room, values),
         }
     }
 
@@ -64,20 +73,21 @@ impl Ask {
             Ask::Gaps { .. } => "gaps",
             Ask::Off { .. } => "off",
             Ask::Record { .. } => "record",
-            Ask::Write { .. } => "write",
-            Ask::Lend { .. } | Ask::List(_) | Ask::Poke { .. } => "",
+            Ask::Write { .. } | Ask::WriteSpread { .. } => "write",
+            Ask::Spread { .. } => "spread",
+            Ask::Lend { .. } | Ask::List(_) | Ask::Poke { .. } | Ask::Spreads(_) => "",
         }
     }
 }
 
 // What an accepted call answers.
-#[derive(Clone, Debug)]
+#[derive(Clone)]
 pub enum Said {
     Started,
     Judged(Counts),
     Listed { highest: u32, runs: Vec<(u32, u32)> },
     WrittenOff { first: u32, last: u32 },
-    Record(Option<Vec<u64>>),
+    Record(&'static Form, Option<Vec<u64>>), // a contract's or a pair's
     Written(Vec<u8>),
 }
 
@@ -85,9 +95,18 @@ fn hex(bytes: &[u8]) -> String {
     bytes.iter().map(|b| format!("{b:02x}")).collect()
 }
 
-fn numbers(values: &[u64]) -> String {
-    let text = |&v: &u64| if v == NONE { "-".into() } else { v.to_string() };
-    values.iter().map(text).collect::<Vec<String>>().join(" ")
+fn text(value: u64, row: Row) -> String {
+    match row {
+        _ if value == NONE => "-".into(),
+        Row::Difference if value & MINUS != 0 => format!("-{}", value & !MINUS),
+        _ => value.to_string(),
+    }
+}
+
+// The number of an update, and what its rows hold.
+fn numbers(form: &Form, values: &[u64]) -> String {
+    let rows = values[1..].iter().zip(form.told()).map(|(&value, &(row, _))| text(value, row));
+    [values[0].to_string()].into_iter().chain(rows).collect::<Vec<String>>().join(" ")
 }
 
 impl Said {
@@ -101,8 +120,8 @@ impl Said {
                 format!("ok {highest} {}{each}", runs.len())
             }
             Said::WrittenOff { first, last } => format!("ok {first} {last}"),
-            Said::Record(None) => "none".into(),
-            Said::Record(Some(values)) => format!("ok {}", numbers(values)),
+            Said::Record(_, None) => "none".into(),
+            Said::Record(form, Some(values)) => format!("ok {}", numbers(form, values)),
             Said::Written(message) => format!("ok {} {}", message.len(), hex(message)),
         }
     }
@@ -112,18 +131,24 @@ impl Said {
 #[derive(Clone)]
 pub struct Bench {
     pub list: Vec<u8>,
+    pub spreads: Vec<u8>,
     pub rows: Vec<u32>,
     pub records: Vec<u64>,
     pub lent_rows: usize,
     pub lent_records: usize,
 }
 
+// The spread list that stands beside a list until one is handed over.
+fn spreads_beside(list: &[u8]) -> Vec<u8> {
+    reference::no_spreads(list, usize::MAX).unwrap_or_default()
+}
+
 impl Bench {
     // With the file `contracts`, if there is one.
     pub fn new(contracts: Option<&[u8]>) -> Bench {
         let list = contracts.filter(|list| list.len() <= LARGEST_LIST).unwrap_or(&[]).to_vec();
-        let (rows, records) = (vec![0; MEMORY_ROWS], vec![0; MEMORY_RECORDS]);
-        Bench { list, rows, records, lent_rows: MEMORY_ROWS, lent_records: MEMORY_RECORDS }
+        let (spreads, rows, records) = (spreads_beside(&list), vec![0; MEMORY_ROWS], vec![0; MEMORY_RECORDS]);
+        Bench { list, spreads, rows, records, lent_rows: MEMORY_ROWS, lent_records: MEMORY_RECORDS }
     }
 
     // The line that answers a call; None for a command that makes none.
@@ -137,23 +162,32 @@ impl Bench {
 
     // What the reference answers; None to a command that makes no call.
     pub fn answer(&mut self, ask: &Ask) -> Result<Option<Said>, Refusal> {
-        let (list, rows, records) = (&self.list[..], &mut self.rows[..self.lent_rows], &mut self.records[..self.lent_records]);
+        let (list, spreads) = (&self.list[..], &self.spreads[..]);
+        let (rows, records) = (&mut self.rows[..self.lent_rows], &mut self.records[..self.lent_records]);
         let sum = reference::sum_by_bits;
         Ok(Some(match ask {
-            Ask::Start(starts) => reference::start(list, starts, rows, records).map(|()| Said::Started)?,
-            Ask::Judge(batch) => Said::Judged(reference::judge(sum, list, rows, records, batch)?),
-            Ask::Take(batch) => Said::Judged(reference::take(sum, list, rows, records, batch)?),
+            Ask::Start(starts) => reference::start(list, spreads, starts, rows, records).map(|()| Said::Started)?,
+            Ask::Judge(batch) => Said::Judged(reference::judge(sum, list, spreads, rows, records, batch)?),
+            Ask::Take(batch) => Said::Judged(reference::take(sum, list, spreads, rows, records, batch)?),
             Ask::Gaps { letter, cells } => {
-                let (highest, runs) = reference::list_gaps(list, rows, records, *letter, *cells as usize)?;
+                let (highest, runs) = reference::list_gaps(list, spreads, rows, records, *letter, *cells as usize)?;
                 Said::Listed { highest, runs }
             }
             Ask::Off { letter } => {
-                let (first, last) = reference::write_off(list, rows, records, *letter)?;
+                let (first, last) = reference::write_off(list, spreads, rows, records, *letter)?;
                 Said::WrittenOff { first, last }
             }
-            Ask::Record { letter, level, key } => Said::Record(reference::read_record(list, rows, records, *letter, key, *level)?),
+            Ask::Record { letter, level, key } => {
+                Said::Record(reference::of_contract(*level), reference::read_record(list, spreads, rows, records, *letter, key, *level)?)
+            }
+            Ask::Spread { letter, level, pair } => {
+                Said::Record(reference::of_pair(*level), reference::read_spread(list, spreads, rows, records, *letter, pair, *level)?)
+            }
+            Ask::WriteSpread { code, level, number, pair, room, values } => {
+                Said::Written(reference::write_spread(*code, *level, *number, pair, values, (*room as usize).min(ROOM))?)
+            }
             Ask::Write { code, level, number, key, room, values } => {
-                let values = reference::readings(*level, values);
+                let values = reference::readings(reference::of_contract(*level), values);
                 Said::Written(reference::write_message(*code, *level, *number, key, &values, (*room as usize).min(ROOM))?)
             }
             Ask::Lend { rows, records } => {
@@ -162,7 +196,12 @@ impl Bench {
                 return Ok(None);
             }
             Ask::List(list) => {
+                self.spreads = spreads_beside(list);
                 self.list = list.clone();
+                return Ok(None);
+            }
+            Ask::Spreads(spreads) => {
+                self.spreads = spreads.clone();
                 return Ok(None);
             }
             Ask::Poke { cell, value } => {

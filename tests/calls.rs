@@ -7,13 +7,14 @@ mod history;
 mod program;
 mod random;
 mod reference;
+mod spreads;
 
 use asks::{Ask, Bench, LARGEST_LIST};
 use feed::Book;
 use history::{History, Seen};
 use program::{Contracts, Held, Options};
 use random::Random;
-use reference::{GAP_ROW, KEY, NONE, PRICE, RECORD};
+use reference::{Form, GAP_ROW, KEY, NONE, PRICE, RECORD, SPREAD_RECORD};
 
 const HISTORIES: u64 = 80;
 
@@ -112,8 +113,22 @@ fn gap_cases() -> Vec<Case> {
     ]
 }
 
+// Request 02 M-100 prints 227 bytes for TP's level 1 and 483 for DP's level 2; the widths must come to as much.
+fn lengths(held: &mut Held) {
+    let forms = [1, 2].map(reference::of_contract).into_iter().chain([1, 2].map(reference::of_pair));
+    for (form, (rows, key, length)) in forms.zip([(19, 39, 249), (37, 39, 505), (19, 78, 227), (37, 78, 483)]) {
+        let widths = |rows: &[(reference::Row, usize)]| rows.iter().map(|&(_, width)| width).sum::<usize>();
+        let right = (form.rows.len(), widths(&form.rows[..form.key_rows]), widths(form.rows) + 11) == (rows, key, length);
+        held.hold(right && form.length == length, || format!("reference: the rows of {} bytes", form.length));
+    }
+    let cells = |forms: [&Form; 2]| forms.map(|form| 1 + form.told().len());
+    held.hold(cells([1, 2].map(reference::of_contract)) == [15, 33] && RECORD == 15 + 33, || "reference: a contract's cells".into());
+    held.hold(cells([1, 2].map(reference::of_pair)) == [10, 28] && SPREAD_RECORD == 10 + 28, || "reference: a pair's cells".into());
+}
+
 // The cases that only the reference's own functions can be asked: sums, and texts as such.
 fn reference_cases(held: &mut Held) {
+    lengths(held);
     let sums: [(&[u8], [u8; 2]); 4] = [(b"123456789", [0xC3, 0x31]), (b"", [0, 0]), (b"\x01", [0x21, 0x10]), (b"\x32", [0x10, 0x16])];
     for (text, sent) in sums {
         for sum in [reference::sum_by_bits, reference::sum_by_bytes, reference::sum_by_sixteens] {
@@ -134,8 +149,9 @@ fn reference_cases(held: &mut Held) {
 
 fn paper(options: &Options, held: &mut Held) {
     reference_cases(held);
-    let list = Book { segments: vec![(b'D', vec![CASE_KEY])] }.bytes();
-    for (name, asked, lines) in batch_cases().into_iter().chain(gap_cases()) {
+    let list = Book::of(vec![(b'D', vec![CASE_KEY])]).bytes();
+    let cases = batch_cases().into_iter().chain(gap_cases()).map(|(name, asked, lines)| (name.to_string(), list.clone(), asked, lines));
+    for (name, list, asked, lines) in cases.chain(spreads::cases()) {
         let mut bench = Bench::new(Some(&list));
         let by_reference: Vec<String> = asked.iter().filter_map(|ask| bench.line(ask)).collect();
         held.hold(by_reference == lines, || format!("reference: {name}: {by_reference:?}"));
@@ -148,7 +164,7 @@ fn paper(options: &Options, held: &mut Held) {
 // The file itself: missing, a folder, at its largest, one key too large to be read; and input that comes in pieces.
 fn files(options: &Options, held: &mut Held) {
     let mut r = Random::new(options.seed);
-    let mut lists: Vec<Vec<u8>> = [1usize, 128, 129, 419, 420].map(|n| Book { segments: vec![(b'D', feed::keys(&mut r, n))] }.bytes()).to_vec();
+    let mut lists: Vec<Vec<u8>> = [1usize, 178, 179, 419, 420].map(|n| Book::of(vec![(b'D', feed::keys(&mut r, n))]).bytes()).to_vec();
     lists.extend([vec![], vec![0; LARGEST_LIST], vec![0; LARGEST_LIST + 1]]);
     let all = lists.iter().map(|list| Contracts::File(list)).chain([Contracts::Missing, Contracts::Folder]);
     for (i, contracts) in all.enumerate() {
@@ -163,6 +179,37 @@ fn files(options: &Options, held: &mut Held) {
     }
 }
 
+// Lists and pairs at the largest that the bench's memory and its commands hold, and one more.
+fn pairs_at_the_most(options: &Options, held: &mut Held) {
+    let mut r = Random::new(options.seed.wrapping_add(70));
+    // 128 contracts and 64 pairs fill the memory, 18 and 203 want two cells more; 209 pairs are the most in 16,384 bytes.
+    for (contracts, pairs) in [(128, 64), (18, 203), (128, 65), (129, 64), (178, 0), (179, 0), (14, 196), (15, 209), (15, 206)] {
+        let keys = feed::keys(&mut r, contracts);
+        let mut all: Vec<feed::Pair> = keys.iter().take(15).flat_map(|a| keys.iter().take(15).map(move |b| feed::pair(a, b))).collect();
+        all.truncate(pairs);
+        let (first, last) = (all.first().copied(), all.last().copied());
+        let book = Book { segments: vec![(b'T', keys)], spreads: vec![(b'T', all)] };
+        let mut asked = vec![Ask::Spreads(book.spread_bytes()), Ask::Start(vec![1])];
+        for (k, pair) in [first, last].into_iter().flatten().enumerate() {
+            for level in 1..=2 {
+                let number = (1 + 2 * k + level) as u32;
+                asked.push(Ask::Take(feed::batch(&[feed::an_update(&mut r, reference::of_pair(level), b'T', number, &pair)])));
+                asked.push(Ask::Spread { letter: b'T', level, pair });
+            }
+        }
+        asked.extend([Ask::Spreads(vec![0; LARGEST_LIST]), Ask::Start(vec![1])]);
+        let list = book.bytes();
+        let mut bench = Bench::new(Some(&list));
+        let lines: Vec<String> = asked.iter().filter_map(|ask| bench.line(ask)).chain(["end".into()]).collect();
+        let wanted = 48 * contracts + 38 * pairs;
+        let first = if wanted <= 8_576 { "start ok".into() } else { format!("start refused 15 0 0 {wanted}") };
+        held.hold(lines[0] == first, || format!("reference: {contracts} contracts and {pairs} pairs: {}", lines[0]));
+        let input: Vec<u8> = asked.iter().flat_map(|ask| ask.bytes()).collect();
+        let said = options.run(Contracts::File(&list), &input);
+        held.lines(&lines, &said, |line| format!("calls: {contracts} contracts and {pairs} pairs, line {line}"));
+    }
+}
+
 // ---- quotes written by the compiled writer and read back here
 
 const WRITES: usize = 50_000;
@@ -172,34 +219,69 @@ fn from_hex(text: &str) -> Vec<u8> {
     (0..text.len() / 2).filter_map(|i| u8::from_str_radix(&text[2 * i..2 * i + 2], 16).ok()).collect()
 }
 
-// What a box with just this contract holds after it took the message.
-fn read_back(letter: u8, level: usize, number: u32, key: &[u8; KEY], message: Vec<u8>) -> Option<Vec<u64>> {
-    let list = Book { segments: vec![(letter, vec![*key])] }.bytes();
-    let (mut rows, mut records) = (vec![0; GAP_ROW], vec![0; RECORD]);
-    reference::start(&list, &[number], &mut rows, &mut records).ok()?;
-    reference::take(reference::sum_by_sixteens, &list, &mut rows, &mut records, &feed::batch(&[message])).ok()?;
-    reference::read_record(&list, &rows, &records, letter, key, level).ok()?
+// A quote of a contract, or of the pair of it with another.
+struct Quoted {
+    form: &'static Form,
+    letter: u8,
+    number: u32,
+    contracts: Vec<feed::Key>, // ascending
+    values: Vec<u64>,
+}
+
+fn a_quoted(r: &mut Random, form: &'static Form) -> Quoted {
+    let (letter, number) = (r.pick(b"DT"), 1 + r.below(4_294_967_295) as u32);
+    Quoted { form, letter, number, contracts: feed::keys(r, if form.is_pair() { 2 } else { 1 }), values: feed::values_of(r, form) }
+}
+
+impl Quoted {
+    fn pair(&self) -> feed::Pair {
+        feed::pair(&self.contracts[1], &self.contracts[0])
+    }
+
+    fn ask(&self) -> Ask {
+        let Quoted { form: Form { level, length, .. }, letter, number, values, .. } = self;
+        let (level, number, room, values) = (*level, *number, *length as u16, values.clone());
+        if self.form.is_pair() {
+            Ask::WriteSpread { code: [*letter, b'P'], level, number, pair: self.pair(), room, values }
+        } else {
+            Ask::Write { code: [*letter, b'N'], level, number, key: self.contracts[0], room, values }
+        }
+    }
+
+    // What a box with just this contract or pair holds after it took the message.
+    fn read_back(&self, message: Vec<u8>) -> Option<Vec<u64>> {
+        let mut book = Book::of(vec![(self.letter, self.contracts.clone())]);
+        if self.form.is_pair() {
+            book.spreads[0].1.push(self.pair());
+        }
+        let (list, spreads) = (book.bytes(), book.spread_bytes());
+        let (mut rows, mut records) = (vec![0; GAP_ROW], vec![0; 2 * RECORD + SPREAD_RECORD]);
+        reference::start(&list, &spreads, &[self.number], &mut rows, &mut records).ok()?;
+        reference::take(reference::sum_by_sixteens, &list, &spreads, &mut rows, &mut records, &feed::batch(&[message])).ok()?;
+        let level = self.form.level;
+        if self.form.is_pair() {
+            reference::read_spread(&list, &spreads, &rows, &records, self.letter, &self.pair(), level).ok()?
+        } else {
+            reference::read_record(&list, &spreads, &rows, &records, self.letter, &self.contracts[0], level).ok()?
+        }
+    }
 }
 
 fn writes(options: &Options, held: &mut Held) {
     let mut r = Random::new(options.seed.wrapping_add(50));
     for run in 0..WRITES / WRITES_A_RUN * options.times as usize {
-        let quotes: Vec<(Ask, u8, usize, u32, [u8; KEY], Vec<u64>)> = (0..WRITES_A_RUN)
-            .map(|i| {
-                let (level, letter) = (1 + i % 2, r.pick(b"DT"));
-                let (number, key, values) = (1 + r.below(4_294_967_295) as u32, feed::a_key(&mut r), feed::a_quote(&mut r, level));
-                let ask = Ask::Write { code: [letter, b'N'], level, number, key, room: 505, values: values.clone() };
-                (ask, letter, level, number, key, values)
-            })
-            .collect();
-        let input: Vec<u8> = quotes.iter().flat_map(|q| q.0.bytes()).collect();
+        let form = |i: usize| if i % 4 < 2 { reference::of_contract(1 + i % 2) } else { reference::of_pair(1 + i % 2) };
+        let quotes: Vec<Quoted> = (0..WRITES_A_RUN).map(|i| a_quoted(&mut r, form(i))).collect();
+        let input: Vec<u8> = quotes.iter().flat_map(|quoted| quoted.ask().bytes()).collect();
         let said = options.run(Contracts::Missing, &input);
         let mut said = said.lines();
-        for (i, (_, letter, level, number, key, values)) in quotes.iter().enumerate() {
+        for (i, quoted) in quotes.iter().enumerate() {
             let line = said.next().unwrap_or("");
-            let message = line.strip_prefix(&format!("write ok {} ", reference::LENGTHS[level - 1])).map(from_hex);
-            let back = message.and_then(|message| read_back(*letter, *level, *number, key, message));
-            let right = back == Some([&[*number as u64], &values[..]].concat());
+            let message = line.strip_prefix(&format!("write ok {} ", quoted.form.length)).map(from_hex);
+            let back = message.and_then(|message| quoted.read_back(message));
+            // Minus zero comes back as zero.
+            let values = reference::readings(quoted.form, &quoted.values);
+            let right = back == Some([&[quoted.number as u64], &values[..]].concat());
             held.hold(right, || format!("calls: seed {} write {run}/{i}: wrote {values:?}, the line {line:?} reads back as {back:?}", options.seed));
         }
         held.hold(said.next() == Some("end"), || format!("calls: seed {} write {run}: no end", options.seed));
@@ -212,6 +294,7 @@ fn main() {
     let mut held = Held { passed: 0, failed: 0 };
     paper(&options, &mut held);
     files(&options, &mut held);
+    pairs_at_the_most(&options, &mut held);
     histories(&options, &mut held);
     writes(&options, &mut held);
     held.end();

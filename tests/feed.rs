@@ -2,7 +2,7 @@
 #![allow(dead_code)] // each test uses a part
 
 use crate::random::Random;
-use crate::reference::{self, Kind, Row, KEY, LENGTHS, MARKET_TYPE_ROW, NONE, PAIR, PRICE, QUANTITY, RUNS};
+use crate::reference::{self, Form, Kind, Row, KEY, LENGTHS, MINUS, NONE, PAIR, PRICE, QUANTITY, RUNS, SPREAD_LENGTHS};
 
 pub type Key = [u8; KEY];
 pub type Pair = [u8; PAIR];
@@ -26,11 +26,27 @@ pub fn file<const N: usize>(segments: &[(u8, Vec<[u8; N]>)]) -> Vec<u8> {
 #[derive(Clone)]
 pub struct Book {
     pub segments: Vec<(u8, Vec<Key>)>,
+    pub spreads: Vec<(u8, Vec<Pair>)>,
 }
 
 impl Book {
+    // Without pairs.
+    pub fn of(segments: Vec<(u8, Vec<Key>)>) -> Book {
+        let spreads = segments.iter().map(|(letter, _)| (*letter, vec![])).collect();
+        Book { segments, spreads }
+    }
+
+    pub fn with_pairs(mut self, r: &mut Random, most: u64) -> Book {
+        self.spreads = self.pairs(r, most);
+        self
+    }
+
     pub fn bytes(&self) -> Vec<u8> {
         file(&self.segments)
+    }
+
+    pub fn spread_bytes(&self) -> Vec<u8> {
+        file(&self.spreads)
     }
 
     // Pairs of listed keys, at most `most` a segment.
@@ -58,6 +74,48 @@ impl Book {
             Some((_, keys)) => r.pick(keys),
             None => a_key(r),
         }
+    }
+
+    // A letter's pairs.
+    pub fn listed_pairs(&self, letter: u8) -> &[Pair] {
+        self.spreads.iter().find(|s| s.0 == letter).map_or(&[], |(_, pairs)| pairs)
+    }
+
+    pub fn number_of_pairs(&self) -> usize {
+        self.spreads.iter().map(|s| s.1.len()).sum()
+    }
+
+    // A listed pair; where the letter has none, two of its contracts.
+    pub fn a_pair(&self, r: &mut Random, letter: u8) -> Pair {
+        match self.listed_pairs(letter) {
+            [] => pair(&self.a_key(r, letter), &self.a_key(r, letter)),
+            pairs => r.pick(pairs),
+        }
+    }
+
+    // A pair that a careless box would find: of two contracts that are listed, the wrong way round, another segment's, a byte off.
+    fn a_pair_beside(&self, r: &mut Random, letter: u8) -> Pair {
+        let mut found = self.a_pair(r, letter);
+        match r.below(4) {
+            0 => pair(&self.a_key(r, letter), &self.a_key(r, letter)),
+            1 => {
+                found.rotate_left(KEY);
+                found
+            }
+            2 => {
+                let other = r.pick(&self.letters());
+                self.a_pair(r, other)
+            }
+            _ => {
+                found[r.below(PAIR as u64) as usize] = r.pick(b"\x00\x1f!~\x7f\xff Z");
+                found
+            }
+        }
+    }
+
+    // The key of an update of a form: listed, where there is one.
+    pub fn a_key_for(&self, r: &mut Random, form: &Form, letter: u8) -> Vec<u8> {
+        if form.is_pair() { self.a_pair(r, letter).to_vec() } else { self.a_key(r, letter).to_vec() }
     }
 }
 
@@ -100,7 +158,7 @@ pub fn a_book(r: &mut Random, most: u64) -> Book {
         let number = if r.one_in(3) { 1 + r.below(3).min(most - 1) } else { 1 + r.below(most) };
         (letter, keys(r, number as usize))
     });
-    Book { segments: segments.collect() }
+    Book::of(segments.collect())
 }
 
 // One thing wrong: the contents, a body, the size, the order of two keys.
@@ -139,34 +197,121 @@ fn damaged_file(r: &mut Random, list: &[u8], key: usize) -> Vec<u8> {
     list
 }
 
-// One thing wrong: a field of the file, a half that is not its segment's, other letters, or another list's pairs.
-pub fn damaged_spreads(r: &mut Random, book: &Book, pairs: &[(u8, Vec<Pair>)]) -> Vec<u8> {
-    let mut pairs = pairs.to_vec();
+// What may be wrong with a spread list: what a call after start looks at too, and what start alone does.
+pub const WRONG_CONTENTS: [&str; 11] = [
+    "an empty file",
+    "another number of segments",
+    "fewer segments than the contract list's",
+    "another letter",
+    "a byte that should be zero",
+    "a count of 1,025",
+    "a count that is off",
+    "an offset that is off",
+    "a byte too many",
+    "a byte too few",
+    "contents cut short",
+];
+pub const WRONG_PAIRS: [&str; 6] = [
+    "pairs not ascending",
+    "a pair twice",
+    "a byte outside 32 to 126",
+    "a first half that is not listed",
+    "a second half that is not listed",
+    "a half that is listed for the other segment alone",
+];
+
+pub fn spread_wrongs() -> Vec<&'static str> {
+    [&WRONG_CONTENTS[..], &WRONG_PAIRS].concat()
+}
+
+// The spread list of these pairs with just that wrong; None where there is no such segment, or nothing would be wrong.
+fn with_wrong_contents(r: &mut Random, what: &str, pairs: &[(u8, Vec<Pair>)]) -> Option<Vec<u8>> {
+    let mut spreads = file(pairs);
     let which = r.below(pairs.len() as u64) as usize;
-    match r.below(6) {
-        0 => {
-            let keys = &book.segments[which].1;
-            let strange = a_key(r);
-            pairs[which].1.push(if r.one_in(2) { pair(&r.pick(keys), &strange) } else { pair(&strange, &r.pick(keys)) });
-            pairs[which].1.sort();
+    let (letter, count, offset) = (pairs[which].0, pairs[which].1.len() as u16, 2 + 8 * pairs.len() as u32);
+    let mut put = |field: usize, bytes: &[u8]| spreads[field..field + bytes.len()].copy_from_slice(bytes);
+    let at = 2 + 8 * which; // its contents: letter, zero byte, count, offset
+    match what {
+        "an empty file" => spreads.clear(),
+        "another number of segments" => put(0, &r.pick(&[0, 3, 0x0101, 0x0100, 0x0200u16]).to_be_bytes()),
+        "fewer segments than the contract list's" => spreads = file(&[pairs.get(1 - which)?.clone()]),
+        "another letter" => put(at, &[r.pick(if letter == b'D' { b"TFdU" } else { b"DFtU" })]),
+        "a byte that should be zero" => put(at + 1, &[r.pick(&[1, 32, 255])]),
+        "a count of 1,025" => put(at + 2, &1_025u16.to_be_bytes()),
+        "a count that is off" => put(at + 2, &(if count > 0 && r.one_in(2) { count - 1 } else { count + 1 }).to_be_bytes()),
+        "an offset that is off" => {
+            put(at + 4, &r.pick(&[0, 1, offset - 8, offset - 1, offset + 1, offset + 78, offset + (1 << 16)]).to_be_bytes());
+            return Some(spreads).filter(|spreads| *spreads != file(pairs));
         }
-        1 => {
-            let other = r.pick(&book.letters());
-            let (first, second) = (book.a_key(r, pairs[which].0), book.a_key(r, other));
-            pairs[which].1.push(pair(&first, &second));
-            pairs[which].1.sort();
+        "a byte too many" => spreads.push(r.pick(b" ~\x00")),
+        "a byte too few" => {
+            spreads.pop();
         }
-        2 => pairs[which].0 = r.pick(b"DTDTF"),
-        3 => pairs = a_book(r, 3).pairs(r, 3),
-        _ => return damaged_file(r, &file(&pairs), PAIR),
+        _ => spreads.truncate(1 + r.below(offset as u64 - 1) as usize),
     }
-    file(&pairs)
+    Some(spreads)
+}
+
+// The same with what start alone looks at; None where the contracts leave no room for it.
+fn with_wrong_pairs(r: &mut Random, what: &str, book: &Book, pairs: &[(u8, Vec<Pair>)]) -> Option<Vec<u8>> {
+    let mut all = pairs.to_vec();
+    let which = r.below(all.len() as u64) as usize;
+    let keys = &book.segments[which].1;
+    let pairs = &mut all[which].1;
+    let not_listed = |key: Key| Some(key).filter(|key| !keys.contains(key));
+    match what {
+        "pairs not ascending" => {
+            let (low, high) = (keys[0], *keys.last().filter(|_| keys.len() > 1)?);
+            *pairs = vec![pair(&low, &high), pair(&low, &low)];
+            return Some(file(&all));
+        }
+        "a pair twice" => {
+            let twice = pair(&r.pick(keys), &r.pick(keys));
+            pairs.extend([twice, twice]);
+        }
+        "a byte outside 32 to 126" => {
+            let mut bad = pair(&r.pick(keys), &r.pick(keys));
+            bad[r.below(PAIR as u64) as usize] = r.pick(&[0, 31, 127, 255]);
+            pairs.push(bad);
+        }
+        "a first half that is not listed" => pairs.push(pair(&not_listed(a_key(r))?, &r.pick(keys))),
+        "a second half that is not listed" => pairs.push(pair(&r.pick(keys), &not_listed(a_key(r))?)),
+        _ => {
+            let (listed, strange) = (r.pick(keys), not_listed(r.pick(&book.segments.get(1 - which)?.1))?);
+            pairs.push(if r.one_in(2) { pair(&listed, &strange) } else { pair(&strange, &listed) });
+        }
+    }
+    pairs.sort();
+    Some(file(&all))
+}
+
+// A spread list in which just that is wrong, where there can be one.
+pub fn wrong_spreads(r: &mut Random, what: &str, book: &Book, pairs: &[(u8, Vec<Pair>)]) -> Option<Vec<u8>> {
+    if WRONG_CONTENTS.contains(&what) { with_wrong_contents(r, what, pairs) } else { with_wrong_pairs(r, what, book, pairs) }
+}
+
+// One thing wrong: any of these, any byte of the file, or another list's pairs.
+pub fn damaged_spreads(r: &mut Random, book: &Book, pairs: &[(u8, Vec<Pair>)]) -> Vec<u8> {
+    match r.below(6) {
+        0 => damaged_file(r, &file(pairs), PAIR),
+        1 => file(&a_book(r, 3).pairs(r, 3)),
+        _ => loop {
+            let what = r.pick(&spread_wrongs());
+            if let Some(spreads) = wrong_spreads(r, what, book, pairs) {
+                return spreads;
+            }
+        },
+    }
 }
 
 // The bodies in another order: the header still passes, and lookup goes by halving all the same.
 pub fn shuffled_list(r: &mut Random, list: &[u8]) -> Vec<u8> {
+    shuffled_file(r, list, KEY)
+}
+
+pub fn shuffled_file(r: &mut Random, list: &[u8], key: usize) -> Vec<u8> {
     let contents = if list[1] == 2 { 18 } else { 10 };
-    let mut bodies: Vec<&[u8]> = list[contents..].chunks(KEY).collect();
+    let mut bodies: Vec<&[u8]> = list[contents..].chunks(key).collect();
     for i in (1..bodies.len()).rev() {
         bodies.swap(i, r.below(i as u64 + 1) as usize);
     }
@@ -208,6 +353,24 @@ pub fn a_text(r: &mut Random, kind: Kind, width: usize) -> Vec<u8> {
     format!("{text:>width$}").into_bytes()
 }
 
+// Differences at the edges: minus zero, zeros in front, and the largest of each side that the width holds.
+const DIFFERENCES: [&str; 12] = [
+    "-0", "-0.00", "-007.5", "-0.0000001", "-99999999999.9999", "99999999999.99999", "-99999999999", "-00000.0000000", "-1",
+    "-123456789.12345", "-000000000000005", "-0.5",
+];
+
+// A difference in range: blank, a price, or one below zero.
+pub fn a_difference(r: &mut Random, width: usize) -> Vec<u8> {
+    if r.one_in(8) {
+        return format!("{:>width$}", r.pick(&DIFFERENCES)).into_bytes();
+    }
+    let mut text = a_text(r, PRICE, width);
+    if let (Some(first @ 1..), true) = (text.iter().position(|&b| b != b' '), r.one_in(2)) {
+        text[first - 1] = b'-';
+    }
+    text
+}
+
 // No number of any kind.
 const SHAPES: [&str; 19] =
     ["100.", ".5", "-1", "+1", "1 2", "1. 5", "1 .5", "1..5", "1.5.5", "1,5", ".", "1e5", "x", "\u{0}", "5\u{0}", "\u{b}1", "1\u{9}", "/", ":"];
@@ -217,7 +380,11 @@ const PRICES: [&str; 10] = [
     "100000000000", "1.00000000", "0.00000000", "99999999999999999", "100000000000.0", "00000000.00000000", "100000000000.0x", "1.00000000x",
     "1.00000000 1", "1.00000000.",
 ];
-const QUANTITIES: [&str; 4] = ["1.0", "1.", "0.5", "12345678901."];
+const SIGNS: [&str; 18] = [
+    "- 5", "--5", "-", "-.5", "5-", "+5", "-5-", "1-5", "-+5", "-1.", "-x", "-100000000000", "-1.00000000", "-0.00000000", "-9999999999999999",
+    "-100000000000.0", "-100000000000x", "-1.00000000x",
+];
+const QUANTITIES: [&str; 6] = ["1.0", "1.", "0.5", "12345678901.", "-1", "-0"];
 const TURNOVERS: [&str; 9] = [
     "10000000000000000", "1.000", "0.001", "9999999999999999999999999", "10000000000000000.00", "18446744073709551616", "184467440737095516.16",
     "1.000x", "1.000 1",
@@ -230,6 +397,16 @@ pub fn a_wrong_text(r: &mut Random, kind: Kind, width: usize) -> Vec<u8> {
         QUANTITY => &QUANTITIES,
         _ => &TURNOVERS,
     };
+    a_wrong_one(r, of_kind, width)
+}
+
+// Some of them are no difference only by what is done to them here.
+pub fn a_wrong_difference(r: &mut Random, width: usize) -> Vec<u8> {
+    let of_kind: &[&str] = if r.one_in(4) { &PRICES } else { &SIGNS };
+    a_wrong_one(r, of_kind, width)
+}
+
+fn a_wrong_one(r: &mut Random, of_kind: &[&str], width: usize) -> Vec<u8> {
     let text = if r.one_in(2) { r.pick(of_kind) } else { r.pick(&SHAPES) };
     let mut text = format!("{text:>width$}").into_bytes();
     let spaces = text.iter().take_while(|&&b| b == b' ').count();
@@ -249,6 +426,7 @@ fn a_field(r: &mut Random, row: Row, width: usize) -> Vec<u8> {
         Row::MarketType => vec![b'N'],
         Row::Status => vec![r.pick(b"S ")],
         Row::Number(kind) => a_text(r, kind, width),
+        Row::Difference => a_difference(r, width),
     }
 }
 
@@ -272,17 +450,17 @@ fn seal(message: &mut [u8]) {
     message[end..end + 2].copy_from_slice(&sum);
 }
 
-pub fn an_update(r: &mut Random, letter: u8, level: usize, number: u32, key: &Key) -> Vec<u8> {
+pub fn an_update(r: &mut Random, form: &Form, letter: u8, number: u32, key: &[u8]) -> Vec<u8> {
     let mut data = key.to_vec();
-    for &(row, width) in reference::layout(level) {
+    for &(row, width) in form.told() {
         data.extend(a_field(r, row, width));
     }
-    sealed([letter, b'N'], number, &data)
+    sealed([letter, form.code], number, &data)
 }
 
 fn passed_over(r: &mut Random, letter: u8, number: u32) -> Vec<u8> {
-    let code = r.pick(b"ABCDEFGIJKLMOPQRSTUVWXYZ");
-    let length = if r.one_in(6) { LENGTHS[r.below(2) as usize] as u64 - 11 } else { r.below(60) };
+    let code = r.pick(b"ABCDEFGIJKLMOQRSTUVWXYZ");
+    let length = if r.one_in(6) { r.pick(&[LENGTHS, SPREAD_LENGTHS].concat()) as u64 - 11 } else { r.below(60) };
     let data: Vec<u8> = (0..length).map(|_| r.next() as u8).collect();
     let mut message = sealed([letter, code], number, &data);
     if r.one_in(3) {
@@ -292,38 +470,57 @@ fn passed_over(r: &mut Random, letter: u8, number: u32) -> Vec<u8> {
     message
 }
 
-// A sound message. A heartbeat looks at no number.
+// A sound message. A heartbeat looks at no number; pairs have updates where there are any.
 pub fn a_message(r: &mut Random, book: &Book, letter: u8, number: u32) -> Vec<u8> {
-    match r.below(8) {
+    let level = 1 + r.below(5) as usize / 3;
+    match r.below(10) {
         0 => sealed([letter, b'H'], 0, &[]),
         1 | 2 => passed_over(r, letter, number),
-        kind => {
+        3..=5 if !book.listed_pairs(letter).is_empty() => {
+            let pair = book.a_pair(r, letter);
+            an_update(r, reference::of_pair(level), letter, number, &pair)
+        }
+        _ => {
             let key = book.a_key(r, letter);
-            an_update(r, letter, if kind < 6 { 1 } else { 2 }, number, &key)
+            an_update(r, reference::of_contract(level), letter, number, &key)
         }
     }
 }
 
-fn field_of(level: usize, row: usize) -> (usize, usize) {
-    let before: usize = reference::layout(level)[..row].iter().map(|&(_, width)| width).sum();
-    (8 + before, reference::layout(level)[row].1)
+fn field_of(form: &Form, row: usize) -> (usize, usize) {
+    let before: usize = form.rows[..row].iter().map(|&(_, width)| width).sum();
+    (8 + before, form.rows[row].1)
 }
 
 // Makes a wrong row in an update, so that 11 or 12 is due.
-fn damage_row(r: &mut Random, level: usize, message: &mut [u8]) {
-    let rows = reference::layout(level).len() as u64;
-    let status = if level == 1 { 12 } else { 28 };
+fn damage_row(r: &mut Random, form: &Form, message: &mut [u8]) {
+    let any = form.key_rows + r.below(form.told().len() as u64) as usize;
     let row = match r.below(8) {
-        0 => MARKET_TYPE_ROW,
-        1 => status,
-        2 => rows as usize - 1,
-        _ => MARKET_TYPE_ROW + r.below(rows - MARKET_TYPE_ROW as u64) as usize,
+        0 => form.key_rows,
+        1 => form.rows.iter().position(|&(row, _)| row == Row::Status).unwrap_or(any),
+        2 => form.rows.len() - 1,
+        _ => any,
     };
-    let (at, width) = field_of(level, row);
-    match reference::layout(level)[row].0 {
-        Row::Number(kind) => message[at..at + width].copy_from_slice(&a_wrong_text(r, kind, width)),
-        _ => message[at] = r.pick(b"nOSA `s\x00\xff"),
+    let (at, width) = field_of(form, row);
+    let field = &mut message[at..at + width];
+    match form.rows[row].0 {
+        Row::Number(kind) => field.copy_from_slice(&a_wrong_text(r, kind, width)),
+        Row::Difference => field.copy_from_slice(&a_wrong_difference(r, width)),
+        _ => field[0] = r.pick(b"nOSA `s\x00\xff"),
     }
+}
+
+// A number that is only too large or too fine, so that 12 is due. No quantity of its width is either.
+fn damage_range(r: &mut Random, form: &Form, message: &mut [u8]) {
+    let rows: Vec<usize> = (form.key_rows..form.rows.len()).filter(|&row| form.rows[row].1 > 12).collect();
+    let row = r.pick(&rows);
+    let (at, width) = field_of(form, row);
+    let text = match form.rows[row].0 {
+        Row::Difference => r.pick(&["-100000000000", "-1.00000000", "-0.00000000", "-9999999999999999", "100000000000", "1.00000000"]),
+        Row::Number(PRICE) => r.pick(&["100000000000", "1.00000000", "0.00000000", "99999999999999999"]),
+        _ => r.pick(&["10000000000000000", "1.000", "18446744073709551616", "9999999999999999999999999"]),
+    };
+    message[at..at + width].copy_from_slice(format!("{text:>width$}").as_bytes());
 }
 
 // A sum that a careless box would take: not lowered, high byte first, zero, one bit off.
@@ -347,9 +544,10 @@ fn damage_sum(r: &mut Random, message: &mut [u8]) {
 
 // An update whose sum has a byte that is lowered, made by trying contents.
 fn a_lowered_update(r: &mut Random, book: &Book, letter: u8, number: u32) -> Vec<u8> {
-    let key = book.a_key(r, letter);
+    let form = if r.one_in(3) { reference::of_pair(1) } else { reference::of_contract(1) };
+    let key = book.a_key_for(r, form, letter);
     loop {
-        let message = an_update(r, letter, 1, number, &key);
+        let message = an_update(r, form, letter, number, &key);
         let sum = &message[message.len() - 3..message.len() - 1];
         if sum.iter().any(|b| matches!(b, 9 | 12 | 16 | 18)) {
             return message;
@@ -357,16 +555,16 @@ fn a_lowered_update(r: &mut Random, book: &Book, letter: u8, number: u32) -> Vec
     }
 }
 
-// The level of an update that stands; anything else is made into one first.
-fn as_update(r: &mut Random, book: &Book, letter: u8, number: u32, message: &mut Vec<u8>) -> usize {
-    if message[1] == b'N' {
-        if let Some(k) = LENGTHS.iter().position(|&length| length == message.len()) {
-            return k + 1;
-        }
+// The form of an update that stands; anything else is made into one first.
+fn as_update(r: &mut Random, book: &Book, letter: u8, number: u32, message: &mut Vec<u8>) -> &'static Form {
+    if let Some(form) = reference::form_of(message[1], message.len()) {
+        return form;
     }
-    let (level, key) = (1 + r.below(2) as usize, book.a_key(r, letter));
-    *message = an_update(r, letter, level, number, &key);
-    level
+    let level = 1 + r.below(2) as usize;
+    let form = if r.one_in(3) { reference::of_pair(level) } else { reference::of_contract(level) };
+    let key = book.a_key_for(r, form, letter);
+    *message = an_update(r, form, letter, number, &key);
+    form
 }
 
 // With the right sum again, as a rule: now and then it stays the old one, and a second rule is broken.
@@ -404,26 +602,40 @@ pub fn damage(r: &mut Random, rule: u8, book: &Book, letter: u8, number: u32, me
             message[4..8].fill(0);
             reseal(r, message);
         }
-        11 | 12 => {
-            let level = as_update(r, book, letter, number, message);
-            (0..1 + r.below(3)).for_each(|_| damage_row(r, level, message));
+        11 => {
+            let form = as_update(r, book, letter, number, message);
+            (0..1 + r.below(3)).for_each(|_| damage_row(r, form, message));
+            reseal(r, message);
+        }
+        12 => {
+            let form = as_update(r, book, letter, number, message);
+            damage_range(r, form, message);
+            if r.one_in(4) {
+                damage_row(r, form, message);
+            }
             reseal(r, message);
         }
         _ => {
-            as_update(r, book, letter, number, message);
-            message[8 + r.below(KEY as u64) as usize] = r.pick(b"\x00\x1f!~\x7f\xff Z");
+            let form = as_update(r, book, letter, number, message);
+            if form.is_pair() {
+                message[8..8 + PAIR].copy_from_slice(&book.a_pair_beside(r, letter));
+            } else {
+                message[8 + r.below(KEY as u64) as usize] = r.pick(b"\x00\x1f!~\x7f\xff Z");
+            }
             reseal(r, message);
         }
     }
 }
 
-// A length that is none of its code's, with all else as it should be.
+// A length that is none of its code's, with all else as it should be: the other code's lengths too.
 fn damage_length(r: &mut Random, book: &Book, letter: u8, number: u32, message: &mut Vec<u8>) {
-    as_update(r, book, letter, number, message);
+    let form = as_update(r, book, letter, number, message);
     if r.one_in(4) {
         message[1] = b'H';
     }
-    let length = r.pick(&[11, 12, 248, 250, 504, 506, 260]);
+    let near = form.length as u64 - 1 + 2 * r.below(2);
+    let others = if form.is_pair() { LENGTHS } else { SPREAD_LENGTHS };
+    let length = r.pick(&[11, 12, near as usize, near as usize, others[0], others[1], 260]);
     message.resize(length, b' ');
     message[2..4].copy_from_slice(&(length as u16).to_be_bytes());
     *message.last_mut().unwrap() = 13;
@@ -572,7 +784,7 @@ pub fn a_batch(r: &mut Random, book: &Book, letter: u8, pace: Pace, row: &[u32])
     batch
 }
 
-// ---- quotes for the writer: the rows from the market type on
+// ---- quotes for the writer: the rows behind the key
 
 // An amount whose shortest text fits the width.
 pub fn an_amount(r: &mut Random, kind: Kind, width: usize) -> u64 {
@@ -591,26 +803,39 @@ pub fn an_amount(r: &mut Random, kind: Kind, width: usize) -> u64 {
     }
 }
 
-pub fn a_quote(r: &mut Random, level: usize) -> Vec<u64> {
-    let rows = &reference::layout(level)[MARKET_TYPE_ROW..];
-    let values = rows.iter().map(|&(row, width)| match row {
+// On either side of zero; now and then minus zero.
+fn a_signed_amount(r: &mut Random, width: usize) -> u64 {
+    if r.one_in(2) {
+        return an_amount(r, PRICE, width);
+    }
+    MINUS | if r.one_in(12) { 0 } else { an_amount(r, PRICE, width - 1) }
+}
+
+pub fn values_of(r: &mut Random, form: &Form) -> Vec<u64> {
+    let values = form.told().iter().map(|&(row, width)| match row {
         Row::MarketType => b'N' as u64,
         Row::Status => r.pick(b"S ") as u64,
-        Row::Number(_) if r.one_in(5) => NONE,
+        Row::Number(_) | Row::Difference if r.one_in(5) => NONE,
         Row::Number(kind) => an_amount(r, kind, width),
-        Row::Text => unreachable!("texts stand before the market type"),
+        Row::Difference => a_signed_amount(r, width),
+        Row::Text => unreachable!("texts stand in the key"),
     });
     values.collect()
+}
+
+pub fn a_quote(r: &mut Random, level: usize) -> Vec<u64> {
+    values_of(r, reference::of_contract(level))
 }
 
 pub fn damage_quote(r: &mut Random, values: &mut [u64]) {
     let at = r.below(values.len() as u64 + 6);
     let at = if at < values.len() as u64 { at as usize } else { r.pick(&[0, 7, 23]).min(values.len() - 1) };
-    values[at] = r.pick(&[
+    let value = r.pick(&[
         0, 32, 78, 83, 255, 256, 78 + 256, 83 + 256, 999_999_999_999, 1_000_000_000_000, 99_999_999_999_999_999, 999_999_999_999_999_999,
-        1_000_000_000_000_000_000, NONE - 1, NONE, 999_999_999_999_999_990, 999_999_999_999_999_900, 1_234_567_891_234_567, 12_345_678_912_345_678,
-        123_456_789_123_456_789,
+        1_000_000_000_000_000_000, NONE - 1, NONE, 999_999_999_999_999_990, 999_999_999_999_999_900, 999_999_999_999_999_000, 1_234_567_891_234_567,
+        12_345_678_912_345_678, 123_456_789_123_456_789, 12_345_678_912_345_670,
     ]);
+    values[at] = value | if r.one_in(3) { MINUS } else { 0 };
 }
 
 pub fn live_cells(row: &[u32]) -> usize {

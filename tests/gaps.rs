@@ -17,6 +17,7 @@ const LARGEST_SIZE: usize = 32_767;
 
 struct Reader {
     list: Vec<u8>,
+    spreads: Vec<u8>, // none
     rows: Vec<u32>,
     records: Vec<u64>,
     batches: usize,
@@ -29,8 +30,9 @@ impl Reader {
         if list.len() > LARGEST_FILE {
             return Err(15);
         }
-        let mut reader = Reader { list, rows: vec![0; 2 * GAP_ROW], records: vec![0; 2 * 4096 * RECORD], batches: 0, lines: vec![] };
-        reference::start(&reader.list, &[1, 1], &mut reader.rows, &mut reader.records).map_err(|refusal| refusal.number)?;
+        let spreads = reference::no_spreads(&list, usize::MAX).unwrap_or_default();
+        let mut reader = Reader { list, spreads, rows: vec![0; 2 * GAP_ROW], records: vec![0; 2 * 4096 * RECORD], batches: 0, lines: vec![] };
+        reference::start(&reader.list, &reader.spreads, &[1, 1], &mut reader.rows, &mut reader.records).map_err(|refusal| refusal.number)?;
         let header = reference::header(&reader.list).unwrap();
         if header.segments().iter().any(|s| s.count > MOST_KEYS) { Err(15) } else { Ok(reader) }
     }
@@ -40,7 +42,7 @@ impl Reader {
         let size = if left.len() < 5 { 0 } else { u16::from_be_bytes([left[1], left[2]]) as usize };
         let whole = left.len() >= 5 && size <= LARGEST_SIZE && left.len() >= size + 5;
         let batch = if whole { &left[..size + 5] } else { left };
-        if let Err(refusal) = reference::take(reference::sum_by_sixteens, &self.list, &mut self.rows, &mut self.records, batch) {
+        if let Err(refusal) = reference::take(reference::sum_by_sixteens, &self.list, &self.spreads, &mut self.rows, &mut self.records, batch) {
             self.lines.push(format!("batch {} refused {} message {}", self.batches, refusal.number, refusal.message));
         }
         self.batches += 1;
@@ -81,7 +83,7 @@ fn a_stream(r: &mut Random, book: &Book, batches: u64) -> Vec<u8> {
     let mut input = vec![];
     let list = book.bytes();
     let mut reader = Reader::start(Some(&list)).ok();
-    let pace = r.pick(&[Pace::Smooth, Pace::Mixed, Pace::Holes, Pace::Far]);
+    let pace = r.pick(&[Pace::Smooth, Pace::Mixed, Pace::Holes, Pace::Holes, Pace::Far]);
     for _ in 0..batches {
         let letter = if r.one_in(15) { r.pick(b"DTF") } else { r.pick(&book.letters()) };
         let place = book.letters().iter().position(|&l| l == letter).unwrap_or(0);
@@ -114,7 +116,7 @@ const EXAMPLE: &str = "01000B000154 45000B000000010000 0D 01000B00015445000B0000
 fn example(options: &Options, held: &mut Held) {
     let digits: Vec<u8> = EXAMPLE.bytes().filter(|b| *b != b' ').collect();
     let input: Vec<u8> = digits.chunks(2).map(|d| u8::from_str_radix(std::str::from_utf8(d).unwrap(), 16).unwrap()).collect();
-    let list = Book { segments: vec![(b'T', vec![*b"FUTCOMGOLD      05-APR-2026          XX"])] }.bytes();
+    let list = Book::of(vec![(b'T', vec![*b"FUTCOMGOLD      05-APR-2026          XX"])]).bytes();
     held.hold(list.len() == 49, || "gaps: one T contract does not make 49 bytes".into());
     let lines: Vec<String> = ["segment highest missing", "T 4 2", "T gap 2-3", "end"].map(String::from).to_vec();
     held.hold(printed(Some(&list), &input) == lines, || "reference: the example of `gaps`".into());
@@ -126,10 +128,29 @@ fn example(options: &Options, held: &mut Held) {
     }
 }
 
+// A start with no spreads: a sound message of a pair is 13, and its other rules come first.
+fn spreads(options: &Options, held: &mut Held) {
+    const NEAR: feed::Key = *b"FUTCURUSDINR    27-MAR-2026          XX";
+    const FAR: feed::Key = *b"FUTCURUSDINR    28-APR-2026          XX";
+    let list = Book::of(vec![(b'D', vec![NEAR, FAR])]).bytes();
+    let data = [&NEAR[..], &FAR, &[b' '; 138]].concat();
+    let message = |data: &[u8]| feed::sealed(*b"DP", 2, data);
+    let mut zero = message(&data);
+    zero[224..226].fill(0);
+    let mut strange = data.clone();
+    strange[78 + 16] = b'-';
+    let messages = [message(&data), message(&data[1..]), zero, message(&strange), feed::sealed(*b"DS", 2, &data)];
+    let input: Vec<u8> = messages.into_iter().flat_map(|message| feed::batch(&[message])).collect();
+    let refused = [13, 8, 9, 11].iter().enumerate().map(|(batch, number)| format!("batch {batch} refused {number} message 0"));
+    let lines: Vec<String> = refused.chain(["segment highest missing", "D 2 1", "D gap 1-1", "end"].map(String::from)).collect();
+    held.hold(printed(Some(&list), &input) == lines, || "reference: pairs in `gaps`".into());
+    held.lines(&lines, &options.run(Contracts::File(&list), &input), |line| format!("gaps: pairs, line {line}"));
+}
+
 // Files that are refused, and the largest that are not.
 fn files(options: &Options, held: &mut Held) {
     let mut r = Random::new(options.seed);
-    let mut book = |counts: &[usize]| Book { segments: b"DT".iter().zip(counts).map(|(&letter, &n)| (letter, feed::keys(&mut r, n))).collect() }.bytes();
+    let mut book = |counts: &[usize]| Book::of(b"DT".iter().zip(counts).map(|(&letter, &n)| (letter, feed::keys(&mut r, n))).collect()).bytes();
     let mut lists = vec![book(&[64, 64]), book(&[64]), book(&[65]), book(&[1, 65]), book(&[65, 1]), book(&[419]), book(&[420]), book(&[4096])];
     lists.extend([vec![], vec![0; LARGEST_FILE], vec![0; LARGEST_FILE + 1]]);
     let mut swapped = book(&[65, 2]);
@@ -151,7 +172,9 @@ fn streams(options: &Options, held: &mut Held) {
     for number in 0..STREAMS * options.times {
         let mut r = Random::new(options.seed.wrapping_mul(1_000_003).wrapping_add(number));
         let most = r.pick(&[1, 3, 64]);
-        let book = feed::a_book(&mut r, most);
+        // The program knows no pairs: in one of eight streams there are messages of some.
+        let pairs = if r.one_in(8) { 6 } else { 0 };
+        let book = feed::a_book(&mut r, most).with_pairs(&mut r, pairs);
         let length = r.pick(&[0, 1, 10, 40]);
         let input = a_stream(&mut r, &book, length);
         let list = if r.one_in(12) { feed::damaged_list(&mut r, &book.bytes()) } else { book.bytes() };
@@ -181,6 +204,7 @@ fn main() {
     let options = Options::read();
     let mut held = Held { passed: 0, failed: 0 };
     example(&options, &mut held);
+    spreads(&options, &mut held);
     files(&options, &mut held);
     streams(&options, &mut held);
     held.end();

@@ -1,11 +1,11 @@
-// Histories of calls that look random, each with the lines that the reference answers: lists and memory as they should be and
-// otherwise, rows handed back unsound, batches and quotes of every kind.
+// Histories of calls that look random, each with the lines that the reference answers: both lists and memory as they should be and
+// otherwise, rows handed back unsound, batches and quotes of every kind, of contracts and of pairs.
 #![allow(dead_code)] // each test uses a part
 
 use crate::asks::{Ask, Bench, LARGEST_BATCH, LARGEST_LIST};
-use crate::feed::{self, Book, Pace};
+use crate::feed::{self, Book, Pace, WRONG_CONTENTS};
 use crate::random::Random;
-use crate::reference::{self, GAP_ROW, KEY, MOST_RUNS, RECORD, RUNS};
+use crate::reference::{self, Form, GAP_ROW, KEY, LENGTHS, MOST_RUNS, PAIR, RECORD, RUNS, SPREAD_LENGTHS, SPREAD_RECORD};
 use std::collections::BTreeMap;
 
 const STEPS: u64 = 220;
@@ -49,7 +49,9 @@ impl History {
     fn new(seed: u64, number: u64) -> History {
         let mut r = Random::new(seed.wrapping_mul(1_000_003).wrapping_add(number));
         let most = r.pick(&[1, 4, 12, 64]);
-        let book = feed::a_book(&mut r, most);
+        // The bench has memory for all of them.
+        let pairs = r.pick(&[0, 1, 6, 32, if most > 12 { 32 } else { 90 }]);
+        let book = feed::a_book(&mut r, most).with_pairs(&mut r, pairs);
         let contracts = match r.below(8) {
             0 => None,
             1 => Some(feed::damaged_list(&mut r, &book.bytes())),
@@ -68,6 +70,8 @@ impl History {
             let list = h.book.bytes();
             h.ask(Ask::List(list), seen);
         }
+        h.few_calls(seen);
+        h.hand_spreads(seen);
         h.few_calls(seen);
         h.begin(seen);
         for _ in 0..STEPS {
@@ -91,10 +95,15 @@ impl History {
 
     fn ask(&mut self, ask: Ask, seen: &mut Seen) -> Option<String> {
         self.input.extend(ask.bytes());
+        let (rows, letters) = (self.bench.rows.clone(), self.book.letters());
         let line = self.bench.line(&ask);
         if let Some(line) = &line {
             self.lines.push((self.asked.len(), line.clone()));
             note(&ask, line, seen);
+            if let (Ask::Take(batch), None) = (&ask, refusal_of(line)) {
+                let place = letters.iter().position(|&l| l == batch[5]).unwrap_or(0);
+                note_taken(batch, &mut rows[GAP_ROW * place..GAP_ROW * (place + 1)].to_vec(), seen);
+            }
         }
         self.asked.push(ask);
         line
@@ -168,8 +177,10 @@ impl History {
         }
         let mut messages = vec![];
         let update = |h: &mut History, number| {
-            let key = h.book.a_key(&mut h.r, letter);
-            feed::an_update(&mut h.r, letter, 1, number, &key)
+            let pair = !h.book.listed_pairs(letter).is_empty() && h.r.one_in(3);
+            let form = if pair { reference::of_pair(1) } else { reference::of_contract(1) };
+            let key = h.book.a_key_for(&mut h.r, form, letter);
+            feed::an_update(&mut h.r, form, letter, number, &key)
         };
         while (row[2] as usize) < MOST_RUNS && messages.len() < 120 {
             let number = row[1] + 2;
@@ -208,11 +219,23 @@ impl History {
         self.ask(Ask::Record { letter, level, key }, seen);
     }
 
+    fn read_spread(&mut self, seen: &mut Seen) {
+        let letter = self.letter();
+        let level = 1 + self.r.below(2) as usize;
+        let mut pair = self.book.a_pair(&mut self.r, letter);
+        match self.r.below(20) {
+            0 => pair[self.r.below(PAIR as u64) as usize] = self.r.next() as u8,
+            1 => pair.rotate_left(KEY),
+            _ => {}
+        }
+        self.ask(Ask::Spread { letter, level, pair }, seen);
+    }
+
     fn write(&mut self, seen: &mut Seen) {
         let level = 1 + self.r.below(2) as usize;
         let mut code = [self.r.pick(b"DT"), self.r.pick(b"NNNNH")];
         if self.r.one_in(12) {
-            code[self.r.below(2) as usize] = self.r.pick(b"AFHNDThn\x00");
+            code[self.r.below(2) as usize] = self.r.pick(b"AFHNPDThn\x00");
         }
         let mut number = if code[1] == b'H' { 0 } else { 1 + self.r.below(4_294_967_295) as u32 };
         if self.r.one_in(12) {
@@ -232,8 +255,30 @@ impl History {
         self.ask(Ask::Write { code, level, number, key, room, values }, seen);
     }
 
+    fn write_spread(&mut self, seen: &mut Seen) {
+        let level = 1 + self.r.below(2) as usize;
+        let mut code = [self.r.pick(b"DT"), b'P'];
+        if self.r.one_in(10) {
+            code[self.r.below(2) as usize] = self.r.pick(b"AFHNPDTpt\x00");
+        }
+        let any = 1 + self.r.below(4_294_967_295) as u32;
+        let number = if self.r.one_in(10) { self.r.pick(&[0, 0, 1, 4_294_967_295]) } else { any };
+        let mut pair = feed::pair(&feed::a_key(&mut self.r), &feed::a_key(&mut self.r));
+        if self.r.one_in(10) {
+            let at = self.r.below(PAIR as u64) as usize;
+            pair[at] = self.r.pick(&[0, 31, 127, 255, 32, 126]);
+        }
+        let mut values = feed::values_of(&mut self.r, reference::of_pair(level));
+        for _ in 0..self.r.pick(&[0, 0, 0, 1, 2]) {
+            feed::damage_quote(&mut self.r, &mut values);
+        }
+        let exact = SPREAD_LENGTHS[level - 1] as u16;
+        let room = self.r.pick(&[1_024, 65_535, exact, exact, exact - 1, 0, 1_025]);
+        self.ask(Ask::WriteSpread { code, level, number, pair, room, values }, seen);
+    }
+
     fn any_call(&mut self, seen: &mut Seen) {
-        match self.r.below(20) {
+        match self.r.below(24) {
             0..=9 => self.send(seen),
             10..=12 => self.read(seen),
             13 | 14 => self.list_gaps(seen),
@@ -241,6 +286,8 @@ impl History {
                 let letter = self.letter();
                 self.ask(Ask::Off { letter }, seen);
             }
+            16 | 17 => self.read_spread(seen),
+            18 | 19 => self.write_spread(seen),
             _ => self.write(seen),
         }
     }
@@ -258,10 +305,18 @@ impl History {
     }
 
     fn lend_less(&mut self, seen: &mut Seen) {
-        let (rows, records) = ((GAP_ROW * self.book.segments.len()) as u32, (RECORD * self.book.contracts()) as u32);
-        let rows = self.r.pick(&[rows, rows - 1, rows, 0, u32::MAX]);
-        let records = self.r.pick(&[records, records - 1, records, 0, u32::MAX]);
+        let (all_rows, contracts) = ((GAP_ROW * self.book.segments.len()) as u32, (RECORD * self.book.contracts()) as u32);
+        let all_records = contracts + (SPREAD_RECORD * self.book.number_of_pairs()) as u32;
+        let rows = self.r.pick(&[all_rows, all_rows - 1, all_rows, 0, u32::MAX]);
+        let records = self.r.pick(&[all_records, all_records - 1, all_records, contracts, contracts - 1, 0, u32::MAX]);
         self.ask(Ask::Lend { rows, records }, seen);
+        if rows >= all_rows && (contracts..all_records).contains(&records) {
+            self.begin(seen);
+            *seen.entry("15 for the pairs' records alone".into()).or_default() += 1;
+        }
+        if self.r.one_in(6) {
+            self.hand_other_spreads(seen);
+        }
         self.few_calls(seen);
         self.ask(Ask::Lend { rows: u32::MAX, records: u32::MAX }, seen);
     }
@@ -272,12 +327,66 @@ impl History {
             0 => feed::a_book(&mut self.r, 64).bytes(),
             1 | 2 => feed::shuffled_list(&mut self.r, &list),
             3 => vec![0; self.r.below(20) as usize],
-            4 => Book { segments: vec![(b'T', feed::keys(&mut self.r, 129))] }.bytes(),
+            4 => Book::of(vec![(b'T', feed::keys(&mut self.r, 179))]).bytes(),
             _ => feed::damaged_list(&mut self.r, &list),
         };
         self.ask(Ask::List(other), seen);
+        if self.r.one_in(3) {
+            let spreads = self.book.spread_bytes();
+            self.ask(Ask::Spreads(spreads), seen);
+        }
         self.few_calls(seen);
         self.ask(Ask::List(list), seen);
+        if self.r.one_in(2) {
+            self.few_calls(seen);
+        }
+        self.hand_spreads(seen);
+    }
+
+    // The book's own pairs, from here on.
+    fn hand_spreads(&mut self, seen: &mut Seen) {
+        let spreads = self.book.spread_bytes();
+        self.ask(Ask::Spreads(spreads), seen);
+    }
+
+    // Bad in one way: start refuses it, and so does a call after start where it looks at what is bad.
+    fn hand_wrong_spreads(&mut self, seen: &mut Seen) {
+        let wrong = self.r.pick(&feed::spread_wrongs());
+        let spreads = match feed::wrong_spreads(&mut self.r, wrong, &self.book, &self.book.spreads) {
+            Some(spreads) => spreads,
+            None => return,
+        };
+        self.ask(Ask::Spreads(spreads), seen);
+        let letter = self.r.pick(&self.book.letters());
+        let line = self.ask(Ask::Gaps { letter, cells: 128 }, seen);
+        let looked = line.as_deref() == Some("gaps refused 16 0 0 0");
+        assert_eq!(looked, WRONG_CONTENTS.contains(&wrong), "{wrong}");
+        let line = self.ask(Ask::Start(vec![1, 1]), seen);
+        assert_eq!(line.as_deref(), Some("start refused 16 0 0 0"), "{wrong}");
+        *seen.entry(format!("16 for {wrong}")).or_default() += 1;
+    }
+
+    // Other pairs, more or fewer of them, in another order, or none; then those of the book again.
+    fn hand_other_spreads(&mut self, seen: &mut Seen) {
+        let right = self.book.spread_bytes();
+        match self.r.below(6) {
+            0..=2 => self.hand_wrong_spreads(seen),
+            3 => {
+                let spreads = feed::shuffled_file(&mut self.r, &right, PAIR);
+                self.ask(Ask::Spreads(spreads), seen);
+            }
+            4 => {
+                let most = self.r.pick(&[0, 1, 40]);
+                let spreads = feed::file(&self.book.pairs(&mut self.r, most));
+                self.ask(Ask::Spreads(spreads), seen);
+            }
+            _ => {
+                let spreads = feed::damaged_spreads(&mut self.r, &self.book, &self.book.spreads);
+                self.ask(Ask::Spreads(spreads), seen);
+            }
+        }
+        self.few_calls(seen);
+        self.hand_spreads(seen);
     }
 
     // Writes a gap row: its start, highest, number of runs and those runs' cells.
@@ -371,25 +480,38 @@ impl History {
                 self.ask(Ask::Poke { cell, value: 5 }, seen);
             }
             11 => self.send_large(seen),
+            12..=14 => self.hand_other_spreads(seen),
             _ => self.any_call(seen),
         }
     }
 
     // What ends the reading: nothing more, or something that is no whole command; what follows it is not read.
     fn finish(&mut self) {
-        let whole = Ask::Record { letter: b'D', level: 1, key: feed::a_key(&mut self.r) }.bytes();
-        let (tail, ending): (Vec<u8>, &str) = match self.r.below(8) {
+        let key = feed::a_key(&mut self.r);
+        let contract = Ask::Record { letter: b'D', level: 1, key }.bytes();
+        let spread = Ask::Spread { letter: b'D', level: 1, pair: feed::pair(&key, &key) }.bytes();
+        let written = Ask::WriteSpread { code: *b"DP", level: 1, number: 1, pair: feed::pair(&key, &key), room: 227, values: vec![0; 9] }.bytes();
+        let whole = match self.r.below(3) {
+            0 => contract,
+            1 => spread,
+            _ => written,
+        };
+        let level = if whole[0] == b'V' { 3 } else { 2 };
+        let too_large = |command: u8, most: usize| [&[command], &(most as u32 + 1).to_be_bytes()[..], &vec![0; most + 1]].concat();
+        let (tail, ending): (Vec<u8>, &str) = match self.r.below(10) {
             0 => (vec![], "nothing"),
-            1 => (vec![self.r.pick(b"X\x00sjZ\xff"), b'O', b'D'], "an unknown command"),
+            1 => (vec![self.r.pick(b"Y\x00sxqvZ\xff"), b'O', b'D'], "an unknown command"),
             2 => (whole[..self.r.below(whole.len() as u64 - 1) as usize + 1].to_vec(), "a cut command"),
             3 => {
                 let mut other = whole;
-                other[2] = self.r.pick(b"03\x01\x02 ");
+                other[level] = self.r.pick(b"03\x01\x02 ");
                 (other, "another level")
             }
-            4 => ([&[b'J'], &(LARGEST_BATCH as u32 + 1).to_be_bytes()[..], &vec![0; LARGEST_BATCH + 1]].concat(), "too large a batch"),
-            5 => ([&[b'L'], &(LARGEST_LIST as u32 + 1).to_be_bytes()[..], &vec![0; LARGEST_LIST + 1]].concat(), "too large a list"),
-            6 => (vec![b'K', 0, 0, 0, 9, 1], "a cut batch"),
+            4 => (too_large(b'J', LARGEST_BATCH), "too large a batch"),
+            5 => (too_large(b'L', LARGEST_LIST), "too large a list"),
+            6 => (too_large(b'X', LARGEST_LIST), "too large a spread list"),
+            7 => (vec![b'X', 0, 0, 0, 10, 0, 1], "a cut spread list"),
+            8 => (vec![b'K', 0, 0, 0, 9, 1], "a cut batch"),
             _ => (vec![b'S', 2, 0, 0, 0, 1, 0, 0], "cut start numbers"),
         };
         if self.r.one_in(2) && !tail.is_empty() && !ending.contains("cut") {
@@ -402,11 +524,81 @@ impl History {
     }
 }
 
+// The messages of a batch, as far as they are framed.
+fn messages(batch: &[u8]) -> Vec<&[u8]> {
+    let mut all = vec![];
+    let mut rest = batch.get(5..).unwrap_or(&[]);
+    while rest.len() >= 11 {
+        let length = u16::from_be_bytes([rest[2], rest[3]]) as usize;
+        if length < 11 || length > rest.len() {
+            break;
+        }
+        all.push(&rest[..length]);
+        rest = &rest[length..];
+    }
+    all
+}
+
+fn form_of(message: &[u8]) -> Option<&'static Form> {
+    reference::form_of(message[1], message.len())
+}
+
+// How pairs' messages of an accepted batch stand to what came before them, by the gap row of before.
+fn note_taken(batch: &[u8], row: &mut [u32], seen: &mut Seen) {
+    let all = messages(batch);
+    let mut met = |what: &str| *seen.entry(what.into()).or_default() += 1;
+    let has = |pair: bool| all.iter().any(|m| form_of(m).map_or(false, |form| form.is_pair() == pair));
+    if has(true) && has(false) {
+        met("contracts and pairs in one batch");
+    }
+    for message in all.iter().filter(|m| m[1] != b'H') {
+        let (number, before) = (u32::from_be_bytes(message[4..8].try_into().unwrap()), row[1]);
+        let taken = matches!(reference::take_number(row, number), reference::Taking::Taken);
+        if let Some(form) = form_of(message).filter(|form| form.is_pair()) {
+            met(match (taken, number > before) {
+                (false, _) => "a pair's update old",
+                (true, false) => "a pair's update late",
+                (true, true) if number - before > 1 => "a pair's update behind a hole",
+                (true, true) => "a pair's update in turn",
+            });
+            met(&format!("{}P of level {} taken", message[0] as char, form.level));
+        }
+    }
+}
+
+fn note_refused(number: u8, message: usize, batch: &[u8], seen: &mut Seen) {
+    let mut met = |what: String| *seen.entry(what).or_default() += 1;
+    let count = u16::from_be_bytes([batch[3], batch[4]]) as usize;
+    let place = if message == 0 { 0 } else if message + 1 == count { 2 } else { 1 };
+    met(format!("{number} at {} message", PLACES[place]));
+    let refused = match messages(batch).get(message) {
+        Some(&refused) => refused,
+        None => return,
+    };
+    let (code, length) = (refused[1] as char, refused.len());
+    if code == 'P' {
+        met(format!("{number} for a pair's message"));
+        if number == 9 && refused[length - 3..length - 1] == [0, 0] {
+            met("9 for a pair's message with zero for its sum".into());
+        }
+    }
+    if number == 8 {
+        met(format!("8 for {code} of {length} bytes"));
+    }
+}
+
 fn note(ask: &Ask, line: &str, seen: &mut Seen) {
     let mut met = |what: String| *seen.entry(what).or_default() += 1;
     match (refusal_of(line), ask) {
         (None, Ask::Write { level, .. }) => met(format!("a message of level {level} written")),
+        (None, Ask::WriteSpread { level, .. }) => met(format!("a spread's message of level {level} written")),
         (None, Ask::Record { level, .. }) if line != "record none" => met(format!("a record of level {level} read")),
+        (None, Ask::Spread { level, .. }) if line != "spread none" => {
+            met(format!("a spread's record of level {level} read"));
+            if line.split(' ').any(|word| word.len() > 1 && word.starts_with('-')) {
+                met(format!("a negative difference of level {level} read"));
+            }
+        }
         (None, Ask::Gaps { .. }) => {
             let words: Vec<&str> = line.split(' ').collect();
             if words[2] == "4294967295" {
@@ -417,11 +609,8 @@ fn note(ask: &Ask, line: &str, seen: &mut Seen) {
             }
         }
         (None, Ask::Take(_)) => met("a batch taken".into()),
-        (Some((number, message)), Ask::Judge(batch) | Ask::Take(batch)) if (5..=14).contains(&number) => {
-            let count = u16::from_be_bytes([batch[3], batch[4]]) as usize;
-            let place = if message == 0 { 0 } else if message + 1 == count { 2 } else { 1 };
-            met(format!("{number} at {} message", PLACES[place]));
-        }
+        (Some((number, message)), Ask::Judge(batch) | Ask::Take(batch)) if (5..=14).contains(&number) => note_refused(number, message, batch, seen),
+        (Some((number, _)), Ask::WriteSpread { .. }) => met(format!("write of a spread refused {number}")),
         (Some((number, _)), _) => met(format!("{} refused {number}", ask.name())),
         _ => {}
     }
@@ -436,15 +625,40 @@ pub fn wanted() -> Vec<String> {
     for name in ["judge", "take"] {
         all.extend([1, 2, 3, 4, 15, 16, 18].map(|number| format!("{name} refused {number}")));
     }
-    let calls = [("start", vec![10, 15, 16]), ("gaps", vec![6, 15, 16, 18]), ("off", vec![6, 15, 16, 17, 18]), ("record", vec![6, 13, 15, 16, 18])];
+    let calls = [
+        ("start", vec![10, 15, 16]),
+        ("gaps", vec![6, 15, 16, 18]),
+        ("off", vec![6, 15, 16, 17, 18]),
+        ("record", vec![6, 13, 15, 16, 18]),
+        ("spread", vec![6, 13, 15, 16, 18]),
+        ("write", vec![6, 10, 11, 12, 15]),
+        ("write of a spread", vec![6, 10, 11, 12, 15]),
+    ];
     for (name, numbers) in calls {
         all.extend(numbers.into_iter().map(|number| format!("{name} refused {number}")));
     }
-    all.extend([6, 10, 11, 12, 15].map(|number| format!("write refused {number}")));
+    all.extend([6, 7, 8, 9, 10, 11, 12, 13, 14].map(|number| format!("{number} for a pair's message")));
+    all.extend(feed::spread_wrongs().iter().map(|wrong| format!("16 for {wrong}")));
+    all.extend(LENGTHS.map(|length| format!("8 for P of {length} bytes")));
+    all.extend(SPREAD_LENGTHS.map(|length| format!("8 for N of {length} bytes")));
     for level in 1..=2 {
-        all.extend([format!("a message of level {level} written"), format!("a record of level {level} read")]);
+        all.extend(["a message of", "a spread's message of"].map(|what| format!("{what} level {level} written")));
+        all.extend(["a record of", "a spread's record of", "a negative difference of"].map(|what| format!("{what} level {level} read")));
+        all.extend(["DP", "TP"].map(|code| format!("{code} of level {level} taken")));
     }
-    for what in ["64 runs", "the highest number of all", "a hole joined to the run that ends at highest", "a batch taken"] {
+    for what in [
+        "64 runs",
+        "the highest number of all",
+        "a hole joined to the run that ends at highest",
+        "a batch taken",
+        "contracts and pairs in one batch",
+        "a pair's update in turn",
+        "a pair's update behind a hole",
+        "a pair's update late",
+        "a pair's update old",
+        "9 for a pair's message with zero for its sum",
+        "15 for the pairs' records alone",
+    ] {
         all.push(what.into());
     }
     all

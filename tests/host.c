@@ -4,19 +4,26 @@
 #include <stdio.h>
 #include <string.h>
 
-#define LIST 49
+#define LIST 88
+#define SPREADS 88
 #define LEVEL1 249
+#define SPREAD1 227
+#define SPREAD2 483
 #define FRONT 5
+#define CELLS (2 * QUOTEBOX_RECORD_CELLS + QUOTEBOX_SPREAD_CELLS)
 
 static int passed, failed;
 
-static uint8_t list[LIST] = {0, 1, 'T', 0, 0, 1, 0, 0, 0, 10};
-static uint8_t key[QUOTEBOX_KEY];
+/* Two contracts of T, and the spread from the near one to the far one. */
+static uint8_t list[LIST] = {0, 1, 'T', 0, 0, 2, 0, 0, 0, 10};
+static uint8_t spreads[SPREADS] = {0, 1, 'T', 0, 0, 1, 0, 0, 0, 10};
+static uint8_t key[QUOTEBOX_KEY], far_key[QUOTEBOX_KEY], pair[QUOTEBOX_PAIR];
 static uint32_t rows[QUOTEBOX_ROW_CELLS];
-static uint64_t records[QUOTEBOX_RECORD_CELLS];
+static uint64_t records[CELLS];
 static uint64_t answer[4];
 
-#define BOX list, LIST, rows, QUOTEBOX_ROW_CELLS, records, QUOTEBOX_RECORD_CELLS
+#define LISTS list, LIST, spreads, SPREADS
+#define BOX LISTS, rows, QUOTEBOX_ROW_CELLS, records, CELLS
 
 static void held(const char *what, int holds) {
     if (holds) {
@@ -33,15 +40,61 @@ static void told(const char *what, uint32_t number, uint32_t wanted, uint64_t fi
     memset(answer, 0xee, sizeof answer);
 }
 
+static void no_spreads(void) {
+    const uint8_t none[10] = {0, 1, 'T', 0, 0, 0, 0, 0, 0, 10};
+    uint8_t out[11];
+    memset(out, 0xee, sizeof out);
+    told("no spreads: no list", quotebox_no_spreads(NULL, 0, out, 11, answer), QUOTEBOX_LIST, 0, 0, 0);
+    told("no spreads: room", quotebox_no_spreads(list, LIST, out, 9, answer), QUOTEBOX_MEMORY, 0, 0, 10);
+    held("no spreads: nothing written by a refusal", out[0] == 0xee);
+    told("no spreads", quotebox_no_spreads(list, LIST, out, 11, answer), 0, 10, 0, 0);
+    held("no spreads: its bytes", memcmp(out, none, 10) == 0 && out[10] == 0xee);
+}
+
 static void start(void) {
     const uint32_t starts[1] = {1};
-    told("start: no list", quotebox_start(NULL, 0, NULL, 0, NULL, 0, NULL, 0, answer), QUOTEBOX_LIST, 0, 0, 0);
-    told("start: no start number", quotebox_start(list, LIST, NULL, 0, NULL, 0, NULL, 0, answer), QUOTEBOX_NUMBERING, 0, 0, 0);
-    told("start: no rows", quotebox_start(list, LIST, starts, 1, NULL, 0, NULL, 0, answer), QUOTEBOX_MEMORY, 0, 0, QUOTEBOX_ROW_CELLS);
-    told("start: no records", quotebox_start(list, LIST, starts, 1, rows, QUOTEBOX_ROW_CELLS, NULL, 0, answer), QUOTEBOX_MEMORY, 0, 0,
-         QUOTEBOX_RECORD_CELLS);
+    told("start: no list", quotebox_start(NULL, 0, NULL, 0, NULL, 0, NULL, 0, NULL, 0, answer), QUOTEBOX_LIST, 0, 0, 0);
+    told("start: no spread list", quotebox_start(list, LIST, NULL, 0, NULL, 0, NULL, 0, NULL, 0, answer), QUOTEBOX_LIST, 0, 0, 0);
+    spreads[SPREADS - 1] = 'Y';
+    told("start: half a pair", quotebox_start(LISTS, NULL, 0, NULL, 0, NULL, 0, answer), QUOTEBOX_LIST, 0, 0, 0);
+    spreads[SPREADS - 1] = 'X';
+    told("start: no start number", quotebox_start(LISTS, NULL, 0, NULL, 0, NULL, 0, answer), QUOTEBOX_NUMBERING, 0, 0, 0);
+    told("start: no rows", quotebox_start(LISTS, starts, 1, NULL, 0, NULL, 0, answer), QUOTEBOX_MEMORY, 0, 0, QUOTEBOX_ROW_CELLS);
+    told("start: no records", quotebox_start(LISTS, starts, 1, rows, QUOTEBOX_ROW_CELLS, NULL, 0, answer), QUOTEBOX_MEMORY, 0, 0, CELLS);
+    told("start: no spread's records",
+         quotebox_start(LISTS, starts, 1, rows, QUOTEBOX_ROW_CELLS, records, 2 * QUOTEBOX_RECORD_CELLS, answer), QUOTEBOX_MEMORY, 0, 0, CELLS);
     told("judge: not started", quotebox_judge(BOX, NULL, 0, answer), QUOTEBOX_STATE, 0, 0, 0);
-    told("start", quotebox_start(list, LIST, starts, 1, rows, QUOTEBOX_ROW_CELLS, records, QUOTEBOX_RECORD_CELLS, answer), 0, 0, 0, 0);
+    told("start", quotebox_start(LISTS, starts, 1, rows, QUOTEBOX_ROW_CELLS, records, CELLS, answer), 0, 0, 0, 0);
+    told("judge: no spread list", quotebox_judge(list, LIST, NULL, 0, NULL, 0, NULL, 0, NULL, 0, answer), QUOTEBOX_LIST, 0, 0, 0);
+}
+
+/* The most pairs that a segment may have, and one more: those of 33 contracts, in turn. */
+static void most_pairs(void) {
+    enum { CONTRACTS = 33, MOST = 1024 };
+    static uint8_t many[10 + CONTRACTS * QUOTEBOX_KEY], pairs[10 + (MOST + 1) * QUOTEBOX_PAIR];
+    const uint32_t starts[1] = {1};
+    memcpy(many, list, 10);
+    many[5] = CONTRACTS;
+    for (int i = 0; i < CONTRACTS; i++) {
+        uint8_t *at = many + 10 + i * QUOTEBOX_KEY;
+        memcpy(at, key, QUOTEBOX_KEY);
+        at[36] = (uint8_t)('0' + i);
+    }
+    for (size_t count = MOST; count <= MOST + 1; count++) {
+        memcpy(pairs, spreads, 10);
+        pairs[4] = (uint8_t)(count >> 8);
+        pairs[5] = (uint8_t)count;
+        for (size_t i = 0; i < count; i++) {
+            memcpy(pairs + 10 + i * QUOTEBOX_PAIR, many + 10 + i / CONTRACTS * QUOTEBOX_KEY, QUOTEBOX_KEY);
+            memcpy(pairs + 10 + i * QUOTEBOX_PAIR + QUOTEBOX_KEY, many + 10 + i % CONTRACTS * QUOTEBOX_KEY, QUOTEBOX_KEY);
+        }
+        uint32_t number = quotebox_start(many, sizeof many, pairs, 10 + count * QUOTEBOX_PAIR, starts, 1, rows, QUOTEBOX_ROW_CELLS, NULL, 0, answer);
+        if (count == MOST) {
+            told("start: 1,024 pairs", number, QUOTEBOX_MEMORY, 0, 0, CONTRACTS * QUOTEBOX_RECORD_CELLS + MOST * QUOTEBOX_SPREAD_CELLS);
+        } else {
+            told("start: 1,025 pairs", number, QUOTEBOX_LIST, 0, 0, 0);
+        }
+    }
 }
 
 /* A batch of one level 1 update with the number 4. */
@@ -95,10 +148,65 @@ static void read(void) {
     held("read: nothing past level 1's", values[QUOTEBOX1_TURNOVER + 1] == 7);
 }
 
+/* A batch of one message of the pair with the number 5. */
+static void write_spread(uint8_t batch[FRONT + SPREAD1]) {
+    const uint8_t *code = (const uint8_t *)"TP";
+    const uint8_t front[FRONT] = {1, 0, SPREAD1, 0, 1};
+    uint8_t *out = batch + FRONT, long_out[SPREAD2];
+    uint64_t values[QUOTEBOX_VALUES];
+    for (int i = 0; i < QUOTEBOX_VALUES; i++) values[i] = QUOTEBOX_NONE;
+    values[QUOTEBOX_SPREAD1_BUY_PRICE] = QUOTEBOX_MINUS | 125000000;
+    values[QUOTEBOX_SPREAD1_BUY_QUANTITY] = 40;
+    values[QUOTEBOX_SPREAD1_LAST_PRICE] = QUOTEBOX_MINUS;
+    memcpy(batch, front, FRONT);
+    out[0] = 0xee;
+    told("spread: code", quotebox_write_spread1((const uint8_t *)"TN", 5, pair, values, out, SPREAD1, answer), QUOTEBOX_CODE, 0, 0, 0);
+    told("write: a spread's code", quotebox_write_level1(code, 5, key, values, out, LEVEL1, answer), QUOTEBOX_CODE, 0, 0, 0);
+    told("spread: number", quotebox_write_spread1(code, 0, pair, values, out, SPREAD1, answer), QUOTEBOX_NUMBERING, 0, 0, 0);
+    pair[QUOTEBOX_PAIR - 1] = 127;
+    told("spread: key", quotebox_write_spread2(code, 5, pair, values, out, SPREAD1, answer), QUOTEBOX_FIELD, 0, 9, 0);
+    pair[QUOTEBOX_PAIR - 1] = 'X';
+    values[QUOTEBOX_SPREAD1_SELL_QUANTITY] = QUOTEBOX_MINUS | 1;
+    told("spread: quantity", quotebox_write_spread1(code, 5, pair, values, out, SPREAD1, answer), QUOTEBOX_RANGE, 0,
+         QUOTEBOX_SPREAD1_SELL_QUANTITY + 9, 0);
+    values[QUOTEBOX_SPREAD1_SELL_QUANTITY] = QUOTEBOX_NONE;
+    told("spread: room", quotebox_write_spread1(code, 5, pair, values, out, SPREAD1 - 1, answer), QUOTEBOX_MEMORY, 0, 0, SPREAD1);
+    held("spread: nothing written by a refusal", out[0] == 0xee);
+    told("spread", quotebox_write_spread1(code, 5, pair, values, out, SPREAD1, answer), 0, SPREAD1, 0, 0);
+    held("spread: its price", memcmp(out + 8 + QUOTEBOX_PAIR, "            -12.5", 17) == 0);
+    held("spread: minus zero", memcmp(out + 8 + QUOTEBOX_PAIR + 58, "                0", 17) == 0);
+    told("spread: level 2", quotebox_write_spread2(code, 5, pair, values, long_out, SPREAD2, answer), 0, SPREAD2, 0, 0);
+}
+
+static void spread(void) {
+    uint8_t batch[FRONT + SPREAD1];
+    uint64_t values[QUOTEBOX_VALUES];
+    for (int i = 0; i < QUOTEBOX_VALUES; i++) values[i] = 7;
+    write_spread(batch);
+    told("spread: no record", quotebox_read_spread1(BOX, 'T', pair, values, answer), 0, 0, 0, 0);
+    held("spread: nothing written where there is none", values[QUOTEBOX_NUMBER] == 7);
+    told("spread: taken", quotebox_take(BOX, batch, sizeof batch, answer), 0, 1, 0, 0);
+    told("spread: letter", quotebox_read_spread1(BOX, 'D', pair, values, answer), QUOTEBOX_CODE, 0, 0, 0);
+    pair[0] = 'X';
+    told("spread: pair", quotebox_read_spread2(BOX, 'T', pair, values, answer), QUOTEBOX_CONTRACT, 0, 0, 0);
+    pair[0] = 'F';
+    told("spread: none at level 2", quotebox_read_spread2(BOX, 'T', pair, values, answer), 0, 0, 0, 0);
+    told("spread: a record", quotebox_read_spread1(BOX, 'T', pair, values, answer), 0, 1, 0, 0);
+    held("spread: its number", values[QUOTEBOX_NUMBER] == 5);
+    held("spread: below zero", values[QUOTEBOX_SPREAD1_BUY_PRICE] == (QUOTEBOX_MINUS | 125000000));
+    held("spread: its quantity", values[QUOTEBOX_SPREAD1_BUY_QUANTITY] == 40);
+    held("spread: zero", values[QUOTEBOX_SPREAD1_LAST_PRICE] == 0);
+    held("spread: none", values[QUOTEBOX_SPREAD1_LOW] == QUOTEBOX_NONE);
+    held("spread: nothing past level 1's", values[QUOTEBOX_SPREAD1_LOW + 1] == 7);
+    told("spread: its halves are as they were", quotebox_read_level1(BOX, 'T', far_key, values, answer), 0, 0, 0, 0);
+    batch[FRONT + 8] ^= 1;
+    told("spread: damaged", quotebox_take(BOX, batch, sizeof batch, answer), QUOTEBOX_CHECKSUM, 0, 0, 0);
+}
+
 static void gaps(void) {
     uint32_t cells[3] = {7, 7, 7};
     told("list: room", quotebox_list_gaps(BOX, 'T', cells, 1, answer), QUOTEBOX_MEMORY, 0, 0, 2);
-    told("list", quotebox_list_gaps(BOX, 'T', cells, 3, answer), 0, 4, 1, 0);
+    told("list", quotebox_list_gaps(BOX, 'T', cells, 3, answer), 0, 5, 1, 0);
     held("list: its run", cells[0] == 1 && cells[1] == 3 && cells[2] == 7);
     told("write off", quotebox_write_off(BOX, 'T', answer), 0, 1, 3, 0);
     told("write off: none", quotebox_write_off(BOX, 'T', answer), QUOTEBOX_NO_GAP, 0, 0, 0);
@@ -107,11 +215,18 @@ static void gaps(void) {
 int main(void) {
     uint8_t batch[FRONT + LEVEL1];
     memcpy(key, "FUTCOMGOLD      05APR2026            XX", QUOTEBOX_KEY);
-    memcpy(list + LIST - QUOTEBOX_KEY, key, QUOTEBOX_KEY);
+    memcpy(far_key, "FUTCOMGOLD      05JUN2026            XX", QUOTEBOX_KEY);
+    memcpy(pair, key, QUOTEBOX_KEY);
+    memcpy(pair + QUOTEBOX_KEY, far_key, QUOTEBOX_KEY);
+    memcpy(list + LIST - QUOTEBOX_PAIR, pair, QUOTEBOX_PAIR);
+    memcpy(spreads + SPREADS - QUOTEBOX_PAIR, pair, QUOTEBOX_PAIR);
+    no_spreads();
+    most_pairs();
     start();
     write_update(batch);
     take(batch);
     read();
+    spread();
     gaps();
     printf("%d passed, %d failed\n", passed, failed);
     return failed != 0;

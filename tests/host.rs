@@ -12,10 +12,10 @@ mod reference;
 use asks::{Ask, Bench, Said};
 use feed::Book;
 use history::{History, Seen};
-use library::{Answer, Values};
+use library::{Answer, Lists, Values};
 use program::{Held, Options};
 use random::Random;
-use reference::{Refusal, GAP_ROW, LEVEL1_CELLS, NONE, PRICE};
+use reference::{Refusal, GAP_ROW, LEVEL1_CELLS, MINUS, NONE, PRICE, RECORD, SPREAD_LEVEL1_CELLS, SPREAD_RECORD};
 use std::fmt::Debug;
 
 const UNTOUCHED: u64 = 0x5AFE_5AFE_5AFE_5AFE;
@@ -38,53 +38,88 @@ fn expected(ask: &Ask, said: &Result<Said, Refusal>) -> Told {
             ((0, [*highest as u64, runs.len() as u64, 0, 0]), cells.collect())
         }
         Ok(Said::WrittenOff { first, last }) => ((0, [*first as u64, *last as u64, 0, 0]), vec![]),
-        Ok(Said::Record(None)) => ((0, [0; 4]), vec![]),
-        Ok(Said::Record(Some(values))) => ((0, [1, 0, 0, 0]), values.clone()),
+        Ok(Said::Record(_, None)) => ((0, [0; 4]), vec![]),
+        Ok(Said::Record(_, Some(values))) => ((0, [1, 0, 0, 0]), values.clone()),
         Ok(Said::Written(message)) => ((0, [message.len() as u64, 0, 0, 0]), message.iter().map(|&b| b as u64).collect()),
     };
     let mut lent = match ask {
         Ask::Gaps { cells, .. } => vec![UNTOUCHED as u32 as u64; *cells as usize + 1],
-        Ask::Record { .. } => vec![UNTOUCHED; 33],
-        Ask::Write { room, .. } => vec![UNTOUCHED as u8 as u64; *room as usize + 1],
+        Ask::Record { .. } | Ask::Spread { .. } => vec![UNTOUCHED; 33],
+        Ask::Write { room, .. } | Ask::WriteSpread { room, .. } => vec![UNTOUCHED as u8 as u64; *room as usize + 1],
         _ => vec![],
     };
     lent[..written.len()].copy_from_slice(&written);
     Told { number, answer, lent }
 }
 
+// The writer looks neither at the first value nor at those past its level's.
+fn to_write(rows: &[u64]) -> Values {
+    let mut values: Values = [UNTOUCHED; 33];
+    values[1..=rows.len()].copy_from_slice(rows);
+    values
+}
+
 // The library's call. Of cells and bytes one more stands in memory than is lent.
 fn called(bench: &mut Bench, ask: &Ask) -> Told {
-    let (list, rows, records) = (&bench.list[..], &mut bench.rows[..bench.lent_rows], &mut bench.records[..bench.lent_records]);
+    let lists = Lists { list: &bench.list, spreads: &bench.spreads };
+    let (rows, records) = (&mut bench.rows[..bench.lent_rows], &mut bench.records[..bench.lent_records]);
     let mut lent = vec![];
+    let mut written = |room: u16, write: &dyn Fn(&mut [u8]) -> (u32, Answer)| {
+        let mut out = vec![UNTOUCHED as u8; room as usize + 1];
+        let told = write(&mut out[..room as usize]);
+        lent.extend(out.iter().map(|&b| b as u64));
+        told
+    };
     let (number, answer) = match ask {
-        Ask::Start(starts) => library::start(list, starts, rows, records),
-        Ask::Judge(batch) => library::judge(list, rows, records, batch),
-        Ask::Take(batch) => library::take(list, rows, records, batch),
-        Ask::Off { letter } => library::write_off(list, rows, records, *letter),
+        Ask::Start(starts) => lists.start(starts, rows, records),
+        Ask::Judge(batch) => lists.judge(rows, records, batch),
+        Ask::Take(batch) => lists.take(rows, records, batch),
+        Ask::Off { letter } => lists.write_off(rows, records, *letter),
         Ask::Gaps { letter, cells: room } => {
             let mut cells = vec![UNTOUCHED as u32; *room as usize + 1];
-            let told = library::list_gaps(list, rows, records, *letter, &mut cells[..*room as usize]);
+            let told = lists.list_gaps(rows, records, *letter, &mut cells[..*room as usize]);
             lent.extend(cells.iter().map(|&c| c as u64));
             told
         }
         Ask::Record { letter, level, key } => {
             let mut values: Values = [UNTOUCHED; 33];
-            let told = library::read(*level, list, rows, records, *letter, key, &mut values);
+            let told = lists.read(*level, rows, records, *letter, key, &mut values);
             lent.extend(values);
             told
         }
-        Ask::Write { code, level, number, key, room, values: rows } => {
-            // The writer looks neither at the first value nor at those past its level's.
+        Ask::Spread { letter, level, pair } => {
             let mut values: Values = [UNTOUCHED; 33];
-            values[1..=rows.len()].copy_from_slice(rows);
-            let mut out = vec![UNTOUCHED as u8; *room as usize + 1];
-            let told = library::write(*level, *code, *number, key, &values, &mut out[..*room as usize]);
-            lent.extend(out.iter().map(|&b| b as u64));
+            let told = lists.read_spread(*level, rows, records, *letter, pair, &mut values);
+            lent.extend(values);
             told
         }
-        Ask::Lend { .. } | Ask::List(_) | Ask::Poke { .. } => unreachable!("these make no call"),
+        Ask::Write { code, level, number, key, room, values } => {
+            written(*room, &|out| library::write(*level, *code, *number, key, &to_write(values), out))
+        }
+        Ask::WriteSpread { code, level, number, pair, room, values } => {
+            written(*room, &|out| library::write_spread(*level, *code, *number, pair, &to_write(values), out))
+        }
+        Ask::Lend { .. } | Ask::List(_) | Ask::Poke { .. } | Ask::Spreads(_) => unreachable!("these make no call"),
     };
     Told { number, answer, lent }
+}
+
+// The spread list without pairs, with as many bytes lent as are wanted, one fewer and more.
+fn no_spreads(held: &mut Held, list: &[u8], origin: impl Fn() -> String) {
+    for room in [0, 1, 9, 10, 11, 17, 18, 19, 64] {
+        let mut out = vec![UNTOUCHED as u8; room + 1];
+        let told = library::no_spreads(list, &mut out[..room]);
+        let mut right = vec![UNTOUCHED as u8; room + 1];
+        let expected = match reference::no_spreads(list, room) {
+            Err(refusal) => refusal.told(),
+            Ok(spreads) => {
+                right[..spreads.len()].copy_from_slice(&spreads);
+                (0, [spreads.len() as u64, 0, 0, 0])
+            }
+        };
+        let otherwise = || format!("host: {}: no spreads in {room} bytes: {told:?} {out:02x?}, expected {expected:?}", origin());
+        held.hold(told == expected && out == right, otherwise);
+    }
 }
 
 // The place of the gap row that a call changed.
@@ -139,25 +174,68 @@ fn hold(held: &mut Held, bench: &mut Bench, ask: &Ask, origin: impl Fn() -> Stri
 
 const NUMBER: u32 = 7;
 const NUMBERS: [u64; 10] = [0, 1, 6, 7, 8, 1 << 32, (1 << 32) + 6, (1 << 32) + 8, NONE - 1, NONE];
-const CELLS: [u64; 10] = [0, b'N' as u64, b'S' as u64, 255, 256, 256 + b'N' as u64, 1 << 32, PRICE.largest + 1, NONE - 1, NONE];
+#[rustfmt::skip]
+const CELLS: [u64; 16] = [
+    0, b'N' as u64, b'S' as u64, 255, 256, 256 + b'N' as u64, 1 << 32, PRICE.largest + 1, NONE - 1, NONE,
+    MINUS, MINUS + 1, MINUS - 1, MINUS | PRICE.largest, MINUS | (PRICE.largest + 1), MINUS | (1 << 60),
+];
 
-// A record with any number and any cells is read, meets an update, and is read again.
+// A record with any number and any cells is read, meets an update, and is read again: of a contract and of a pair, at both levels.
 fn damaged_records(held: &mut Held) {
     let mut r = Random::new(1);
     let key = feed::a_key(&mut r);
-    let list = Book { segments: vec![(b'D', vec![key])] }.bytes();
-    for level in 1..=2 {
-        let batch = feed::batch(&[feed::an_update(&mut r, b'D', level, NUMBER, &key)]);
-        let read = Ask::Record { letter: b'D', level, key };
+    let pair = feed::pair(&key, &key);
+    let book = Book { segments: vec![(b'D', vec![key])], spreads: vec![(b'D', vec![pair])] };
+    let forms = [1, 2].map(reference::of_contract).into_iter().chain([1, 2].map(reference::of_pair));
+    for form in forms {
+        let level = form.level;
+        let batch = feed::batch(&[feed::an_update(&mut r, form, b'D', NUMBER, &pair[..form.key])]);
+        let read = if form.is_pair() { Ask::Spread { letter: b'D', level, pair } } else { Ask::Record { letter: b'D', level, key } };
+        let at = if form.is_pair() { RECORD + SPREAD_LEVEL1_CELLS * (level - 1) } else { LEVEL1_CELLS * (level - 1) };
         for (number, cell) in NUMBERS.iter().flat_map(|&number| CELLS.map(|cell| (number, cell))) {
-            let mut bench = Bench::new(Some(&list));
+            let mut bench = Bench::new(Some(&book.bytes()));
             let mut hold = |bench: &mut Bench, ask: &Ask| hold(held, bench, ask, || format!("a record numbered {number} of cells {cell}"));
+            hold(&mut bench, &Ask::Spreads(book.spread_bytes()));
             hold(&mut bench, &Ask::Start(vec![1]));
             bench.records.fill(cell);
-            bench.records[LEVEL1_CELLS * (level - 1)] = number;
+            bench.records[at] = number;
             for ask in [read.clone(), Ask::Judge(batch.clone()), Ask::Take(batch.clone()), read.clone()] {
                 hold(&mut bench, &ask);
             }
+        }
+    }
+}
+
+// The most pairs a segment, 1,024, and one more: a file that the test bench has no room for.
+fn most_pairs(held: &mut Held) {
+    let mut r = Random::new(2);
+    let keys = feed::keys(&mut r, 33);
+    let mut pairs: Vec<feed::Pair> = keys.iter().flat_map(|a| keys.iter().map(move |b| feed::pair(a, b))).collect();
+    pairs.truncate(1_025);
+    for number in [1_023, 1_024, 1_025] {
+        for letters in [b"DT", b"TD"] {
+            // The pairs in the first segment or in the second; what else there is has one contract and no pairs.
+            let mut book = Book::of(vec![(letters[0], keys.clone()), (letters[1], vec![keys[0]])]);
+            book.spreads[0].1 = pairs[..number].to_vec();
+            book.segments.sort_by_key(|s| s.0);
+            book.spreads.sort_by_key(|s| s.0);
+            let wanted = RECORD * 34 + SPREAD_RECORD * number;
+            let (list, spreads) = (book.bytes(), book.spread_bytes());
+            let (rows, records) = (vec![0; 2 * GAP_ROW], vec![UNTOUCHED; wanted + 1]);
+            let mut bench = Bench { list, spreads, rows, records, lent_rows: 2 * GAP_ROW, lent_records: wanted };
+            let mut asked = vec![Ask::Start(vec![1, 1])];
+            for (k, pair) in [pairs[0], pairs[511], pairs[number - 1]].into_iter().enumerate() {
+                for level in 1..=2 {
+                    let update = feed::an_update(&mut r, reference::of_pair(level), letters[0], (2 * k + level) as u32, &pair);
+                    asked.extend([Ask::Take(feed::batch(&[update])), Ask::Spread { letter: letters[0], level, pair }]);
+                }
+            }
+            for ask in &asked {
+                hold(held, &mut bench, ask, || format!("{number} pairs"));
+            }
+            held.hold((bench.rows[0] == 1) == (number <= 1_024), || format!("host: a start with {number} pairs"));
+            bench.lent_records -= 1;
+            hold(held, &mut bench, &asked[0], || format!("{number} pairs, a cell too few"));
         }
     }
 }
@@ -188,7 +266,11 @@ fn histories(options: &Options, held: &mut Held) {
                 damage_records(&mut r, &mut bench);
             }
             hold(held, &mut bench, ask, || format!("seed {} history {number} command {command}", options.seed));
+            if let Ask::List(list) = ask {
+                no_spreads(held, list, || format!("seed {} history {number} command {command}", options.seed));
+            }
         }
+        no_spreads(held, &h.contracts.unwrap_or_default(), || format!("seed {} history {number}, its file", options.seed));
     }
     println!("host: {} histories", HISTORIES * options.times);
 }
@@ -197,6 +279,7 @@ fn main() {
     let options = Options::read();
     let mut held = Held { passed: 0, failed: 0 };
     damaged_records(&mut held);
+    most_pairs(&mut held);
     histories(&options, &mut held);
     held.end();
 }

@@ -1,5 +1,5 @@
-// The box by document 01, written from the papers and from nothing else of this project: what each call answers and leaves in
-// lent memory. The tests hold the compiled programs against it, and the benchmark the compiled library's time against its own.
+// The box by document 01 and request M-100, written from the papers and from nothing else of this project: what each call answers
+// and leaves in lent memory. The tests hold the compiled programs against it, and the benchmark the compiled library's time against its own.
 #![allow(dead_code)] // each test uses a part
 
 use std::cmp::Ordering;
@@ -12,7 +12,10 @@ pub const RUNS: usize = 4; // where a gap row's runs begin
 pub const MOST_RUNS: usize = 64;
 pub const RECORD: usize = 48;
 pub const LEVEL1_CELLS: usize = 15;
+pub const SPREAD_RECORD: usize = 38;
+pub const SPREAD_LEVEL1_CELLS: usize = 10;
 pub const NONE: u64 = u64::MAX; // as a cell: no amount
+pub const MINUS: u64 = 1 << 63; // beside the amount, in the cell of a difference
 
 #[derive(Clone, Copy, Debug, PartialEq)]
 pub struct Refusal {
@@ -135,7 +138,8 @@ fn past_digits(text: &[u8], mut at: usize, units: &mut u64) -> usize {
     at
 }
 
-// The amount, NONE where the text is blank; else 11 or 12.
+// The amount, NONE where the text is blank; else 11 or 12. Inline, or rows are read slower for its being called in two places.
+#[inline(always)]
 pub fn read_number(kind: Kind, text: &[u8]) -> Result<u64, u8> {
     let first = past(text, 0, b' ');
     if first == text.len() {
@@ -204,15 +208,18 @@ pub enum Row {
     MarketType,
     Status,
     Number(Kind),
+    Difference,
 }
 
 pub const MARKET_TYPE_ROW: usize = 5;
 pub const LENGTHS: [usize; 2] = [249, 505];
-pub const MOST_CELLS: usize = 32; // the rows of level 2 from the market type on
+pub const SPREAD_LENGTHS: [usize; 2] = [227, 483];
+pub const MOST_CELLS: usize = 32; // the rows of a contract's level 2 behind the key, which no other form passes
 
 const P: (Row, usize) = (Row::Number(PRICE), 17);
 const Q: (Row, usize) = (Row::Number(QUANTITY), 12);
 const T: (Row, usize) = (Row::Number(TURNOVER), 25);
+const D: (Row, usize) = (Row::Difference, 17);
 const S: (Row, usize) = (Row::Status, 1);
 const M: (Row, usize) = (Row::MarketType, 1);
 const fn text(width: usize) -> (Row, usize) {
@@ -234,41 +241,126 @@ static LEVEL2: [(Row, usize); 37] = [
     P, Q, S, P, P, P, P, P, Q, Q, T,
 ];
 
-pub fn layout(level: usize) -> &'static [(Row, usize)] {
-    if level == 1 { &LEVEL1 } else { &LEVEL2 }
+// 000 4.6, 003 4.3: both contracts' keys, and no market type, status, close, average or turnover.
+#[rustfmt::skip]
+static SPREAD1: [(Row, usize); 19] = [
+    text(6), text(10), text(11), text(10), text(2), text(6), text(10), text(11), text(10), text(2),
+    D, Q, D, Q,
+    D, Q, D, D, D,
+];
+
+// 000 4.7, 003 4.4.
+#[rustfmt::skip]
+static SPREAD2: [(Row, usize); 37] = [
+    text(6), text(10), text(11), text(10), text(2), text(6), text(10), text(11), text(10), text(2),
+    D, Q, D, Q, D, Q, D, Q, D, Q,
+    D, Q, D, Q, D, Q, D, Q, D, Q,
+    D, Q, D, D, D, Q, Q,
+];
+
+// A message with rows: an update of a contract or of a pair, at a level.
+#[derive(PartialEq)]
+pub struct Form {
+    pub code: u8, // behind the segment's letter
+    pub level: usize,
+    pub key: usize, // the bytes of the key, which come first
+    pub key_rows: usize,
+    pub rows: &'static [(Row, usize)],
+    pub length: usize,
 }
 
-// The cells of the rows from the market type on; else 11 or 12 and the row.
-pub fn read_rows(level: usize, data: &[u8], cells: &mut [u64; MOST_CELLS]) -> Result<(), (u8, usize)> {
-    let mut rest = &data[KEY..];
-    for (k, &(row, width)) in layout(level)[MARKET_TYPE_ROW..].iter().enumerate() {
+static CONTRACTS: [Form; 2] = [
+    Form { code: b'N', level: 1, key: KEY, key_rows: MARKET_TYPE_ROW, rows: &LEVEL1, length: LENGTHS[0] },
+    Form { code: b'N', level: 2, key: KEY, key_rows: MARKET_TYPE_ROW, rows: &LEVEL2, length: LENGTHS[1] },
+];
+
+static PAIRS: [Form; 2] = [
+    Form { code: b'P', level: 1, key: PAIR, key_rows: 2 * MARKET_TYPE_ROW, rows: &SPREAD1, length: SPREAD_LENGTHS[0] },
+    Form { code: b'P', level: 2, key: PAIR, key_rows: 2 * MARKET_TYPE_ROW, rows: &SPREAD2, length: SPREAD_LENGTHS[1] },
+];
+
+pub fn of_contract(level: usize) -> &'static Form {
+    &CONTRACTS[level - 1]
+}
+
+pub fn of_pair(level: usize) -> &'static Form {
+    &PAIRS[level - 1]
+}
+
+// By code and length; the length tells the levels apart.
+pub fn form_of(code: u8, length: usize) -> Option<&'static Form> {
+    let forms = match code {
+        b'N' => &CONTRACTS,
+        b'P' => &PAIRS,
+        _ => return None,
+    };
+    forms.iter().find(|form| form.length == length)
+}
+
+impl Form {
+    // The rows behind the key: one cell each.
+    pub fn told(&self) -> &'static [(Row, usize)] {
+        &self.rows[self.key_rows..]
+    }
+
+    pub fn is_pair(&self) -> bool {
+        self.key == PAIR
+    }
+}
+
+pub fn layout(level: usize) -> &'static [(Row, usize)] {
+    of_contract(level).rows
+}
+
+// Of a difference; a minus beside 0 is none.
+pub fn difference_cell(below: bool, units: u64) -> u64 {
+    if below && units > 0 { MINUS | units } else { units }
+}
+
+fn read_difference_cell(field: &[u8]) -> Result<u64, u8> {
+    Ok(read_difference(field)?.map_or(NONE, |(below, units)| difference_cell(below, units)))
+}
+
+// The cells of the rows behind the key; else 11 or 12 and the row.
+pub fn read_cells(form: &Form, data: &[u8], cells: &mut [u64; MOST_CELLS]) -> Result<(), (u8, usize)> {
+    let mut rest = &data[form.key..];
+    for (k, &(row, width)) in form.told().iter().enumerate() {
         let (field, after) = rest.split_at(width);
         rest = after;
         let read = match row {
             Row::Number(kind) => read_number(kind, field),
+            Row::Difference => read_difference_cell(field),
             Row::MarketType if field[0] == b'N' => Ok(field[0] as u64),
             Row::Status if field[0] == b'S' || field[0] == b' ' => Ok(field[0] as u64),
             _ => Err(FIELD),
         };
-        cells[k] = read.map_err(|number| (number, MARKET_TYPE_ROW + k))?;
+        cells[k] = read.map_err(|number| (number, form.key_rows + k))?;
     }
     Ok(())
 }
 
-// What any cells of the rows from the market type on stand for: a market type or status is a byte's number, above 255 as 0.
-pub fn readings(level: usize, cells: &[u64]) -> Vec<u64> {
+pub fn read_rows(level: usize, data: &[u8], cells: &mut [u64; MOST_CELLS]) -> Result<(), (u8, usize)> {
+    read_cells(of_contract(level), data, cells)
+}
+
+// What any cells of the rows behind the key stand for: a market type or status is a byte's number, above 255 as 0; of a
+// difference minus zero is zero.
+pub fn readings(form: &Form, cells: &[u64]) -> Vec<u64> {
     let reading = |(&cell, &(row, _)): (&u64, &(Row, usize))| match row {
         Row::Number(_) => cell,
+        Row::Difference if cell == MINUS => 0,
+        Row::Difference => cell,
         _ if cell > 255 => 0,
         _ => cell,
     };
-    cells.iter().zip(&layout(level)[MARKET_TYPE_ROW..]).map(reading).collect()
+    cells.iter().zip(form.told()).map(reading).collect()
 }
 
-pub fn write_rows(level: usize, key: &[u8; KEY], values: &[u64]) -> Result<Vec<u8>, (u8, usize)> {
+// The data of a message, by the values of the rows behind the key; else 11 or 12 and the row.
+pub fn write_data(form: &Form, key: &[u8], values: &[u64]) -> Result<Vec<u8>, (u8, usize)> {
     let mut data = vec![];
-    for (i, &(row, width)) in layout(level).iter().enumerate() {
-        let value = if i < MARKET_TYPE_ROW { 0 } else { values[i - MARKET_TYPE_ROW] };
+    for (i, &(row, width)) in form.rows.iter().enumerate() {
+        let value = if i < form.key_rows { 0 } else { values[i - form.key_rows] };
         match row {
             Row::Text => {
                 let part = &key[data.len()..data.len() + width];
@@ -280,11 +372,16 @@ pub fn write_rows(level: usize, key: &[u8; KEY], values: &[u64]) -> Result<Vec<u
             Row::MarketType if value == b'N' as u64 => data.push(b'N'),
             Row::Status if value == b'S' as u64 || value == b' ' as u64 => data.push(value as u8),
             Row::MarketType | Row::Status => return Err((FIELD, i)),
-            Row::Number(_) if value == NONE => data.extend(vec![b' '; width]),
+            Row::Number(_) | Row::Difference if value == NONE => data.extend(vec![b' '; width]),
             Row::Number(kind) => data.extend(write_number(kind, value, width).ok_or((RANGE, i))?.bytes()),
+            Row::Difference => data.extend(write_difference(value & MINUS != 0, value & !MINUS, width).ok_or((RANGE, i))?.bytes()),
         }
     }
     Ok(data)
+}
+
+pub fn write_rows(level: usize, key: &[u8; KEY], values: &[u64]) -> Result<Vec<u8>, (u8, usize)> {
+    write_data(of_contract(level), key, values)
 }
 
 // ---- the contract list
@@ -310,8 +407,13 @@ impl Header {
         self.segments().iter().position(|s| s.letter == letter)
     }
 
-    pub fn contracts(&self) -> usize {
+    pub fn keys(&self) -> usize {
         self.segments().iter().map(|s| s.count).sum()
+    }
+
+    // Keys in front of a segment's.
+    fn before(&self, place: usize) -> usize {
+        self.segments()[..place].iter().map(|s| s.count).sum()
     }
 }
 
@@ -324,6 +426,7 @@ fn four(bytes: &[u8], at: usize) -> u32 {
 }
 
 // A house file but its bodies: keys of so many bytes, and so many of them a segment.
+#[inline(always)]
 fn contents(file: &[u8], key: usize, counts: RangeInclusive<usize>) -> Option<Header> {
     if file.len() < 2 {
         return None;
@@ -352,8 +455,8 @@ pub fn header(list: &[u8]) -> Option<Header> {
     contents(list, KEY, 1..=4096)
 }
 
-fn body<'a>(list: &'a [u8], segment: &Segment) -> &'a [u8] {
-    &list[segment.offset..segment.offset + KEY * segment.count]
+fn body<'a>(file: &'a [u8], segment: &Segment, key: usize) -> &'a [u8] {
+    &file[segment.offset..segment.offset + key * segment.count]
 }
 
 fn sound_keys(body: &[u8], key: usize) -> bool {
@@ -362,31 +465,31 @@ fn sound_keys(body: &[u8], key: usize) -> bool {
 }
 
 pub fn bodies_sound(list: &[u8], header: &Header) -> bool {
-    header.segments().iter().all(|segment| sound_keys(body(list, segment), KEY))
+    header.segments().iter().all(|segment| sound_keys(body(list, segment, KEY), KEY))
 }
 
 // All of the spread list but its pairs, beside a contract list.
 pub fn spread_header(list: &Header, spreads: &[u8]) -> Option<Header> {
-    let letters = |h: &Header| h.segments().iter().map(|s| s.letter).collect::<Vec<u8>>();
-    contents(spreads, PAIR, 0..=1024).filter(|h| letters(h) == letters(list))
+    let same = |h: &Header| h.number == list.number && h.segments().iter().zip(list.segments()).all(|(a, b)| a.letter == b.letter);
+    contents(spreads, PAIR, 0..=1024).filter(same)
 }
 
 // The pairs of a spread list whose header is sound: each half is a key of its segment.
 pub fn pairs_sound(list: &[u8], header: &Header, spreads: &[u8], spread_header: &Header) -> bool {
     spread_header.segments().iter().zip(header.segments()).all(|(pairs, contracts)| {
-        let body = &spreads[pairs.offset..pairs.offset + PAIR * pairs.count];
-        let listed: Vec<&[u8]> = self::body(list, contracts).chunks(KEY).collect();
-        sound_keys(body, PAIR) && body.chunks(KEY).all(|half| listed.contains(&half))
+        let all = body(spreads, pairs, PAIR);
+        let listed: Vec<&[u8]> = body(list, contracts, KEY).chunks(KEY).collect();
+        sound_keys(all, PAIR) && all.chunks(KEY).all(|half| listed.contains(&half))
     })
 }
 
 // By halving, whatever the bodies hold: of n keys left the one with (n - 1) / 2 below it is compared.
-pub fn find(keys: &[u8], key: &[u8]) -> Option<usize> {
-    let (mut low, mut left) = (0, keys.len() / KEY);
+pub fn find<const N: usize>(keys: &[u8], key: &[u8]) -> Option<usize> {
+    let (mut low, mut left) = (0, keys.len() / N);
     while left > 0 {
         let below = (left - 1) / 2;
         let at = low + below;
-        match key.cmp(&keys[KEY * at..KEY * (at + 1)]) {
+        match key.cmp(&keys[N * at..N * (at + 1)]) {
             Ordering::Equal => return Some(at),
             Ordering::Less => left = below,
             Ordering::Greater => {
@@ -396,6 +499,53 @@ pub fn find(keys: &[u8], key: &[u8]) -> Option<usize> {
         }
     }
     None
+}
+
+// Both lists, their headers sound.
+pub struct Lists<'a> {
+    list: &'a [u8],
+    spreads: &'a [u8],
+    contracts: Header,
+    pairs: Header,
+}
+
+impl Lists<'_> {
+    pub fn of<'a>(list: &'a [u8], spreads: &'a [u8]) -> Option<Lists<'a>> {
+        let contracts = header(list)?;
+        let pairs = spread_header(&contracts, spreads)?;
+        Some(Lists { list, spreads, contracts, pairs })
+    }
+
+    fn sound(&self) -> bool {
+        bodies_sound(self.list, &self.contracts) && pairs_sound(self.list, &self.contracts, self.spreads, &self.pairs)
+    }
+
+    pub fn row_cells(&self) -> usize {
+        GAP_ROW * self.contracts.number
+    }
+
+    pub fn record_cells(&self) -> usize {
+        RECORD * self.contracts.keys() + SPREAD_RECORD * self.pairs.keys()
+    }
+
+    // The place of a contract or pair in its segment.
+    fn find(&self, segment: usize, form: &Form, key: &[u8]) -> Option<usize> {
+        if form.is_pair() {
+            find::<PAIR>(body(self.spreads, &self.pairs.segments()[segment], PAIR), key)
+        } else {
+            find::<KEY>(body(self.list, &self.contracts.segments()[segment], KEY), key)
+        }
+    }
+
+    // Where a record begins: all contracts' in list order, then all pairs', at each level 1 first.
+    fn record(&self, segment: usize, form: &Form, place: usize) -> usize {
+        if form.is_pair() {
+            let pair = self.pairs.before(segment) + place;
+            RECORD * self.contracts.keys() + SPREAD_RECORD * pair + SPREAD_LEVEL1_CELLS * (form.level - 1)
+        } else {
+            RECORD * (self.contracts.before(segment) + place) + LEVEL1_CELLS * (form.level - 1)
+        }
+    }
 }
 
 // ---- a segment's gap row: start, highest, number of runs, a zero, then the runs
@@ -478,7 +628,7 @@ pub fn take_number(row: &mut [u32], number: u32) -> Taking {
 enum Told {
     Heartbeat,
     PassedOver,
-    Update { level: usize, place: usize },
+    Update { form: &'static Form, place: usize },
 }
 
 // Refusal 5.
@@ -491,23 +641,25 @@ fn framed(rest: &[u8]) -> Result<&[u8], (u8, usize)> {
 }
 
 // Refusals 6 to 13, in order, of a framed message in a batch of one segment; an update leaves its cells.
-fn checked(sum: Sum, list: &[u8], segment: Option<&Segment>, message: &[u8], cells: &mut [u64; MOST_CELLS]) -> Result<Told, (u8, usize)> {
+fn checked(sum: Sum, lists: &Lists, segment: Option<(usize, u8)>, message: &[u8], cells: &mut [u64; MOST_CELLS]) -> Result<Told, (u8, usize)> {
     let (code, length) = (message[1], message.len());
     let segment = match segment {
-        Some(s) if s.letter == message[0] && code.is_ascii_uppercase() => s,
+        Some((place, letter)) if letter == message[0] && code.is_ascii_uppercase() => place,
         _ => return Err((6, 0)),
     };
     if message[length - 1] != 13 {
         return Err((7, 0));
     }
-    if (code == b'H' && length != 11) || (code == b'N' && !LENGTHS.contains(&length)) {
-        return Err((8, 0));
-    }
+    let form = match code {
+        b'H' if length != 11 => return Err((8, 0)),
+        b'N' | b'P' => Some(form_of(code, length).ok_or((8, 0))?),
+        _ => None,
+    };
     let (summed, trailer) = (&message[..length - 3], [message[length - 3], message[length - 2]]);
     let zero = trailer == [0, 0];
     let right = match code {
         b'H' => zero,
-        b'N' => trailer == sum(summed),
+        b'N' | b'P' => trailer == sum(summed),
         _ => zero || trailer == sum(summed),
     };
     if !right {
@@ -516,15 +668,15 @@ fn checked(sum: Sum, list: &[u8], segment: Option<&Segment>, message: &[u8], cel
     if (four(message, 4) == 0) != (code == b'H') {
         return Err((10, 0));
     }
-    match code {
-        b'H' => return Ok(Told::Heartbeat),
-        b'N' => {}
-        _ => return Ok(Told::PassedOver),
-    }
-    let level = if length == LENGTHS[0] { 1 } else { 2 };
-    read_rows(level, &message[8..length - 3], cells)?;
-    let place = find(body(list, segment), &message[8..8 + KEY]).ok_or((13, 0))?;
-    Ok(Told::Update { level, place })
+    let form = match form {
+        Some(form) => form,
+        None if code == b'H' => return Ok(Told::Heartbeat),
+        None => return Ok(Told::PassedOver),
+    };
+    let data = &message[8..length - 3];
+    read_cells(form, data, cells)?;
+    let place = lists.find(segment, form, &data[..form.key]).ok_or((13, 0))?;
+    Ok(Told::Update { form, place })
 }
 
 // ---- the calls
@@ -559,36 +711,50 @@ struct Outcome {
     updates: Vec<Update>,
 }
 
-fn wanted(header: &Header, rows: &[u32], records: &[u64]) -> Result<(), Refusal> {
-    let (row_cells, record_cells) = (GAP_ROW * header.number, RECORD * header.contracts());
-    if rows.len() < row_cells {
-        return Err(Refusal::memory(row_cells));
+fn wanted(lists: &Lists, rows: &[u32], records: &[u64]) -> Result<(), Refusal> {
+    if rows.len() < lists.row_cells() {
+        return Err(Refusal::memory(lists.row_cells()));
     }
-    if records.len() < record_cells { Err(Refusal::memory(record_cells)) } else { Ok(()) }
+    if records.len() < lists.record_cells() { Err(Refusal::memory(lists.record_cells())) } else { Ok(()) }
 }
 
-// What every call after start, the writer apart, refuses first: 16, 15, 18.
-fn handed_back(list: &[u8], rows: &[u32], records: &[u64]) -> Result<Header, Refusal> {
-    let header = header(list).ok_or(Refusal::plain(16))?;
-    wanted(&header, rows, records)?;
-    let sound = rows[..GAP_ROW * header.number].chunks_exact(GAP_ROW).all(row_sound);
-    if sound { Ok(header) } else { Err(Refusal::plain(18)) }
+// What every call after start, the writers apart, refuses first: 16 for either list, 15, 18.
+fn handed_back<'a>(list: &'a [u8], spreads: &'a [u8], rows: &[u32], records: &[u64]) -> Result<Lists<'a>, Refusal> {
+    let lists = Lists::of(list, spreads).ok_or(Refusal::plain(16))?;
+    wanted(&lists, rows, records)?;
+    let sound = rows[..lists.row_cells()].chunks_exact(GAP_ROW).all(row_sound);
+    if sound { Ok(lists) } else { Err(Refusal::plain(18)) }
 }
 
-pub fn start(list: &[u8], starts: &[u32], rows: &mut [u32], records: &mut [u64]) -> Result<(), Refusal> {
-    let header = header(list).filter(|h| bodies_sound(list, h)).ok_or(Refusal::plain(16))?;
-    let starts: Vec<u32> = (0..header.number).map(|i| starts.get(i).copied().unwrap_or(0)).collect();
+pub fn start(list: &[u8], spreads: &[u8], starts: &[u32], rows: &mut [u32], records: &mut [u64]) -> Result<(), Refusal> {
+    let lists = Lists::of(list, spreads).filter(Lists::sound).ok_or(Refusal::plain(16))?;
+    let starts: Vec<u32> = (0..lists.contracts.number).map(|i| starts.get(i).copied().unwrap_or(0)).collect();
     if starts.contains(&0) {
         return Err(Refusal::plain(10));
     }
-    wanted(&header, rows, records)?;
-    rows[..GAP_ROW * header.number].fill(0);
-    records[..RECORD * header.contracts()].fill(0);
+    wanted(&lists, rows, records)?;
+    rows[..lists.row_cells()].fill(0);
+    records[..lists.record_cells()].fill(0);
     for (row, start) in rows.chunks_exact_mut(GAP_ROW).zip(starts) {
         row[0] = start;
         row[1] = start - 1;
     }
     Ok(())
+}
+
+// The spread list without pairs for a contract list's segments.
+pub fn no_spreads(list: &[u8], room: usize) -> Result<Vec<u8>, Refusal> {
+    let header = header(list).ok_or(Refusal::plain(16))?;
+    let length = 2 + 8 * header.number;
+    if room < length {
+        return Err(Refusal::memory(length));
+    }
+    let mut spreads = (header.number as u16).to_be_bytes().to_vec();
+    for segment in header.segments() {
+        spreads.extend([segment.letter, 0, 0, 0]);
+        spreads.extend((length as u32).to_be_bytes());
+    }
+    Ok(spreads)
 }
 
 // The batch before its messages: 1 to 4 in the order of the paper. Answers the number of messages.
@@ -609,20 +775,18 @@ fn opened(batch: &[u8]) -> Result<usize, Refusal> {
     if count == 0 { Err(Refusal::plain(4)) } else { Ok(count) }
 }
 
-fn outcome(sum: Sum, list: &[u8], header: &Header, rows: &[u32], batch: &[u8], keep: bool) -> Result<Outcome, Refusal> {
+fn outcome(sum: Sum, lists: &Lists, rows: &[u32], batch: &[u8], keep: bool) -> Result<Outcome, Refusal> {
     let count = opened(batch)?;
     let mut rest = &batch[5..];
-    let place = rest.first().and_then(|&letter| header.place(letter));
-    let segment = place.map(|p| &header.segments()[p]);
-    let before: usize = header.segments()[..place.unwrap_or(0)].iter().map(|s| s.count).sum();
-    let mut out = Outcome { counts: Counts::default(), segment: place.unwrap_or(0), row: [0; GAP_ROW], updates: vec![] };
+    let segment = rest.first().and_then(|&letter| Some((lists.contracts.place(letter)?, letter)));
+    let mut out = Outcome { counts: Counts::default(), segment: segment.map_or(0, |s| s.0), row: [0; GAP_ROW], updates: vec![] };
     out.row.copy_from_slice(&rows[GAP_ROW * out.segment..GAP_ROW * (out.segment + 1)]);
     let mut cells = [0; MOST_CELLS];
     for index in 0..count {
         let refused = |(number, row)| Refusal { number, message: index, row, cells: 0 };
         let message = framed(rest).map_err(refused)?;
         rest = &rest[message.len()..];
-        let told = checked(sum, list, segment, message, &mut cells).map_err(refused)?;
+        let told = checked(sum, lists, segment, message, &mut cells).map_err(refused)?;
         if let Told::Heartbeat = told {
             out.counts.heartbeats += 1;
             continue;
@@ -633,9 +797,9 @@ fn outcome(sum: Sum, list: &[u8], header: &Header, rows: &[u32], batch: &[u8], k
             Taking::Old => out.counts.old += 1,
             Taking::Taken => {
                 out.counts.taken += 1;
-                if let (Told::Update { level, place }, true) = (told, keep) {
-                    let at = RECORD * (before + place) + LEVEL1_CELLS * (level - 1);
-                    out.updates.push(Update { at, cells: layout(level).len() - MARKET_TYPE_ROW, number: number as u64, rows: cells });
+                if let (Told::Update { form, place }, true) = (told, keep) {
+                    let at = lists.record(out.segment, form, place);
+                    out.updates.push(Update { at, cells: form.told().len(), number: number as u64, rows: cells });
                 }
             }
         }
@@ -643,14 +807,14 @@ fn outcome(sum: Sum, list: &[u8], header: &Header, rows: &[u32], batch: &[u8], k
     if rest.is_empty() { Ok(out) } else { Err(Refusal::plain(4)) }
 }
 
-pub fn judge(sum: Sum, list: &[u8], rows: &[u32], records: &[u64], batch: &[u8]) -> Result<Counts, Refusal> {
-    let header = handed_back(list, rows, records)?;
-    Ok(outcome(sum, list, &header, rows, batch, false)?.counts)
+pub fn judge(sum: Sum, list: &[u8], spreads: &[u8], rows: &[u32], records: &[u64], batch: &[u8]) -> Result<Counts, Refusal> {
+    let lists = handed_back(list, spreads, rows, records)?;
+    Ok(outcome(sum, &lists, rows, batch, false)?.counts)
 }
 
-pub fn take(sum: Sum, list: &[u8], rows: &mut [u32], records: &mut [u64], batch: &[u8]) -> Result<Counts, Refusal> {
-    let header = handed_back(list, rows, records)?;
-    let out = outcome(sum, list, &header, rows, batch, true)?;
+pub fn take(sum: Sum, list: &[u8], spreads: &[u8], rows: &mut [u32], records: &mut [u64], batch: &[u8]) -> Result<Counts, Refusal> {
+    let lists = handed_back(list, spreads, rows, records)?;
+    let out = outcome(sum, &lists, rows, batch, true)?;
     rows[GAP_ROW * out.segment..GAP_ROW * (out.segment + 1)].copy_from_slice(&out.row);
     for update in &out.updates {
         if update.number > records[update.at] {
@@ -662,17 +826,17 @@ pub fn take(sum: Sum, list: &[u8], rows: &mut [u32], records: &mut [u64], batch:
 }
 
 // Highest, and the runs for which there must be room.
-pub fn list_gaps(list: &[u8], rows: &[u32], records: &[u64], letter: u8, room: usize) -> Result<(u32, Vec<(u32, u32)>), Refusal> {
-    let header = handed_back(list, rows, records)?;
-    let place = header.place(letter).ok_or(Refusal::plain(6))?;
+pub fn list_gaps(list: &[u8], spreads: &[u8], rows: &[u32], records: &[u64], letter: u8, room: usize) -> Result<(u32, Vec<(u32, u32)>), Refusal> {
+    let lists = handed_back(list, spreads, rows, records)?;
+    let place = lists.contracts.place(letter).ok_or(Refusal::plain(6))?;
     let row = &rows[GAP_ROW * place..];
     let runs = runs(row);
     if room < 2 * runs.len() { Err(Refusal::memory(2 * runs.len())) } else { Ok((row[1], runs)) }
 }
 
-pub fn write_off(list: &[u8], rows: &mut [u32], records: &[u64], letter: u8) -> Result<(u32, u32), Refusal> {
-    let header = handed_back(list, rows, records)?;
-    let place = header.place(letter).ok_or(Refusal::plain(6))?;
+pub fn write_off(list: &[u8], spreads: &[u8], rows: &mut [u32], records: &[u64], letter: u8) -> Result<(u32, u32), Refusal> {
+    let lists = handed_back(list, spreads, rows, records)?;
+    let place = lists.contracts.place(letter).ok_or(Refusal::plain(6))?;
     let row = &mut rows[GAP_ROW * place..GAP_ROW * (place + 1)];
     if row[2] == 0 {
         return Err(Refusal::plain(17));
@@ -683,27 +847,35 @@ pub fn write_off(list: &[u8], rows: &mut [u32], records: &[u64], letter: u8) -> 
     Ok(lowest)
 }
 
-// The update's number and its rows from the market type on, or no record.
-pub fn read_record(list: &[u8], rows: &[u32], records: &[u64], letter: u8, key: &[u8; KEY], level: usize) -> Result<Option<Vec<u64>>, Refusal> {
-    let header = handed_back(list, rows, records)?;
-    let place = header.place(letter).ok_or(Refusal::plain(6))?;
-    let contract = find(body(list, &header.segments()[place]), key).ok_or(Refusal::plain(13))?;
-    let before: usize = header.segments()[..place].iter().map(|s| s.count).sum();
-    let at = RECORD * (before + contract) + LEVEL1_CELLS * (level - 1);
-    let cells = &records[at + 1..at + 1 + layout(level).len() - MARKET_TYPE_ROW];
-    Ok(if records[at] == 0 { None } else { Some([&[records[at]], &readings(level, cells)[..]].concat()) })
+// The update's number and its rows behind the key, or no record.
+fn read_form(lists: Lists, form: &Form, records: &[u64], letter: u8, key: &[u8]) -> Result<Option<Vec<u64>>, Refusal> {
+    let segment = lists.contracts.place(letter).ok_or(Refusal::plain(6))?;
+    let place = lists.find(segment, form, key).ok_or(Refusal::plain(13))?;
+    let at = lists.record(segment, form, place);
+    let cells = &records[at + 1..at + 1 + form.told().len()];
+    Ok(if records[at] == 0 { None } else { Some([&[records[at]], &readings(form, cells)[..]].concat()) })
 }
 
-// The message; `values` are its rows from the market type on.
-pub fn write_message(code: [u8; 2], level: usize, number: u32, key: &[u8; KEY], values: &[u64], room: usize) -> Result<Vec<u8>, Refusal> {
-    let heartbeat = code[1] == b'H';
-    if !matches!(code[0], b'D' | b'T') || !matches!(code[1], b'H' | b'N') {
-        return Err(Refusal::plain(6));
-    }
-    if (number == 0) != heartbeat {
+#[rustfmt::skip]
+pub fn read_record(
+    list: &[u8], spreads: &[u8], rows: &[u32], records: &[u64], letter: u8, key: &[u8; KEY], level: usize,
+) -> Result<Option<Vec<u64>>, Refusal> {
+    read_form(handed_back(list, spreads, rows, records)?, of_contract(level), records, letter, key)
+}
+
+#[rustfmt::skip]
+pub fn read_spread(
+    list: &[u8], spreads: &[u8], rows: &[u32], records: &[u64], letter: u8, pair: &[u8; PAIR], level: usize,
+) -> Result<Option<Vec<u64>>, Refusal> {
+    read_form(handed_back(list, spreads, rows, records)?, of_pair(level), records, letter, pair)
+}
+
+// A message of a form, or a heartbeat; `values` are its rows behind the key.
+fn write_form(code: [u8; 2], form: Option<&Form>, number: u32, key: &[u8], values: &[u64], room: usize) -> Result<Vec<u8>, Refusal> {
+    if (number == 0) != form.is_none() {
         return Err(Refusal::plain(10));
     }
-    let data = if heartbeat { Ok(vec![]) } else { write_rows(level, key, values) };
+    let data = form.map_or(Ok(vec![]), |form| write_data(form, key, values));
     let data = data.map_err(|(number, row)| Refusal { row, ..Refusal::plain(number) })?;
     let length = data.len() + 11;
     if room < length {
@@ -713,8 +885,25 @@ pub fn write_message(code: [u8; 2], level: usize, number: u32, key: &[u8; KEY], 
     message.extend((length as u16).to_be_bytes());
     message.extend(number.to_be_bytes());
     message.extend(data);
-    let trailer = if heartbeat { [0, 0] } else { sum_by_bits(&message) };
+    let trailer = if form.is_none() { [0, 0] } else { sum_by_bits(&message) };
     message.extend(trailer);
     message.push(13);
     Ok(message)
+}
+
+// An update of a contract or a heartbeat.
+pub fn write_message(code: [u8; 2], level: usize, number: u32, key: &[u8; KEY], values: &[u64], room: usize) -> Result<Vec<u8>, Refusal> {
+    let form = match code {
+        [b'D' | b'T', b'H'] => None,
+        [b'D' | b'T', b'N'] => Some(of_contract(level)),
+        _ => return Err(Refusal::plain(6)),
+    };
+    write_form(code, form, number, key, values, room)
+}
+
+pub fn write_spread(code: [u8; 2], level: usize, number: u32, pair: &[u8; PAIR], values: &[u64], room: usize) -> Result<Vec<u8>, Refusal> {
+    match code {
+        [b'D' | b'T', b'P'] => write_form(code, Some(of_pair(level)), number, pair, values, room),
+        _ => Err(Refusal::plain(6)),
+    }
 }

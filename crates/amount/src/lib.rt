@@ -4,10 +4,12 @@ mod price;
 mod quantity;
 mod turnover;
 
+pub use decimal::Kind;
 pub use difference::Difference;
 pub use price::Price;
 pub use print::Put;
 pub use print::blank;
+pub use print::write;
 pub use quantity::Quantity;
 pub use scan::Number;
 pub use turnover::Turnover;

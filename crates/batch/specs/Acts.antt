@@ -15,7 +15,7 @@ use Rattle.batch.specs.Batch.{batchData, batchLetter, batchRules, countO
 
 -- 01 "Sequence and gaps": the box before the first message
 abbrev pub boxOf : Lent → ℕ → Box
-boxOf lent letter = record { row = gapRowOfLetter (lent .list) letter (lent .rows); records = lent .records; taken = 0; old = 0; heartbeats = 0 }
+boxOf lent letter = record { row = gapRowOfLetter (lent .lists) letter (lent .rows); records = lent .records; taken = 0; old = 0; heartbeats = 0 }
 
 -- 01, the order of checks: what a batch does, unless a rule before it is broken
 abbrev pub unlessBroken : Option Refusal → Acted → Acted
@@ -26,7 +26,7 @@ unlessBroken none more = more
 unfoldable pub batchActs : Lent → List ℕ → Acted
 batchActs lent batch =
     unlessBroken (firstBroken (stateRules lent ++ batchRules batch))
-    (messagesAct (countOf batch) (lent .list) (batchLetter batch) 0 (boxOf lent (batchLetter batch)) (batchData batch))
+    (messagesAct (countOf batch) (lent .lists) (batchLetter batch) 0 (boxOf lent (batchLetter batch)) (batchData batch))
 
 -- 01 "What may be asked": the answer of what a batch does
 abbrev pub answerOf : Acted → Judged
@@ -35,5 +35,5 @@ answerOf (refused refusal) = Refused refusal
 
 -- 01 "What may be asked": what a batch leaves: "A refusal leaves all lent memory as before"
 abbrev pub lentAfter : Lent → ℕ → Acted → Lent
-lentAfter lent letter (acted box) = lends (lent .list) (withGapRowOfLetter (lent .list) letter (lent .rows) (box .row)) (box .records)
+lentAfter lent letter (acted box) = lends (lent .lists) (withGapRowOfLetter (lent .lists) letter (lent .rows) (box .row)) (box .records)
 lentAfter lent letter (refused refusal) = lent

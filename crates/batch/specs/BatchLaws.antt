@@ -23,7 +23,7 @@ use Rattle.state.specs.RefusalsLaws.{never}
 module _ (lent : Lent) (batch : List ℕ) where
   -- what its messages do
   abbrev pub inTurn : Acted
-  inTurn = messagesAct (countOf batch) (lent .list) (batchLetter batch) 0 (boxOf lent (batchLetter batch)) (batchData batch)
+  inTurn = messagesAct (countOf batch) (lent .lists) (batchLetter batch) 0 (boxOf lent (batchLetter batch)) (batchData batch)
 
   -- a broken rule before the messages refuses the batch
   pub rule-refuses : (refusal : Refusal) → firstBroken (stateRules lent ++ batchRules batch) ≡ some refusal → batchActs lent batch ≡ refused refusal

@@ -73,10 +73,10 @@ module _ (lent : Lent) (batch : List ℕ) (checked : Checked) (is : checkedNumbe
       unfolding countOf
       count-is = read
 
-      pub data-ready : count < 65536 → DataReady (lent .list) (lent .rows) count
+      pub data-ready : count < 65536 → DataReady (lent .lists) (lent .rows) count
       data-ready few =
           record {
-            header = checked-state .header;
+            headers = checked-state .headers;
             rows-ready = rows-ready lent checked-state;
             some-messages = omega (arith, count-is, checked-front .some-messages);
             few = few;
@@ -86,7 +86,7 @@ module _ (lent : Lent) (batch : List ℕ) (checked : Checked) (is : checkedNumbe
       same = rw (count-is, bytes-are) (sym (messages-decide lent batch (held .0) (held .1)))
 
       module _ (answer : Judged) where
-        pub judged-batch : JudgedData (lent .list) (lent .rows) bytes count answer → JudgedBatch lent batch answer
+        pub judged-batch : JudgedData (lent .lists) (lent .rows) bytes count answer → JudgedBatch lent batch answer
         judged-batch j = record { answers = j .answers (lent .records) ∙ ap actedNumbers same }
 
         pub took-batch : (lent′ : Lent) → TookData lent bytes count answer lent′ → TookBatch lent batch answer lent′

@@ -4,11 +4,12 @@ use mathlib.Core.Path.{_≡_}
 use mathlib.Core.Bool.{cond}
 use mathlib.Core.List.{List}
 use lib.ListN.{length, drop}
+use Rattle.pairs.specs.Lists.{Lists}
 use Rattle.sequence.specs.Gaps.{Gaps, most, takes}
 use Rattle.sequence.specs.Changes.{after}
 use Rattle.sequence.specs.Row.{gapsOf}
 use Rattle.forms.specs.declared.forms.Subject.{Subject}
-use Rattle.forms.specs.declared.forms.Subject.the-variants.{Nothing, Contract}
+use Rattle.forms.specs.declared.forms.Subject.the-variants.{Nothing, Of}
 use Rattle.forms.specs.declared.forms.Named.{Named}
 use Rattle.forms.specs.declared.forms.Named.the-variants as is
 use Rattle.forms.specs.Forms.{subjectOf}
@@ -36,7 +37,7 @@ arrived gaps number = cond (takes gaps number) (after gaps number) gaps
 -- 01 "Sequence and gaps": a message that tells of nothing, a heartbeat, changes nothing
 abbrev pub arrivedFor : Subject → Gaps → ℕ → Gaps
 arrivedFor Nothing gaps number = gaps
-arrivedFor (Contract level) gaps number = arrived gaps number
+arrivedFor (Of item level) gaps number = arrived gaps number
 
 -- 01 "Sequence and gaps": by what the message is named in the table of forms
 abbrev pub arrivedAs : Named → Gaps → ℕ → Gaps
@@ -50,14 +51,14 @@ gapsAfter gaps bytes = arrivedAs (formIn bytes) gaps (numberOf bytes)
 
 -- 01 "The batch": so many messages, each where the one before it ends: 5 to 13 of each, 14 after each, and no bytes behind the
 -- last (4)
-abbrev pub GoodMessages : ℕ → List ℕ → ℕ → Gaps → List ℕ → Type 0
-GoodMessages zero list letter gaps bytes = length bytes ≡ 0
-GoodMessages (suc more) list letter gaps bytes =
-    GoodMessage list letter bytes × (length (gapsAfter gaps bytes .runs) ≤ most)
-    × GoodMessages more list letter (gapsAfter gaps bytes) (drop (lengthOf bytes) bytes)
+abbrev pub GoodMessages : ℕ → Lists → ℕ → Gaps → List ℕ → Type 0
+GoodMessages zero lists letter gaps bytes = length bytes ≡ 0
+GoodMessages (suc more) lists letter gaps bytes =
+    GoodMessage lists letter bytes × (length (gapsAfter gaps bytes .runs) ≤ most)
+    × GoodMessages more lists letter (gapsAfter gaps bytes) (drop (lengthOf bytes) bytes)
 
 -- 01, the table's rows 1 to 16 and 18: a batch that breaks no rule, handed a good state
 pub record GoodBatch (lent : Lent) (batch : List ℕ) : Type 0 where
   pub state : GoodState lent
   pub front : GoodFront batch
-  pub messages : GoodMessages (countOf batch) (lent .list) (batchLetter batch) (gapsOf (gapRowOfLetter (lent .list) (batchLetter batch) (lent .rows))) (batchData batch)
+  pub messages : GoodMessages (countOf batch) (lent .lists) (batchLetter batch) (gapsOf (gapRowOfLetter (lent .lists) (batchLetter batch) (lent .rows))) (batchData batch)

@@ -20,9 +20,9 @@ use Rattle.state.specs.Memory.{Lent, gapRowOf}
 use Rattle.batch.specs.Scratch.{RowsReady}
 
 module _ (lent : Lent) where
-  pub rows-ready : GoodState lent → RowsReady (lent .list) (lent .rows)
+  pub rows-ready : GoodState lent → RowsReady (lent .lists) (lent .rows)
   rows-ready g =
-      record { enough = g .rows-lent; sound = all-pass (λ i. soundGapRow (gapRowOf (lent .rows) i)) (segmentsOf (lent .list)) (g .rows-sound) }
+      record { enough = g .rows-lent; sound = all-pass (λ i. soundGapRow (gapRowOf (lent .rows) i)) (segmentsOf (lent .lists .contracts)) (g .rows-sound) }
 
 pub front-exact : (batch : List ℕ) → Hold (batchRules batch) ↔ GoodFront batch
 front-exact batch = (

@@ -10,6 +10,7 @@ use lib.ListN.{length, drop}
 use Rattle.contracts.specs.File.{segmentsOf}
 use Rattle.contracts.specs.Lookup.{segmentOf}
 use Rattle.contracts.specs.LookupLaws.{segment-has}
+use Rattle.pairs.specs.Lists.{Lists, Headers}
 use Rattle.laws.specs.Order.{order}
 use Rattle.message.specs.declared.body.What.{What}
 use Rattle.message.specs.declared.body.What.the-variants as what
@@ -42,27 +43,27 @@ pub record Leaves (wanted count : ℕ) (before after : Box) : Type 0 where
   pub counts : messagesIn after ≡ messagesIn before + count
   pub records-kept : KeptBehind wanted (before .records) (after .records)
 
-module _ (list : List ℕ) (letter : ℕ) where
-  pub last-box : (i : ℕ) (box : Box) (bytes : List ℕ) (final : Box) → messagesAct 0 list letter i box bytes ≡ acted final → box ≡ final
+module _ (lists : Lists) (letter : ℕ) where
+  pub last-box : (i : ℕ) (box : Box) (bytes : List ℕ) (final : Box) → messagesAct 0 lists letter i box bytes ≡ acted final → box ≡ final
   last-box i box bytes final e =
-      ⊎-elim (λ (h : length bytes ≤ 0). let same : acted box ≡ acted final = sym (messages-end list letter i box bytes (omega arith)) ∙ e in cc)
-      (λ (h : 0 < length bytes). absurd (not-both (sym (messages-over list letter i box bytes h) ∙ e)))
+      ⊎-elim (λ (h : length bytes ≤ 0). let same : acted box ≡ acted final = sym (messages-end lists letter i box bytes (omega arith)) ∙ e in cc)
+      (λ (h : 0 < length bytes). absurd (not-both (sym (messages-over lists letter i box bytes h) ∙ e)))
       (order (length bytes) 0)
 
-  pub messages-leave : (count i : ℕ) (box : Box) (bytes : List ℕ) (final : Box) → soundGapRow (box .row) ≡ true
-      → messagesAct count list letter i box bytes ≡ acted final → Leaves (recordsWanted list) count box final
-  messages-leave zero i box bytes final s e =
-      rw (← last-box i box bytes final e) (record { sound = s; counts = omega arith; records-kept = all-kept (recordsWanted list) (box .records) })
-  messages-leave (suc more) i box bytes final s e =
-      go (λ box′ sound f. messages-leave more (suc i) box′ (drop (lengthOf bytes) bytes) final sound f) (messageOf list letter bytes .what) refl
+  pub messages-leave : Headers lists → (count i : ℕ) (box : Box) (bytes : List ℕ) (final : Box) → soundGapRow (box .row) ≡ true
+      → messagesAct count lists letter i box bytes ≡ acted final → Leaves (recordsWanted lists) count box final
+  messages-leave headers zero i box bytes final s e =
+      rw (← last-box i box bytes final e) (record { sound = s; counts = omega arith; records-kept = all-kept (recordsWanted lists) (box .records) })
+  messages-leave headers (suc more) i box bytes final s e =
+      go (λ box′ sound f. messages-leave headers more (suc i) box′ (drop (lengthOf bytes) bytes) final sound f) (messageOf lists letter bytes .what) refl
     where
       Behind : Type 0
-      Behind = (box′ : Box) → soundGapRow (box′ .row) ≡ true → messagesAct more list letter (suc i) box′ (drop (lengthOf bytes) bytes) ≡ acted final → Leaves (recordsWanted list) more box′ final
+      Behind = (box′ : Box) → soundGapRow (box′ .row) ≡ true → messagesAct more lists letter (suc i) box′ (drop (lengthOf bytes) bytes) ≡ acted final → Leaves (recordsWanted lists) more box′ final
 
-      good : Behind → verdictOf (messageOf list letter bytes .what) ≡ Good → Leaves (recordsWanted list) (suc more) box final
+      good : Behind → verdictOf (messageOf lists letter bytes .what) ≡ Good → Leaves (recordsWanted lists) (suc more) box final
       good rest g =
-          ⊎-elim (λ (d : Went (recordsWanted list) box (messageActs list letter box i bytes) (gapsAfter (gapsOf (box .row)) bytes)).
-          let l = rest (d .box) (d .sound) (sym (messages-next list letter more i box bytes (d .box) (d .acts)) ∙ e) in
+          ⊎-elim (λ (d : Went (recordsWanted lists) box (messageActs lists letter box i bytes) (gapsAfter (gapsOf (box .row)) bytes)).
+          let l = rest (d .box) (d .sound) (sym (messages-next lists letter more i box bytes (d .box) (d .acts)) ∙ e) in
           record {
             sound = l .sound;
             counts = omega (arith, l .counts, d .counts);
@@ -72,13 +73,13 @@ module _ (list : List ℕ) (letter : ℕ) where
                   behind = l .records-kept .behind ∙ d .records-kept .behind;
                 };
           })
-          (λ (d : Fell i (messageActs list letter box i bytes) (gapsAfter (gapsOf (box .row)) bytes)).
-          absurd (not-both (sym (messages-refused list letter more i box bytes _ (d .refuses)) ∙ e)))
-          (good-goes list letter box i bytes g s)
+          (λ (d : Fell i (messageActs lists letter box i bytes) (gapsAfter (gapsOf (box .row)) bytes)).
+          absurd (not-both (sym (messages-refused lists letter more i box bytes _ (d .refuses)) ∙ e)))
+          (good-goes lists headers letter box i bytes g s)
 
-      go : Behind → (w : What) → messageOf list letter bytes .what ≡ w → Leaves (recordsWanted list) (suc more) box final
+      go : Behind → (w : What) → messageOf lists letter bytes .what ≡ w → Leaves (recordsWanted lists) (suc more) box final
       go rest (what.Bad fault) f =
-          absurd (not-both (sym (messages-refused list letter more i box bytes _ (acts-as list letter bytes (messageOf list letter bytes) refl f box i)) ∙ e))
+          absurd (not-both (sym (messages-refused lists letter more i box bytes _ (acts-as lists letter bytes (messageOf lists letter bytes) refl f box i)) ∙ e))
       go rest what.Heartbeat f = good rest (ap verdictOf f)
       go rest (what.PassedOver number) f = good rest (ap verdictOf f)
       go rest (what.Update number form place) f = good rest (ap verdictOf f)
@@ -92,27 +93,27 @@ module _ (lent : Lent) (batch : List ℕ) (box : Box) (accepted : batchActs lent
   state : GoodState lent
   state = good-state lent batch box accepted
 
-  pub is-listed : (segment : ℕ) × (segmentOf (lent .list) letter ≡ some segment)
-  is-listed = go (segmentOf (lent .list) letter) refl
+  pub is-listed : (segment : ℕ) × (segmentOf (lent .lists .contracts) letter ≡ some segment)
+  is-listed = go (segmentOf (lent .lists .contracts) letter) refl
     where
-      go : (o : Option ℕ) → segmentOf (lent .list) letter ≡ o → (segment : ℕ) × (segmentOf (lent .list) letter ≡ some segment)
+      go : (o : Option ℕ) → segmentOf (lent .lists .contracts) letter ≡ o → (segment : ℕ) × (segmentOf (lent .lists .contracts) letter ≡ some segment)
       go none e =
-          absurd (none-accepted (lent .list) letter e (countOf batch) (batchData batch) (boxOf lent letter) box (good-front lent batch box accepted .some-messages) (messages-accepted lent batch box accepted))
+          absurd (none-accepted (lent .lists) letter e (countOf batch) (batchData batch) (boxOf lent letter) box (good-front lent batch box accepted .some-messages) (messages-accepted lent batch box accepted))
       go (some segment) e = (segment, e)
 
-  leaves : Leaves (recordsWanted (lent .list)) (countOf batch) (boxOf lent letter) box
+  leaves : Leaves (recordsWanted (lent .lists)) (countOf batch) (boxOf lent letter) box
   leaves =
       let l = is-listed in
-      messages-leave (lent .list) letter (countOf batch) 0 (boxOf lent letter) (batchData batch) box
-      (rw (ap (gapRowIn (lent .rows)) (l .1)) (state .rows-sound (l .0) (segment-has (lent .list) letter (l .0) (l .1) .0)))
+      messages-leave (lent .lists) letter (state .headers) (countOf batch) 0 (boxOf lent letter) (batchData batch) box
+      (rw (ap (gapRowIn (lent .rows)) (l .1)) (state .rows-sound (l .0) (segment-has (lent .lists .contracts) letter (l .0) (l .1) .0)))
       (messages-accepted lent batch box accepted)
 
   -- taken, old and heartbeats are all of its messages
   pub all-counted : box .taken + box .old + box .heartbeats ≡ countOf batch
   all-counted = omega (arith, leaves .counts)
 
-  inside : gapRowCells * is-listed .0 + gapRowCells ≤ gapRowsWanted (lent .list)
-  inside = omega (arith, segment-has (lent .list) letter (is-listed .0) (is-listed .1) .0)
+  inside : gapRowCells * is-listed .0 + gapRowCells ≤ gapRowsWanted (lent .lists)
+  inside = omega (arith, segment-has (lent .lists .contracts) letter (is-listed .0) (is-listed .1) .0)
 
   room : gapRowCells * is-listed .0 + gapRowCells ≤ length (lent .rows)
   room = omega (arith, inside, state .rows-lent)
@@ -125,8 +126,8 @@ module _ (lent : Lent) (batch : List ℕ) (box : Box) (accepted : batchActs lent
   behind-left =
       record {
         rows-behind =
-            ap (λ (o : Option ℕ). drop (gapRowsWanted (lent .list)) (withGapRowIn (lent .rows) (box .row) o)) (is-listed .1)
-            ∙ behind-kept (lent .rows) (is-listed .0) (box .row) room wide (gapRowsWanted (lent .list)) inside;
+            ap (λ (o : Option ℕ). drop (gapRowsWanted (lent .lists)) (withGapRowIn (lent .rows) (box .row) o)) (is-listed .1)
+            ∙ behind-kept (lent .rows) (is-listed .0) (box .row) room wide (gapRowsWanted (lent .lists)) inside;
         records-behind = leaves .records-kept .behind;
       }
 
@@ -137,8 +138,8 @@ module _ (lent : Lent) (batch : List ℕ) (box : Box) (accepted : batchActs lent
       let long = length-with (lent .rows) (l .0) (box .row) room wide in
       rw (ap (withGapRowIn (lent .rows) (box .row)) (l .1))
       (record {
-        header = state .header;
+        headers = state .headers;
         rows-lent = omega (arith, state .rows-lent, long);
         records-lent = omega (arith, state .records-lent, leaves .records-kept .as-many);
-        rows-sound = sound-with (lent .rows) (l .0) (box .row) room wide (segmentsOf (lent .list)) (state .rows-sound) (leaves .sound);
+        rows-sound = sound-with (lent .rows) (l .0) (box .row) room wide (segmentsOf (lent .lists .contracts)) (state .rows-sound) (leaves .sound);
       })

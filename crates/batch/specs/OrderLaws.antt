@@ -13,6 +13,7 @@ use Rattle.laws.specs.RulesLaws.{none-hold, hold-none, some-broken, broken-some
 use Rattle.laws.specs.Tests.{leb-is, eqb-is}
 use Rattle.contracts.specs.Lookup.{segmentOf}
 use Rattle.contracts.specs.LookupLaws.{segment-has}
+use Rattle.pairs.specs.Lists.{Lists, Headers}
 use Rattle.sequence.specs.Gaps.{Gaps, most}
 use Rattle.sequence.specs.Row.{gapsOf}
 use Rattle.sequence.specs.RowLaid.{soundGapRow}
@@ -70,88 +71,88 @@ as-hold i (rule ∷ rules) =
 
 -- ---- the messages in turn
 
-module _ (list : List ℕ) (letter : ℕ) where
+module _ (lists : Lists) (letter : ℕ) where
   module _ (more i : ℕ) (gaps : Gaps) (bytes : List ℕ) where
     abbrev own : List Rule
-    own = asRules i (messageRules list letter bytes)
+    own = asRules i (messageRules lists letter bytes)
 
     abbrev behind : List Rule
     behind =
         record { holds = leb (length (gapsAfter gaps bytes .runs)) most; refusal = GapsOver i }
-        ∷ messagesRules more list letter (suc i) (gapsAfter gaps bytes) (drop (lengthOf bytes) bytes)
+        ∷ messagesRules more lists letter (suc i) (gapsAfter gaps bytes) (drop (lengthOf bytes) bytes)
 
-    own-first : (w : What) → messageOf list letter bytes .what ≡ w → firstBroken own ≡ asOption i (verdictOf w)
-    own-first w e = as-first i (messageRules list letter bytes) ∙ ap (asOption i) (sym (message-first list letter bytes) ∙ ap verdictOf e)
+    own-first : (w : What) → messageOf lists letter bytes .what ≡ w → firstBroken own ≡ asOption i (verdictOf w)
+    own-first w e = as-first i (messageRules lists letter bytes) ∙ ap (asOption i) (sym (message-first lists letter bytes) ∙ ap verdictOf e)
 
     -- a bad message, whatever the gaps are
-    bad-first : (box : Box) (fault : Fault) → messageOf list letter bytes .what ≡ what.Bad fault
-        → refusalOf (messagesAct (suc more) list letter i box bytes) ≡ firstBroken (own ++ behind)
+    bad-first : (box : Box) (fault : Fault) → messageOf lists letter bytes .what ≡ what.Bad fault
+        → refusalOf (messagesAct (suc more) lists letter i box bytes) ≡ firstBroken (own ++ behind)
     bad-first box fault e =
-        ap refusalOf (messages-refused list letter more i box bytes (ofFault fault i) (acts-as list letter bytes (messageOf list letter bytes) refl e box i))
+        ap refusalOf (messages-refused lists letter more i box bytes (ofFault fault i) (acts-as lists letter bytes (messageOf lists letter bytes) refl e box i))
         ∙ sym (front-broken own behind (ofFault fault i) (own-first (what.Bad fault) e))
 
-  pub messages-first : (count i : ℕ) (box : Box) (bytes : List ℕ) → soundGapRow (box .row) ≡ true
-      → refusalOf (messagesAct count list letter i box bytes) ≡ firstBroken (messagesRules count list letter i (gapsOf (box .row)) bytes)
+  pub messages-first : Headers lists → (count i : ℕ) (box : Box) (bytes : List ℕ) → soundGapRow (box .row) ≡ true
+      → refusalOf (messagesAct count lists letter i box bytes) ≡ firstBroken (messagesRules count lists letter i (gapsOf (box .row)) bytes)
   unfolding messagesAct
-  messages-first zero i box bytes s = go (eqb (length bytes) 0)
+  messages-first headers zero i box bytes s = go (eqb (length bytes) 0)
     where
       go : (t : Bool) → refusalOf (cond t (acted box) (refused Count)) ≡ cond t none (some Count)
       go true = refl
       go false = refl
-  messages-first (suc more) i box bytes s =
-      go (λ box′ sound. messages-first more (suc i) box′ (drop (lengthOf bytes) bytes) sound) (messageOf list letter bytes .what) refl
+  messages-first headers (suc more) i box bytes s =
+      go (λ box′ sound. messages-first headers more (suc i) box′ (drop (lengthOf bytes) bytes) sound) (messageOf lists letter bytes .what) refl
     where
       Behind : Type 0
       Behind =
           (box′ : Box) → soundGapRow (box′ .row) ≡ true
-          → refusalOf (messagesAct more list letter (suc i) box′ (drop (lengthOf bytes) bytes)) ≡ firstBroken (messagesRules more list letter (suc i) (gapsOf (box′ .row)) (drop (lengthOf bytes) bytes))
+          → refusalOf (messagesAct more lists letter (suc i) box′ (drop (lengthOf bytes) bytes)) ≡ firstBroken (messagesRules more lists letter (suc i) (gapsOf (box′ .row)) (drop (lengthOf bytes) bytes))
 
       gaps : Gaps
       gaps = gapsOf (box .row)
 
       Decided : Type 0
-      Decided = refusalOf (messagesAct (suc more) list letter i box bytes) ≡ firstBroken (own more i gaps bytes ++ behind more i gaps bytes)
+      Decided = refusalOf (messagesAct (suc more) lists letter i box bytes) ≡ firstBroken (own more i gaps bytes ++ behind more i gaps bytes)
 
-      good : Behind → (w : What) → messageOf list letter bytes .what ≡ w → verdictOf w ≡ Good → Decided
+      good : Behind → (w : What) → messageOf lists letter bytes .what ≡ w → verdictOf w ≡ Good → Decided
       good rest w e g =
           let holds = front-holds (own more i gaps bytes) (behind more i gaps bytes) (none-hold (own more i gaps bytes) (own-first more i gaps bytes w e ∙ ap (asOption i) g)) in
-          ⊎-elim (λ (d : Went (recordsWanted list) box (messageActs list letter box i bytes) (gapsAfter (gapsOf (box .row)) bytes)).
-          ap refusalOf (messages-next list letter more i box bytes (d .box) (d .acts))
+          ⊎-elim (λ (d : Went (recordsWanted lists) box (messageActs lists letter box i bytes) (gapsAfter (gapsOf (box .row)) bytes)).
+          ap refusalOf (messages-next lists letter more i box bytes (d .box) (d .acts))
           ∙ rest (d .box) (d .sound)
-          ∙ ap (λ (gaps : Gaps). firstBroken (messagesRules more list letter (suc i) gaps (drop (lengthOf bytes) bytes))) (d .gaps-are)
+          ∙ ap (λ (gaps : Gaps). firstBroken (messagesRules more lists letter (suc i) gaps (drop (lengthOf bytes) bytes))) (d .gaps-are)
           ∙ sym (holds ∙ rw (d .few)))
-          (λ (d : Fell i (messageActs list letter box i bytes) (gapsAfter (gapsOf (box .row)) bytes)).
-          ap refusalOf (messages-refused list letter more i box bytes (GapsOver i) (d .refuses)) ∙ sym (holds ∙ rw (d .many)))
-          (good-goes list letter box i bytes (ap verdictOf e ∙ g) s)
+          (λ (d : Fell i (messageActs lists letter box i bytes) (gapsAfter (gapsOf (box .row)) bytes)).
+          ap refusalOf (messages-refused lists letter more i box bytes (GapsOver i) (d .refuses)) ∙ sym (holds ∙ rw (d .many)))
+          (good-goes lists headers letter box i bytes (ap verdictOf e ∙ g) s)
 
-      go : Behind → (w : What) → messageOf list letter bytes .what ≡ w → Decided
+      go : Behind → (w : What) → messageOf lists letter bytes .what ≡ w → Decided
       go rest (what.Bad fault) e = bad-first more i gaps bytes box fault e
       go rest what.Heartbeat e = good rest what.Heartbeat e refl
       go rest (what.PassedOver number) e = good rest (what.PassedOver number) e refl
       go rest (what.Update number form place) e = good rest (what.Update number form place) e refl
 
   -- where no segment has the letter the first message is bad
-  unlisted-first : segmentOf list letter ≡ none → (count : ℕ) (box : Box) (gaps : Gaps) (bytes : List ℕ) → 0 < count
-      → refusalOf (messagesAct count list letter 0 box bytes) ≡ firstBroken (messagesRules count list letter 0 gaps bytes)
+  unlisted-first : segmentOf (lists .contracts) letter ≡ none → (count : ℕ) (box : Box) (gaps : Gaps) (bytes : List ℕ) → 0 < count
+      → refusalOf (messagesAct count lists letter 0 box bytes) ≡ firstBroken (messagesRules count lists letter 0 gaps bytes)
   unlisted-first u zero box gaps bytes h = absurd (omega arith)
-  unlisted-first u (suc more) box gaps bytes h = go (messageOf list letter bytes .what) refl
+  unlisted-first u (suc more) box gaps bytes h = go (messageOf lists letter bytes .what) refl
     where
-      go : (w : What) → messageOf list letter bytes .what ≡ w → refusalOf (messagesAct (suc more) list letter 0 box bytes) ≡ firstBroken (messagesRules (suc more) list letter 0 gaps bytes)
+      go : (w : What) → messageOf lists letter bytes .what ≡ w → refusalOf (messagesAct (suc more) lists letter 0 box bytes) ≡ firstBroken (messagesRules (suc more) lists letter 0 gaps bytes)
       go (what.Bad fault) e = bad-first more 0 gaps bytes box fault e
-      go what.Heartbeat e = absurd (never-good list letter u bytes (ap verdictOf e))
-      go (what.PassedOver number) e = absurd (never-good list letter u bytes (ap verdictOf e))
-      go (what.Update number form place) e = absurd (never-good list letter u bytes (ap verdictOf e))
+      go what.Heartbeat e = absurd (never-good lists letter u bytes (ap verdictOf e))
+      go (what.PassedOver number) e = absurd (never-good lists letter u bytes (ap verdictOf e))
+      go (what.Update number form place) e = absurd (never-good lists letter u bytes (ap verdictOf e))
 
   -- the rules hold exactly when the messages are good
-  messages-exact : (count i : ℕ) (gaps : Gaps) (bytes : List ℕ) → Hold (messagesRules count list letter i gaps bytes) ↔ GoodMessages count list letter gaps bytes
+  messages-exact : (count i : ℕ) (gaps : Gaps) (bytes : List ℕ) → Hold (messagesRules count lists letter i gaps bytes) ↔ GoodMessages count lists letter gaps bytes
   messages-exact zero i gaps bytes =
       let e = eqb-is (length bytes) 0 in
       ((λ h. e .0 (h .0)), (λ g. (e .1 g, tt)))
   messages-exact (suc more) i gaps bytes =
-      let own = Iff·trans (as-hold i (messageRules list letter bytes)) (rules-exact list letter bytes) in
+      let own = Iff·trans (as-hold i (messageRules lists letter bytes)) (rules-exact lists letter bytes) in
       let few = leb-is (length (gapsAfter gaps bytes .runs)) most in
       let rest = messages-exact more (suc i) (gapsAfter gaps bytes) (drop (lengthOf bytes) bytes) in
-      let parts = hold-append (asRules i (messageRules list letter bytes)) _ in (
+      let parts = hold-append (asRules i (messageRules lists letter bytes)) _ in (
         (λ h. let p = parts .0 h in (own .0 (p .0), few .0 (p .1 .0), rest .0 (p .1 .1))),
         (λ g. parts .1 (own .1 (g .0), (few .1 (g .1), rest .1 (g .2)))),
       )
@@ -166,7 +167,7 @@ module _ (lent : Lent) (batch : List ℕ) where
   before = stateRules lent ++ batchRules batch
 
   abbrev ofMessages : List Rule
-  ofMessages = messagesRules (countOf batch) (lent .list) letter 0 (gapsOf (gapRowOfLetter (lent .list) letter (lent .rows))) (batchData batch)
+  ofMessages = messagesRules (countOf batch) (lent .lists) letter 0 (gapsOf (gapRowOfLetter (lent .lists) letter (lent .rows))) (batchData batch)
 
   -- what the first broken rule answers is what the batch answers
   pub batch-first : refusalOf (batchActs lent batch) ≡ firstBroken (allRules lent batch)
@@ -176,21 +177,21 @@ module _ (lent : Lent) (batch : List ℕ) where
       Decided : Type 0
       Decided = refusalOf (unlessBroken (firstBroken before) (inTurn lent batch)) ≡ firstBroken (before ++ ofMessages)
 
-      row-sound : Hold before → (o : Option ℕ) → segmentOf (lent .list) letter ≡ o → refusalOf (inTurn lent batch) ≡ firstBroken ofMessages
+      row-sound : Hold before → (o : Option ℕ) → segmentOf (lent .lists .contracts) letter ≡ o → refusalOf (inTurn lent batch) ≡ firstBroken ofMessages
       row-sound h none e =
           let front = front-exact batch .0 (hold-append (stateRules lent) (batchRules batch) .0 h .1) in
-          unlisted-first (lent .list) letter e (countOf batch) (boxOf lent letter) (gapsOf (gapRowOfLetter (lent .list) letter (lent .rows))) (batchData batch) (front .some-messages)
+          unlisted-first (lent .lists) letter e (countOf batch) (boxOf lent letter) (gapsOf (gapRowOfLetter (lent .lists) letter (lent .rows))) (batchData batch) (front .some-messages)
       row-sound h (some segment) e =
           let state = state-exact lent .0 (hold-append (stateRules lent) (batchRules batch) .0 h .0) in
-          let there = segment-has (lent .list) letter segment e in
-          messages-first (lent .list) letter (countOf batch) 0 (boxOf lent letter) (batchData batch)
+          let there = segment-has (lent .lists .contracts) letter segment e in
+          messages-first (lent .lists) letter (state .headers) (countOf batch) 0 (boxOf lent letter) (batchData batch)
           (rw (ap (gapRowIn (lent .rows)) e) (state .rows-sound segment (there .0)))
 
       go : (o : Option Refusal) → firstBroken before ≡ o → Decided
       go none e =
           let h = none-hold before e in
           ap (λ (o : Option Refusal). refusalOf (unlessBroken o (inTurn lent batch))) e
-          ∙ row-sound h (segmentOf (lent .list) letter) refl
+          ∙ row-sound h (segmentOf (lent .lists .contracts) letter) refl
           ∙ sym (front-holds before ofMessages h)
       go (some refusal) e =
           ap (λ (o : Option Refusal). refusalOf (unlessBroken o (inTurn lent batch))) e ∙ sym (front-broken before ofMessages refusal e)
@@ -210,7 +211,7 @@ module _ (lent : Lent) (batch : List ℕ) where
   rules-good =
       let front = hold-append before ofMessages in
       let both = hold-append (stateRules lent) (batchRules batch) in
-      let messages = messages-exact (lent .list) letter (countOf batch) 0 (gapsOf (gapRowOfLetter (lent .list) letter (lent .rows))) (batchData batch) in (
+      let messages = messages-exact (lent .lists) letter (countOf batch) 0 (gapsOf (gapRowOfLetter (lent .lists) letter (lent .rows))) (batchData batch) in (
         (λ h.
             let p = front .0 h in
             let q = both .0 (p .0) in

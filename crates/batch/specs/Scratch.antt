@@ -7,6 +7,7 @@ use mathlib.Core.Option.{Option, some}
 use lib.ListN.{length}
 use Rattle.contracts.specs.File.{segmentsOf}
 use Rattle.contracts.specs.Sound.{Header}
+use Rattle.pairs.specs.Lists.{Lists, Headers}
 use Rattle.message.specs.Fields.{letterOf}
 use Rattle.sequence.specs.RowLaid.{soundGapRow}
 use Rattle.state.specs.declared.answers.Judged.{Judged}
@@ -17,9 +18,9 @@ use Rattle.state.specs.Memory.{Lent, lends, gapRowCells, gapRowsWanted, gapRowO
 use Rattle.state.specs.MemoryRows.{gapRowsSound}
 
 -- a word of our own: every listed segment has a sound row
-pub record RowsReady (list rows : List ℕ) : Type 0 where
-  pub enough : gapRowsWanted list ≤ length rows
-  pub sound : gapRowsSound (segmentsOf list) rows ≡ true
+pub record RowsReady (lists : Lists) (rows : List ℕ) : Type 0 where
+  pub enough : gapRowsWanted lists ≤ length rows
+  pub sound : gapRowsSound (segmentsOf (lists .contracts)) rows ≡ true
 
 -- a word of our own: the row of a segment is lent, where there is one, and sound
 abbrev pub RowReady : List ℕ → Option ℕ → Type 0
@@ -31,19 +32,19 @@ pub record ScratchRow (rows : List ℕ) (segment : Option ℕ) (row : List ℕ) 
   pub is : (i : ℕ) → segment ≡ some i → row ≡ gapRowOf rows i
 
 -- a word of our own: the list and the gap rows were checked, and there are messages
-pub record DataReady (list rows : List ℕ) (count : ℕ) : Type 0 where
-  pub header : Header list
-  pub rows-ready : RowsReady list rows
+pub record DataReady (lists : Lists) (rows : List ℕ) (count : ℕ) : Type 0 where
+  pub headers : Headers lists
+  pub rows-ready : RowsReady lists rows
   pub some-messages : 0 < count
   pub few : count < 65536
 
 -- a word of our own: what the messages of a batch do
 abbrev pub dataActs : Lent → List ℕ → ℕ → Acted
-dataActs lent bytes count = messagesAct count (lent .list) (letterOf bytes) 0 (boxOf lent (letterOf bytes)) bytes
+dataActs lent bytes count = messagesAct count (lent .lists) (letterOf bytes) 0 (boxOf lent (letterOf bytes)) bytes
 
 -- a word of our own: they are judged, whatever the records are
-pub record JudgedData (list rows bytes : List ℕ) (count : ℕ) (answer : Judged) : Type 0 where
-  pub answers : (records : List ℕ) → judgedNumbers answer ≡ actedNumbers (dataActs (lends list rows records) bytes count)
+pub record JudgedData (lists : Lists) (rows bytes : List ℕ) (count : ℕ) (answer : Judged) : Type 0 where
+  pub answers : (records : List ℕ) → judgedNumbers answer ≡ actedNumbers (dataActs (lends lists rows records) bytes count)
 
 -- a word of our own: they are taken
 pub record TookData (lent : Lent) (bytes : List ℕ) (count : ℕ) (answer : Judged) (lent′ : Lent) : Type 0 where

@@ -14,6 +14,7 @@ use Rattle.laws.specs.Choice.{either}
 use Rattle.layout.specs.declared.read.Verdict.{Verdict}
 use Rattle.layout.specs.declared.read.Verdict.the-variants as verdict
 use Rattle.contracts.specs.Lookup.{segmentOf}
+use Rattle.pairs.specs.Lists.{Lists, Headers}
 use Rattle.sequence.specs.Gaps.{Gaps, most, takes}
 use Rattle.sequence.specs.Changes.{full, after, runsAfter}
 use Rattle.sequence.specs.GapsLaws.{after-sound}
@@ -25,14 +26,15 @@ use Rattle.message.specs.declared.body.What.{What}
 use Rattle.message.specs.declared.body.What.the-variants as what
 use Rattle.forms.specs.declared.forms.Form.{Form}
 use Rattle.forms.specs.declared.forms.Subject.{Subject}
-use Rattle.forms.specs.declared.forms.Subject.the-variants.{Nothing, Contract}
+use Rattle.forms.specs.declared.forms.Subject.the-variants.{Nothing, Of}
+use Rattle.forms.specs.declared.forms.Item.{Item}
 use Rattle.forms.specs.declared.forms.Named.{Named}
 use Rattle.forms.specs.declared.forms.Named.the-variants as is
 use Rattle.forms.specs.Forms.{subjectOf}
 use Rattle.message.specs.declared.head.Head.the-variants.{Good}
 use Rattle.message.specs.CallerLaws.{contents-good}
 use Rattle.message.specs.Fields.{formIn, lengthOf, numberOf}
-use Rattle.message.specs.Message.{messageKey, keyPlace, ofSubject, ofNamed}
+use Rattle.message.specs.Message.{messagePlace, ofNamed, ofPlace, ofSubject}
 use Rattle.message.specs.Reads.{rowsRead, ofVerdict, contentsBy, messageOf}
 use Rattle.message.specs.Numbers.{verdictOf}
 use Rattle.message.specs.RulesLaws.{unlike}
@@ -43,7 +45,7 @@ use Rattle.stores.specs.Stored.{stored}
 use Rattle.state.specs.Slots.{recordsWanted}
 use Rattle.state.specs.Places.{slotAt, slotIn, recordOf}
 use Rattle.batch.specs.Good.{arrived, arrivedFor, arrivedAs, gapsAfter}
-use Rattle.turns.specs.UpdateLaws.{level-of, record-wanted}
+use Rattle.turns.specs.UpdateLaws.{item-of, tells-of, record-wanted}
 
 -- the messages that a box has counted
 abbrev pub messagesIn : Box → ℕ
@@ -129,12 +131,13 @@ module _ (wanted : ℕ) (box : Box) (i number : ℕ) (changed : List ℕ → Lis
           (either (full g number))
 
 -- an update changes nothing behind the cells wanted
-update-behind : (list : List ℕ) (letter : ℕ) (bytes : List ℕ) {number : ℕ} {form : Form} {place : ℕ} → messageOf list letter bytes .what ≡ what.Update number form place
-    → (cells records : List ℕ) → KeptBehind (recordsWanted list) records (updated list (segmentOf list letter) place (subjectOf form) number cells records)
-update-behind list letter bytes {number} {form} {place} e cells records =
-    let level = level-of list letter bytes e in
+update-behind : (lists : Lists) → Headers lists → (letter : ℕ) (bytes : List ℕ) {number : ℕ} {form : Form} {place : ℕ} → messageOf lists letter bytes .what ≡ what.Update number form place
+    → (cells records : List ℕ) → KeptBehind (recordsWanted lists) records (updated lists (segmentOf (lists .contracts) letter) place (subjectOf form) number cells records)
+update-behind lists headers letter bytes {number} {form} {place} e cells records =
+    let item : Item = item-of lists headers letter bytes e in
+    let level = tells-of lists headers letter bytes e in
     rw (level .1)
-    (stored-behind (recordsWanted list) (slotAt list (slotIn (segmentOf list letter) place (level .0))) number (recordOf (level .0) cells) records (record-wanted list letter bytes e cells))
+    (stored-behind (recordsWanted lists) (slotAt lists (slotIn item (segmentOf (lists .contracts) letter) place (level .0))) number (recordOf item (level .0) cells) records (record-wanted lists headers letter bytes e cells))
 
 -- what a message is tells what its number does to gaps
 abbrev Tells : What → (Gaps → ℕ → Gaps) → ℕ → Type 0
@@ -143,33 +146,36 @@ Tells (what.PassedOver number) comes n = ((g : Gaps) → comes g n ≡ arrived g
 Tells (what.Update number form place) comes n = ((g : Gaps) → comes g n ≡ arrived g n) × (number ≡ n)
 Tells (what.Bad fault) comes n = Unit {0}
 
-tells-of : (s : Subject) (form : Form) (n : ℕ) (p : Option ℕ) → Tells (ofSubject s n form p) (arrivedFor s) n
-tells-of Nothing form n p = λ g. refl
-tells-of (Contract level) form n none = tt
-tells-of (Contract level) form n (some q) = ((λ g. refl), refl)
+subject-tells : (s : Subject) (form : Form) (n : ℕ) (p : Item → Option ℕ) → Tells (ofSubject s n form p) (arrivedFor s) n
+subject-tells Nothing form n p = λ g. refl
+subject-tells (Of item level) form n p = go (p item)
+  where
+    go : (o : Option ℕ) → Tells (ofPlace n form o) arrived n
+    go none = tt
+    go (some q) = ((λ g. refl), refl)
 
-tells : (v : Verdict) (k : Named) (n : ℕ) (p : Option ℕ) → Tells (ofVerdict v (ofNamed k n p)) (arrivedAs k) n
-tells verdict.Good (is.Form form) n p = tells-of (subjectOf form) form n p
+tells : (v : Verdict) (k : Named) (n : ℕ) (p : Item → Option ℕ) → Tells (ofVerdict v (ofNamed k n p)) (arrivedAs k) n
+tells verdict.Good (is.Form form) n p = subject-tells (subjectOf form) form n p
 tells verdict.Good is.NoLength n p = ((λ g. refl), refl)
 tells verdict.Good is.PassedOver n p = ((λ g. refl), refl)
 tells (verdict.Field row) k n p = tt
 tells (verdict.Range row) k n p = tt
 
-module _ (list : List ℕ) (letter : ℕ) (box : Box) (i : ℕ) (bytes : List ℕ) (good : verdictOf (messageOf list letter bytes .what) ≡ Good) where
-  told : Tells (messageOf list letter bytes .what) (arrivedAs (formIn bytes)) (numberOf bytes)
+module _ (lists : Lists) (headers : Headers lists) (letter : ℕ) (box : Box) (i : ℕ) (bytes : List ℕ) (good : verdictOf (messageOf lists letter bytes .what) ≡ Good) where
+  told : Tells (messageOf lists letter bytes .what) (arrivedAs (formIn bytes)) (numberOf bytes)
   unfolding contentsBy
   told =
-      rw (contents-good list letter bytes good)
-      (tells (rowsRead bytes .verdict) (formIn bytes) (numberOf bytes) (keyPlace list letter (messageKey bytes)))
+      rw (contents-good lists letter bytes good)
+      (tells (rowsRead bytes .verdict) (formIn bytes) (numberOf bytes) (messagePlace lists letter bytes))
 
   abbrev Goes : Type 0
-  Goes = Went (recordsWanted list) box (messageActs list letter box i bytes) (gapsAfter (gapsOf (box .row)) bytes) ⊎ Fell i (messageActs list letter box i bytes) (gapsAfter (gapsOf (box .row)) bytes)
+  Goes = Went (recordsWanted lists) box (messageActs lists letter box i bytes) (gapsAfter (gapsOf (box .row)) bytes) ⊎ Fell i (messageActs lists letter box i bytes) (gapsAfter (gapsOf (box .row)) bytes)
 
   -- a good message goes by its number
   pub good-goes : soundGapRow (box .row) ≡ true → Goes
-  good-goes s = go (messageOf list letter bytes .what) refl told
+  good-goes s = go (messageOf lists letter bytes .what) refl told
     where
-      go : (w : What) → messageOf list letter bytes .what ≡ w → Tells w (arrivedAs (formIn bytes)) (numberOf bytes) → Goes
+      go : (w : What) → messageOf lists letter bytes .what ≡ w → Tells w (arrivedAs (formIn bytes)) (numberOf bytes) → Goes
       go (what.Bad fault) e t = absurd (unlike (sym (ap verdictOf e) ∙ good))
       go what.Heartbeat e t =
           let all = sound-row-exactly (box .row) .0 s in
@@ -177,16 +183,16 @@ module _ (list : List ℕ) (letter : ℕ) (box : Box) (i : ℕ) (bytes : List �
           (record {
             few = simp (t (gapsOf (box .row))) (le-leb (length (gapsOf (box .row) .runs)) most (all .2 .few));
             box = record { row = box .row; records = box .records; taken = box .taken; old = box .old; heartbeats = suc (box .heartbeats) };
-            acts = acts-as list letter bytes (messageOf list letter bytes) refl e box i;
+            acts = acts-as lists letter bytes (messageOf lists letter bytes) refl e box i;
             gaps-are = sym (t (gapsOf (box .row)));
             sound = s;
             counts = omega arith;
-            records-kept = all-kept (recordsWanted list) (box .records);
+            records-kept = all-kept (recordsWanted lists) (box .records);
           })
       go (what.PassedOver number) e t =
-          rw (t .0 (gapsOf (box .row)), ← t .1, acts-as list letter bytes (messageOf list letter bytes) refl e box i)
-          (number-goes (recordsWanted list) box i number (λ records. records) (all-kept (recordsWanted list) (box .records)) s)
+          rw (t .0 (gapsOf (box .row)), ← t .1, acts-as lists letter bytes (messageOf lists letter bytes) refl e box i)
+          (number-goes (recordsWanted lists) box i number (λ records. records) (all-kept (recordsWanted lists) (box .records)) s)
       go (what.Update number form place) e t =
-          rw (t .0 (gapsOf (box .row)), ← t .1, acts-as list letter bytes (messageOf list letter bytes) refl e box i)
-          (number-goes (recordsWanted list) box i number (updated list (segmentOf list letter) place (subjectOf form) number (messageOf list letter bytes .cells))
-          (update-behind list letter bytes e (messageOf list letter bytes .cells) (box .records)) s)
+          rw (t .0 (gapsOf (box .row)), ← t .1, acts-as lists letter bytes (messageOf lists letter bytes) refl e box i)
+          (number-goes (recordsWanted lists) box i number (updated lists (segmentOf (lists .contracts) letter) place (subjectOf form) number (messageOf lists letter bytes .cells))
+          (update-behind lists headers letter bytes e (messageOf lists letter bytes .cells) (box .records)) s)

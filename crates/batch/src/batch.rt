@@ -4,6 +4,7 @@ ghost use mathlib.Core.List.{_++_};
 ghost use lib.ListN.{length};
 ghost use Rattle.laws.specs.Rules.{firstBroken};
 ghost use Rattle.contracts.specs.Answers.{placeOf};
+ghost use Rattle.pairs.specs.Lists.{lists};
 ghost use Rattle.state.specs.Memory.{lends};
 ghost use Rattle.state.specs.Answers.{checkedNumbers, checkedBy};
 ghost use Rattle.state.specs.State.{stateRules};
@@ -17,6 +18,7 @@ ghost use Prim.Native.Nat.{_≤_};
 use crate::scratch;
 use contracts::Found;
 use state::Checked;
+use state::Fronts;
 use state::Judged;
 use state::Refusal;
 
@@ -25,8 +27,8 @@ const FRONT: usize = 5;
 
 const MOST_DATA: usize = 32767;
 
-// The bytes of a level 1 update, the shortest.
-const LEAST_UPDATE: usize = 249;
+// The bytes of a pair's level 1 update, the shortest.
+const LEAST_UPDATE: usize = 227;
 
 // The updates whose stores find room in the scratch memory of a short batch.
 const FEW: usize = 4;
@@ -65,41 +67,45 @@ fn check(batch: &[u8]) -> Checked
 }
 
 // The state, and then the batch before its messages.
-fn check_all(list: &[u8], rows: &[u32], records: &[u64], batch: &[u8]) -> Checked
-    ensures { λ r. ⌜ checkedNumbers r ≡ checkedBy (firstBroken (stateRules (lends (now (list .entry)) (now (rows .entry)) (now (records .entry))) ++ batchRules (now (batch .entry)))) ⌝ }
+fn check_all(list: &[u8], spreads: &[u8], rows: &[u32], records: &[u64], batch: &[u8]) -> Checked
+    ensures { λ r. ⌜ checkedNumbers r ≡ checkedBy (firstBroken (stateRules (lends (lists (now (list .entry)) (now (spreads .entry))) (now (rows .entry)) (now (records .entry))) ++ batchRules (now (batch .entry)))) ⌝ }
 {
-    match state::check_state(list, rows, records) {
+    match state::check_state(list, spreads, rows, records) {
         Checked::Refused(refusal) => Checked::Refused(refusal),
         Checked::Good => check(batch),
     }
 }
 
-// How many contracts stand in front of a segment.
-fn before(list: &[u8], segment: Found) -> usize
-    ensures { λ r. ⌜ InFront (now (list .entry)) (placeOf segment) r ⌝ }
+// Where a segment's records begin.
+fn fronts_in(list: &[u8], spreads: &[u8], segment: Found) -> Fronts
+    ensures { λ r. ⌜ InFront (lists (now (list .entry)) (now (spreads .entry))) (placeOf segment) r ⌝ }
 {
     match segment {
-        Found::At(i) => contracts::contracts_before(list, i),
-        Found::Nowhere => 0,
+        Found::At(i) => state::fronts_of(list, spreads, i),
+        Found::Nowhere => Fronts {
+            contracts: 0,
+            pairs: 0,
+        },
     }
 }
 
 // The messages, on scratch memory that has no room for a store.
-fn judge_data(list: &[u8], rows: &[u32], data: &[u8], count: usize) -> Judged
-    requires { ⌜ DataReady (now list) (now rows) count ⌝ }
-    ensures { λ r. ⌜ JudgedData (now (list .entry)) (now (rows .entry)) (now («data» .entry)) count r ⌝ }
+fn judge_data(list: &[u8], spreads: &[u8], rows: &[u32], data: &[u8], count: usize) -> Judged
+    requires { ⌜ DataReady (lists (now list) (now spreads)) (now rows) count ⌝ }
+    ensures { λ r. ⌜ JudgedData (lists (now (list .entry)) (now (spreads .entry))) (now (rows .entry)) (now («data» .entry)) count r ⌝ }
 {
     let letter = message::letter_of(data);
     let segment = contracts::segment_of(list, letter);
-    let before = before(list, segment);
+    let fronts = fronts_in(list, spreads, segment);
     let mut row = [0u32; sequence::CELLS];
     scratch::copy_row_in(rows, segment, &mut row);
     let mut stores = [0u64; 1];
     let turn = turns::judge_messages(
         list,
+        spreads,
         letter,
         segment,
-        before,
+        fronts,
         &mut row,
         &mut stores,
         data,
@@ -108,14 +114,14 @@ fn judge_data(list: &[u8], rows: &[u32], data: &[u8], count: usize) -> Judged
     turn.answer
 }
 
-pub fn judge(list: &[u8], rows: &[u32], records: &[u64], batch: &[u8]) -> Judged
-    ensures { λ r. ⌜ JudgedBatch (lends (now (list .entry)) (now (rows .entry)) (now (records .entry))) (now (batch .entry)) r ⌝ }
+pub fn judge(list: &[u8], spreads: &[u8], rows: &[u32], records: &[u64], batch: &[u8]) -> Judged
+    ensures { λ r. ⌜ JudgedBatch (lends (lists (now (list .entry)) (now (spreads .entry))) (now (rows .entry)) (now (records .entry))) (now (batch .entry)) r ⌝ }
 {
-    match check_all(list, rows, records, batch) {
+    match check_all(list, spreads, rows, records, batch) {
         Checked::Refused(refusal) => Judged::Refused(refusal),
         Checked::Good => {
             let count = wire::u16_at(batch, 3) as usize;
-            judge_data(list, rows, &batch[FRONT..], count)
+            judge_data(list, spreads, rows, &batch[FRONT..], count)
         }
     }
 }
@@ -123,21 +129,32 @@ pub fn judge(list: &[u8], rows: &[u32], records: &[u64], batch: &[u8]) -> Judged
 // The messages, on scratch memory with room for their stores. Nothing lent is written before the last message has passed.
 fn take_on(
     list: &[u8],
+    spreads: &[u8],
     rows: &mut [u32],
     records: &mut [u64],
     stores: &mut [u64],
     data: &[u8],
     count: usize,
 ) -> Judged
-    requires { ⌜ DataReady (now list) (now rows) count × (recordsWanted (now list) ≤ length (now records)) × Room (length (now stores)) (length (now «data»)) ⌝ }
-    ensures { λ r. ⌜ TookData (lends (now (list .entry)) (now (rows .entry)) (now (records .entry))) (now («data» .entry)) count r (lends (now (list .entry)) (now (rows .exit)) (now (records .exit))) ⌝ }
+    requires { ⌜ DataReady (lists (now list) (now spreads)) (now rows) count × (recordsWanted (lists (now list) (now spreads)) ≤ length (now records)) × Room (length (now stores)) (length (now «data»)) ⌝ }
+    ensures { λ r. ⌜ TookData (lends (lists (now (list .entry)) (now (spreads .entry))) (now (rows .entry)) (now (records .entry))) (now («data» .entry)) count r (lends (lists (now (list .entry)) (now (spreads .entry))) (now (rows .exit)) (now (records .exit))) ⌝ }
 {
     let letter = message::letter_of(data);
     let segment = contracts::segment_of(list, letter);
-    let before = before(list, segment);
+    let fronts = fronts_in(list, spreads, segment);
     let mut row = [0u32; sequence::CELLS];
     scratch::copy_row_in(rows, segment, &mut row);
-    let turn = turns::judge_messages(list, letter, segment, before, &mut row, stores, data, count);
+    let turn = turns::judge_messages(
+        list,
+        spreads,
+        letter,
+        segment,
+        fronts,
+        &mut row,
+        stores,
+        data,
+        count,
+    );
     let answer = turn.answer;
     let kept = turn.kept;
     if let Judged::Accepted(_, _, _) = answer {
@@ -151,34 +168,41 @@ fn take_on(
 // sent, has no room for a store.
 fn take_data(
     list: &[u8],
+    spreads: &[u8],
     rows: &mut [u32],
     records: &mut [u64],
     data: &[u8],
     count: usize,
 ) -> Judged
-    requires { ⌜ DataReady (now list) (now rows) count × (recordsWanted (now list) ≤ length (now records)) × (length (now «data») ≤ 32767) ⌝ }
-    ensures { λ r. ⌜ TookData (lends (now (list .entry)) (now (rows .entry)) (now (records .entry))) (now («data» .entry)) count r (lends (now (list .entry)) (now (rows .exit)) (now (records .exit))) ⌝ }
+    requires { ⌜ DataReady (lists (now list) (now spreads)) (now rows) count × (recordsWanted (lists (now list) (now spreads)) ≤ length (now records)) × (length (now «data») ≤ 32767) ⌝ }
+    ensures { λ r. ⌜ TookData (lends (lists (now (list .entry)) (now (spreads .entry))) (now (rows .entry)) (now (records .entry))) (now («data» .entry)) count r (lends (lists (now (list .entry)) (now (spreads .entry))) (now (rows .exit)) (now (records .exit))) ⌝ }
 {
     if data.len() < LEAST_UPDATE {
         let mut none = [0u64; 1];
-        return take_on(list, rows, records, &mut none, data, count);
+        return take_on(list, spreads, rows, records, &mut none, data, count);
     }
     if data.len() < MANY_DATA {
         let mut few = [0u64; FEW * stores::STORE];
-        return take_on(list, rows, records, &mut few, data, count);
+        return take_on(list, spreads, rows, records, &mut few, data, count);
     }
     let mut most = [0u64; MOST * stores::STORE];
-    take_on(list, rows, records, &mut most, data, count)
+    take_on(list, spreads, rows, records, &mut most, data, count)
 }
 
-pub fn take(list: &[u8], rows: &mut [u32], records: &mut [u64], batch: &[u8]) -> Judged
-    ensures { λ r. ⌜ TookBatch (lends (now (list .entry)) (now (rows .entry)) (now (records .entry))) (now (batch .entry)) r (lends (now (list .entry)) (now (rows .exit)) (now (records .exit))) ⌝ }
+pub fn take(
+    list: &[u8],
+    spreads: &[u8],
+    rows: &mut [u32],
+    records: &mut [u64],
+    batch: &[u8],
+) -> Judged
+    ensures { λ r. ⌜ TookBatch (lends (lists (now (list .entry)) (now (spreads .entry))) (now (rows .entry)) (now (records .entry))) (now (batch .entry)) r (lends (lists (now (list .entry)) (now (spreads .entry))) (now (rows .exit)) (now (records .exit))) ⌝ }
 {
-    match check_all(list, rows, records, batch) {
+    match check_all(list, spreads, rows, records, batch) {
         Checked::Refused(refusal) => Judged::Refused(refusal),
         Checked::Good => {
             let count = wire::u16_at(batch, 3) as usize;
-            take_data(list, rows, records, &batch[FRONT..], count)
+            take_data(list, spreads, rows, records, &batch[FRONT..], count)
         }
     }
 }

@@ -1,17 +1,18 @@
-// The commands that make no call: what of the memory is lent, which list is handed over, and a gap-row cell stored.
+// The commands that make no call: what of the memory is lent, which lists are handed over, and a gap-row cell stored.
 ghost use Prim.Native.Nat.{_≤_};
 ghost use lib.ListN.{length};
 ghost use Rattle.calls.specs.Lent.{Within};
 use console::least;
 
-// The bytes of the list, the gap-row cells and the record cells that are handed to the calls.
+// The bytes of the two lists, the gap-row cells and the record cells that are handed to the calls.
 pub struct Lent {
     pub list: usize,
+    pub spreads: usize,
     pub rows: usize,
     pub records: usize,
 }
 
-// The list's bytes, behind its length.
+// A list's bytes, behind their length.
 fn keep_list(text: &[u8], list: &mut [u8]) -> usize
     ensures { λ r. ⌜ r ≤ length (now (list .entry)) ⌝ }
 {
@@ -27,18 +28,36 @@ fn store(bytes: &[u8], rows: &mut [u32]) {
     }
 }
 
-pub fn keep(bytes: &[u8], list: &mut [u8], rows: &mut [u32], records: &[u64], lent: Lent) -> Lent
-    requires { ⌜ Within lent (now list) (now rows) (now records) ⌝ }
-    ensures { λ r. ⌜ Within r (now (list .exit)) (now (rows .exit)) (now (records .entry)) ⌝ }
+pub fn keep(
+    bytes: &[u8],
+    list: &mut [u8],
+    spreads: &mut [u8],
+    rows: &mut [u32],
+    records: &[u64],
+    lent: Lent,
+) -> Lent
+    requires { ⌜ Within lent (now list) (now spreads) (now rows) (now records) ⌝ }
+    ensures { λ r. ⌜ Within r (now (list .exit)) (now (spreads .exit)) (now (rows .exit)) (now (records .entry)) ⌝ }
 {
     match wire::u8_at(bytes, 0) {
         b'M' => Lent {
             list: lent.list,
+            spreads: lent.spreads,
             rows: least(wire::u32_at(bytes, 1) as usize, rows.len()),
             records: least(wire::u32_at(bytes, 5) as usize, records.len()),
         },
-        b'L' => Lent {
-            list: keep_list(commands::batch_in(bytes), list),
+        b'L' => {
+            let size = keep_list(commands::batch_in(bytes), list);
+            Lent {
+                list: size,
+                spreads: answers::beside(&list[0..size], spreads),
+                rows: lent.rows,
+                records: lent.records,
+            }
+        }
+        b'X' => Lent {
+            list: lent.list,
+            spreads: keep_list(commands::batch_in(bytes), spreads),
             rows: lent.rows,
             records: lent.records,
         },

@@ -8,6 +8,9 @@ ghost use Rattle.calls.specs.Lent.{Within};
 use console::Desk;
 use keep::Lent;
 
+// The records of 128 contracts, and of 64 pairs with 38 cells each.
+const RECORD_CELLS: usize = console::RECORD_CELLS + 64 * 38;
+
 // Where the program stands: in what it reads and says, with what is lent, and whether there may be another turn.
 struct Turn {
     desk: Desk,
@@ -25,21 +28,24 @@ struct Obeyed {
 fn call(
     bytes: &[u8],
     list: &[u8],
+    spreads: &[u8],
     rows: &mut [u32],
     records: &mut [u64],
     lent: Lent,
     page: &mut [u8],
     used: usize,
 ) -> usize
-    requires { ⌜ (used ≤ length (now page)) × Within lent (now list) (now rows) (now records) ⌝ }
+    requires { ⌜ (used ≤ length (now page)) × Within lent (now list) (now spreads) (now rows) (now records) ⌝ }
     ensures { λ r. ⌜ r ≤ length (now (page .entry)) ⌝ }
 {
     let size = lent.list;
+    let spreads_size = lent.spreads;
     let row_cells = lent.rows;
     let record_cells = lent.records;
     answers::answer(
         bytes,
         &list[0..size],
+        &spreads[0..spreads_size],
         &mut rows[0..row_cells],
         &mut records[0..record_cells],
         page,
@@ -51,31 +57,33 @@ fn call(
 fn obey(
     bytes: &[u8],
     list: &mut [u8],
+    spreads: &mut [u8],
     rows: &mut [u32],
     records: &mut [u64],
     lent: Lent,
     page: &mut [u8],
     used: usize,
 ) -> Obeyed
-    requires { ⌜ (used ≤ length (now page)) × Within lent (now list) (now rows) (now records) ⌝ }
-    ensures { λ r. ⌜ (r .used ≤ length (now (page .exit))) × Within (r .lent) (now (list .exit)) (now (rows .exit)) (now (records .exit)) ⌝ }
+    requires { ⌜ (used ≤ length (now page)) × Within lent (now list) (now spreads) (now rows) (now records) ⌝ }
+    ensures { λ r. ⌜ (r .used ≤ length (now (page .exit))) × Within (r .lent) (now (list .exit)) (now (spreads .exit)) (now (rows .exit)) (now (records .exit)) ⌝ }
 {
-    let lent = keep::keep(bytes, list, rows, records, lent);
-    let used = call(bytes, list, rows, records, lent, page, used);
+    let lent = keep::keep(bytes, list, spreads, rows, records, lent);
+    let used = call(bytes, list, spreads, rows, records, lent, page, used);
     Obeyed { lent, used }
 }
 
 // The next command.
 fn take_turn(
     list: &mut [u8],
+    spreads: &mut [u8],
     rows: &mut [u32],
     records: &mut [u64],
     room: &mut [u8],
     page: &mut [u8],
     turn: Turn,
 ) -> Turn
-    requires { ⌜ Fits (turn .desk) (now room) (now page) × Within (turn .lent) (now list) (now rows) (now records) ⌝ }
-    ensures { λ r. ⌜ Fits (r .desk) (now (room .exit)) (now (page .exit)) × Within (r .lent) (now (list .exit)) (now (rows .exit)) (now (records .exit)) ⌝ }
+    requires { ⌜ Fits (turn .desk) (now room) (now page) × Within (turn .lent) (now list) (now spreads) (now rows) (now records) ⌝ }
+    ensures { λ r. ⌜ Fits (r .desk) (now (room .exit)) (now (page .exit)) × Within (r .lent) (now (list .exit)) (now (spreads .exit)) (now (rows .exit)) (now (records .exit)) ⌝ }
 {
     let desk = turn.desk;
     let lent = turn.lent;
@@ -90,7 +98,16 @@ fn take_turn(
     }
     let at = desk.at;
     let stop = at + command.length;
-    let obeyed = obey(&room[at..stop], list, rows, records, lent, page, desk.used);
+    let obeyed = obey(
+        &room[at..stop],
+        list,
+        spreads,
+        rows,
+        records,
+        lent,
+        page,
+        desk.used,
+    );
     let lent = obeyed.lent;
     Turn {
         desk: Desk {
@@ -106,13 +123,14 @@ fn take_turn(
 // Every command, and how much of the page is used.
 fn run(
     list: &mut [u8],
-    size: usize,
+    spreads: &mut [u8],
     rows: &mut [u32],
     records: &mut [u64],
+    lent: Lent,
     room: &mut [u8],
     page: &mut [u8],
 ) -> usize
-    requires { ⌜ size ≤ length (now list) ⌝ }
+    requires { ⌜ Within lent (now list) (now spreads) (now rows) (now records) ⌝ }
     ensures { λ r. ⌜ r ≤ length (now (page .entry)) ⌝ }
 {
     let mut turn = Turn {
@@ -121,32 +139,37 @@ fn run(
             end: 0,
             used: 0,
         },
-        lent: Lent {
-            list: size,
-            rows: rows.len(),
-            records: records.len(),
-        },
+        lent,
         more: true,
     };
     let mut turns: u64 = 0;
     while turns < console::LAST_TURN {
-        turn = take_turn(list, rows, records, room, page, turn);
+        turn = take_turn(list, spreads, rows, records, room, page, turn);
         turns = console::turn_after(turns, turn.more);
     }
     turn.desk.used
 }
 
+// With all of the memory lent at first.
 fn bench(list: &mut [u8], size: usize, page: &mut [u8]) -> usize
     requires { ⌜ size ≤ length (now list) ⌝ }
     ensures { λ r. ⌜ r ≤ length (now (page .entry)) ⌝ }
 {
+    let mut spreads = [0u8; console::MOST_LIST];
     let mut rows = [0u32; console::ROW_CELLS];
-    let mut records = [0u64; console::RECORD_CELLS];
+    let mut records = [0u64; RECORD_CELLS];
+    let lent = Lent {
+        list: size,
+        spreads: answers::beside(&list[0..size], &mut spreads),
+        rows: console::ROW_CELLS,
+        records: RECORD_CELLS,
+    };
     let used = run(
         list,
-        size,
+        &mut spreads,
         &mut rows,
         &mut records,
+        lent,
         &mut io::large_buffer(),
         page,
     );

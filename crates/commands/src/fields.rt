@@ -1,9 +1,12 @@
 // What a command tells.
 ghost use Prim.Native.Nat.{_≤_};
 use crate::length;
+use layout::Item;
 use layout::KEY_BYTES;
 use layout::Level;
+use layout::PAIR_BYTES;
 use quote::Quote;
+use quote::SpreadQuote;
 use quotebox::Code;
 
 // As many start numbers as a command can have.
@@ -37,14 +40,39 @@ pub fn key_at(bytes: &[u8], at: usize) -> [u8; KEY_BYTES]
     key
 }
 
+pub fn pair_at(bytes: &[u8], at: usize) -> [u8; PAIR_BYTES]
+    requires { ⌜ at ≤ 8 ⌝ }
+{
+    let mut pair = [0u8; PAIR_BYTES];
+    console::bytes_at(bytes, at, &mut pair);
+    pair
+}
+
 pub fn code_in(bytes: &[u8]) -> Code {
     Code(wire::u8_at(bytes, 1), wire::u8_at(bytes, 2))
 }
 
-// The rows of a message to write, from the market type on, a value each.
-pub fn quote_in(bytes: &[u8], level: Level) -> Quote {
+// The room for a message to write.
+pub fn room_in(bytes: &[u8], item: Item) -> usize {
+    wire::u16_at(bytes, length::write_room(item)) as usize
+}
+
+// The rows of a message to write behind its key, a value each.
+fn values_in(bytes: &[u8], item: Item, level: Level) -> [u64; values::MOST] {
     let mut told = [0u64; values::MOST];
-    let end = values::FIRST + length::rows_at(level);
-    console::u64s_at(bytes, length::WRITE_FRONT, &mut told[values::FIRST..end]);
-    values::quote_in(level, &told)
+    let end = values::FIRST + length::rows_at(item, level);
+    console::u64s_at(
+        bytes,
+        length::write_front(item),
+        &mut told[values::FIRST..end],
+    );
+    told
+}
+
+pub fn quote_in(bytes: &[u8], level: Level) -> Quote {
+    values::quote_in(level, &values_in(bytes, Item::Contract, level))
+}
+
+pub fn spread_in(bytes: &[u8], level: Level) -> SpreadQuote {
+    values::spread_in(level, &values_in(bytes, Item::Pair, level))
 }

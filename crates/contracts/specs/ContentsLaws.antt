@@ -8,10 +8,8 @@ use Rattle.wire.specs.Number.{numberAt}
 use Rattle.contracts.specs.declared.habit.Habit.{Habit}
 use Rattle.contracts.specs.File.{sumBelow, segmentsOf, entryAt, letterAt, zeroAt, countAt, offsetAt, contractsBefore}
 use Rattle.contracts.specs.BelowLaws.{all-same, sum-same}
-use Rattle.contracts.specs.Habits.{pairs}
 use Rattle.contracts.specs.Sound.{SameContents}
 use Rattle.contracts.specs.SoundTests.{letterAscends, entrySound, headerSoundBy}
-use Rattle.contracts.specs.SpreadTests.{sameLetter, spreadHeaderSound}
 
 module _ (habit : Habit) (list other : List ℕ) (same : SameContents list other) where
   number-same : (width at : ℕ) → at + width ≤ entryAt (segmentsOf list) → numberAt width list at ≡ numberAt width other at
@@ -19,11 +17,11 @@ module _ (habit : Habit) (list other : List ℕ) (same : SameContents list other
   number-same (suc w) at h =
       ap₂ (λ (b n : ℕ). b * 256 ^ w + n) (same .contents at (omega arith)) (number-same w (at + 1) (omega arith))
 
-  segments-same : segmentsOf list ≡ segmentsOf other
+  pub segments-same : segmentsOf list ≡ segmentsOf other
   unfolding segmentsOf
   segments-same = number-same 2 0 (omega arith)
 
-  letter-same : (i : ℕ) → i < segmentsOf list → letterAt list i ≡ letterAt other i
+  pub letter-same : (i : ℕ) → i < segmentsOf list → letterAt list i ≡ letterAt other i
   unfolding letterAt
   letter-same i h = number-same 1 (entryAt i) (omega arith)
 
@@ -59,11 +57,3 @@ module _ (habit : Habit) (list other : List ℕ) (same : SameContents list other
       let n : ℕ = segmentsOf list in
       let entries = all-same (entrySound habit list) (entrySound habit other) n entry-same in
       rw (entries, before-same n, segments-same, same .size)
-
--- and so do two spread lists beside one contract list
-pub spreads-unread : (list spreads other : List ℕ) → SameContents spreads other → spreadHeaderSound list spreads ≡ spreadHeaderSound list other
-unfolding spreadHeaderSound
-spreads-unread list spreads other same =
-    let n : ℕ = segmentsOf spreads in
-    let letters = all-same (sameLetter list spreads) (sameLetter list other) n (λ i l. rw (letter-same pairs spreads other same i l)) in
-    rw (bodies-unread pairs spreads other same, letters, segments-same pairs spreads other same)

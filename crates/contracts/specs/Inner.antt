@@ -11,7 +11,6 @@ use Rattle.contracts.specs.declared.habit.Habit.{Habit}
 use Rattle.contracts.specs.Below.{allBelow}
 use Rattle.contracts.specs.File.{segmentsOf, entryAt}
 use Rattle.contracts.specs.SoundTests.{entrySound, bodySound}
-use Rattle.contracts.specs.SpreadTests.{sameLetter, pairsListed}
 
 -- a word of our own: a place that reads as the entry of segment i does
 pub record EntryPlace (list : List ℕ) (i place : ℕ) : Type 0 where
@@ -27,12 +26,3 @@ partSound habit list Body i = bodySound habit list i
 -- a word of our own: the test of every segment
 abbrev pub eachSound : Habit → List ℕ → Part → Bool
 eachSound habit list part = allBelow (segmentsOf list) (partSound habit list part)
-
--- a word of our own: segment i of a spread list beside the contract list's, by its entry or by its body
-abbrev pub partFits : List ℕ → List ℕ → Part → ℕ → Bool
-partFits list spreads Entry i = sameLetter list spreads i
-partFits list spreads Body i = pairsListed list spreads i
-
--- a word of our own: every segment of a spread list
-abbrev pub eachFits : List ℕ → List ℕ → Part → Bool
-eachFits list spreads part = allBelow (segmentsOf spreads) (partFits list spreads part)

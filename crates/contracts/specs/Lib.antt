@@ -15,14 +15,8 @@ pub mod Keys
 pub mod KeysLaws
 pub mod Lookup
 pub mod LookupLaws
-pub mod NoSpreads
-pub mod NoSpreadsLaws
 pub mod Records
 pub mod RecordsLaws
 pub mod Sound
 pub mod SoundLaws
 pub mod SoundTests
-pub mod SpreadCases
-pub mod SpreadLaws
-pub mod SpreadTests
-pub mod Spreads

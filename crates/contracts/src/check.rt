@@ -62,7 +62,7 @@ fn entry_sound(list: &[u8], habit: Habit, segment: usize) -> bool
         & (header::offset_at(list, segment) == body_at(list, habit, segment))
 }
 
-pub(crate) fn key_of(list: &[u8], habit: Habit, segment: usize, place: usize) -> &[u8]
+pub fn key_of(list: &[u8], habit: Habit, segment: usize, place: usize) -> &[u8]
     requires { ⌜ place < countAt (now list) segment ⌝ }
     ensures { λ r. ⌜ now r ≡ keyBy habit (now (list .entry)) segment place ⌝ }
 {
@@ -123,7 +123,7 @@ fn part_sound(list: &[u8], habit: Habit, segment: usize, part: Part) -> bool
     }
 }
 
-pub(crate) fn each_sound(list: &[u8], habit: Habit, part: Part) -> bool
+pub fn each_sound(list: &[u8], habit: Habit, part: Part) -> bool
     ensures { λ r. ⌜ r ≡ eachSound habit (now (list .entry)) part ⌝ }
 {
     let listed = header::segments(list);

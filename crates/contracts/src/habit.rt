@@ -11,10 +11,3 @@ pub const CONTRACTS: Habit = Habit {
     fewest: 1,
     most: 4096,
 };
-
-// The spread list: a pair is two contracts' keys.
-pub const PAIRS: Habit = Habit {
-    key: 78,
-    fewest: 0,
-    most: 1024,
-};

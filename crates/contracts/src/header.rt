@@ -3,10 +3,10 @@ ghost use Rattle.contracts.specs.File.{segmentsOf, letterAt, zeroAt, cou
 ghost use Rattle.contracts.specs.Inner.{EntryPlace};
 
 // The bytes of the number of segments, with which the contents begin.
-pub(crate) const NUMBER: usize = 2;
+pub const NUMBER: usize = 2;
 
 // The bytes of a segment's entry.
-pub(crate) const ENTRY: usize = 8;
+pub const ENTRY: usize = 8;
 
 // The place of a segment's entry; of one past the end, a place past the end.
 fn entry(list: &[u8], segment: usize) -> usize

@@ -11,8 +11,10 @@ use Rattle.forms.specs.declared.forms.Chosen.the-variants as chosen
 use Rattle.forms.specs.declared.forms.Form.{Form}
 use Rattle.forms.specs.declared.forms.Named.{Named}
 use Rattle.forms.specs.declared.forms.Named.the-variants as is
+use Rattle.forms.specs.declared.forms.Item.{Item}
+use Rattle.forms.specs.declared.forms.Item.the-variants.{Contract, Pair}
 use Rattle.forms.specs.declared.forms.Subject.{Subject}
-use Rattle.forms.specs.declared.forms.Subject.the-variants.{Nothing, Contract}
+use Rattle.forms.specs.declared.forms.Subject.the-variants.{Nothing, Of}
 
 -- a word of our own: an answer that has a form or none, by its numbers and that form
 pub record Tells {A : Type 0} (numbers : A → List ℕ) (form : A → Option Form) (meant answer : A) : Type 0 where
@@ -27,7 +29,17 @@ levelNumber Two = 2
 -- 01 "What may be asked": the level of what a message tells of, 0 where there is none
 abbrev pub subjectLevel : Subject → ℕ
 subjectLevel Nothing = 0
-subjectLevel (Contract level) = levelNumber level
+subjectLevel (Of item level) = levelNumber level
+
+-- M-100: how many contracts a key names
+abbrev pub itemNumber : Item → ℕ
+itemNumber Contract = 1
+itemNumber Pair = 2
+
+-- 01 "What may be asked", M-100: how many contracts the key of what a message tells of names, and the level; 0 where there is none
+abbrev pub subjectNumbers : Subject → List ℕ
+subjectNumbers Nothing = 0 ∷ 0 ∷ []
+subjectNumbers (Of item level) = itemNumber item ∷ levelNumber level ∷ []
 
 -- 01, the table's row 8: 8 for a table code with none of its lengths
 abbrev pub namedNumbers : Named → List ℕ

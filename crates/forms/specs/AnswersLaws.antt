@@ -2,12 +2,13 @@
 use Prim.Native.Nat.{ℕ}
 use mathlib.Core.Path.{_≡_, refl, sym, ap₂, _∙_}
 use mathlib.Core.Bool.{cond}
-use mathlib.Core.List.{List}
+use mathlib.Core.List.{List, [], _∷_}
 use mathlib.Core.Option.{Option, none, some}
 use lib.Dec.{eqb}
 use lib.ListN.{getD}
 use Rattle.laws.specs.Refused.{lengthNo}
 use Rattle.laws.specs.Told.{told}
+use Rattle.forms.specs.declared.rows.Level.{Level}
 use Rattle.forms.specs.declared.rows.Level.the-variants.{One, Two}
 use Rattle.forms.specs.declared.forms.Chosen.{Chosen}
 use Rattle.forms.specs.declared.forms.Chosen.the-variants as chosen
@@ -15,8 +16,9 @@ use Rattle.forms.specs.declared.forms.Form.{Form}
 use Rattle.forms.specs.declared.forms.Named.{Named}
 use Rattle.forms.specs.declared.forms.Named.the-variants as is
 use Rattle.forms.specs.declared.forms.Subject.{Subject}
-use Rattle.forms.specs.declared.forms.Subject.the-variants.{Nothing, Contract}
-use Rattle.forms.specs.Answers.{Tells, subjectLevel, namedNumbers, formNamed, chosenNumbers, formChosen}
+use Rattle.forms.specs.declared.forms.Subject.the-variants.{Nothing, Of}
+use Rattle.forms.specs.declared.forms.Item.the-variants.{Contract, Pair}
+use Rattle.forms.specs.Answers.{Tells, subjectNumbers, namedNumbers, formNamed, chosenNumbers, formChosen}
 
 module _ {A : Type 0} {numbers : A → List ℕ} {form : A → Option Form} where
   pub tells : {meant answer : A} → answer ≡ meant → Tells numbers form meant answer
@@ -27,13 +29,22 @@ module _ {A : Type 0} {numbers : A → List ℕ} {form : A → Option Form} wher
       → {meant answer : A} → Tells numbers form meant answer → answer ≡ meant
   told-with-form back again {meant} {answer} t = sym (again answer) ∙ (ap₂ back (t .form-is) (t .says) ∙ again meant)
 
-subject-back : (s : Subject) → cond (eqb (subjectLevel s) 0) Nothing (Contract (cond (eqb (subjectLevel s) 1) One Two)) ≡ s
-subject-back Nothing = refl
-subject-back (Contract One) = refl
-subject-back (Contract Two) = refl
+levelBy : ℕ → Level
+levelBy level = cond (eqb level 1) One Two
 
-pub subject-told : (s t : Subject) → subjectLevel s ≡ subjectLevel t → s ≡ t
-subject-told = told subjectLevel (λ level. cond (eqb level 0) Nothing (Contract (cond (eqb level 1) One Two))) subject-back
+subjectBy : List ℕ → Subject
+subjectBy ns = getD (Nothing ∷ Of Contract (levelBy (getD ns 1 0)) ∷ Of Pair (levelBy (getD ns 1 0)) ∷ []) (getD ns 0 0) Nothing
+
+subject-back : (s : Subject) → subjectBy (subjectNumbers s) ≡ s
+unfolding subjectBy levelBy
+subject-back Nothing = refl
+subject-back (Of Contract One) = refl
+subject-back (Of Contract Two) = refl
+subject-back (Of Pair One) = refl
+subject-back (Of Pair Two) = refl
+
+pub subject-told : (s t : Subject) → subjectNumbers s ≡ subjectNumbers t → s ≡ t
+subject-told = told subjectNumbers subjectBy subject-back
 
 abbrev namedBy : Option Form → List ℕ → Named
 namedBy (some form) ns = is.Form form

@@ -1,5 +1,6 @@
 -- The forms of messages as data: the table of codes, and the rows of each form. 01 "The message": 000 sections 4.4 and 4.5 for
--- D, 003 sections 4.5 and 4.6 for T. A new form is a list of named rows, its subject, its sum and its lines of the table.
+-- D, 003 sections 4.5 and 4.6 for T; M-100: 000 sections 4.6 and 4.7 for D, 003 sections 4.3 and 4.4 for T. A new form is a list
+-- of named rows, its subject, its sum and its lines of the table.
 use Prim.Native.Nat.{ℕ, zero, suc}
 use mathlib.Core.Bool.{Bool, true, false, cond, _&&_}
 use mathlib.Core.List.{List, [], _∷_, _++_, map}
@@ -9,83 +10,122 @@ use Rattle.forms.specs.declared.rows.Level.the-variants.{One, Two}
 use Rattle.forms.specs.declared.rows.Row.{Row}
 use Rattle.forms.specs.declared.rows.Row.the-variants as row
 use Rattle.forms.specs.declared.forms.Form.{Form}
-use Rattle.forms.specs.declared.forms.Form.the-variants.{Heartbeat, LevelOne, LevelTwo}
+use Rattle.forms.specs.declared.forms.Form.the-variants.{Heartbeat, LevelOne, LevelTwo, PairOne, PairTwo}
+use Rattle.forms.specs.declared.forms.Item.{Item}
+use Rattle.forms.specs.declared.forms.Item.the-variants.{Contract, Pair}
 use Rattle.forms.specs.declared.forms.Subject.{Subject}
-use Rattle.forms.specs.declared.forms.Subject.the-variants.{Nothing, Contract}
+use Rattle.forms.specs.declared.forms.Subject.the-variants.{Nothing, Of}
 use Rattle.forms.specs.declared.forms.Sum.{Sum}
 use Rattle.forms.specs.declared.forms.Sum.the-variants.{Zero, Right, RightOrZero}
 use Rattle.forms.specs.declared.forms.Named.{Named}
 use Rattle.forms.specs.declared.forms.Named.the-variants as is
 use Rattle.forms.specs.declared.forms.Chosen.{Chosen}
 use Rattle.forms.specs.declared.forms.Chosen.the-variants as chosen
-use Rattle.forms.specs.Names.{Name, NamedRow, named, instrument, symbol, expiry, strike, optionType, marketType, buyPrice, buyQuantity, sellPrice, sellQuantity, lastPrice, tradedQuantity, status, openingPrice, highPrice, lowPrice, closePrice, averagePrice, allBuyers, allSellers, turnover}
+use Rattle.forms.specs.Names.{Name, NamedRow, named, instrument, symbol, expiry, strike, optionType, secondInstrument, secondSymbol, secondExpiry, secondStrike, secondOptionType, marketType, buyPrice, buyQuantity, sellPrice, sellQuantity, lastPrice, tradedQuantity, status, openingPrice, highPrice, lowPrice, closePrice, averagePrice, allBuyers, allSellers, turnover}
 use Rattle.forms.specs.Rows.{messageLength}
+use Rattle.forms.specs.Sizes.{keyRowCount, keyBytes, pairRowCount, pairBytes}
 
 -- ---- the rows
 
 -- 01 "The message": instrument, symbol, expiry, strike, option type
-abbrev pub keyRows : List NamedRow
-keyRows =
-    named instrument (row.Key 6) ∷ named symbol (row.Key 10) ∷ named expiry (row.Key 11) ∷ named strike (row.Key 10)
-    ∷ named optionType (row.Key 2) ∷ []
+abbrev pub keyNamed : Name → Name → Name → Name → Name → List NamedRow
+keyNamed first second third fourth fifth =
+    named first (row.Key 6) ∷ named second (row.Key 10) ∷ named third (row.Key 11) ∷ named fourth (row.Key 10) ∷ named fifth (row.Key 2) ∷ []
 
--- 01 "The message": price and quantity of each order of a side from level k on; the papers differ in how wide a price is
-abbrev pub orders : (ℕ → Name) → (ℕ → Name) → ℕ → ℕ → ℕ → List NamedRow
-orders price quantity width k zero = []
-orders price quantity width k (suc depth) =
-    named (price k) (row.Price width) ∷ named (quantity k) (row.Quantity 12) ∷ orders price quantity width (suc k) depth
+-- 01 "The message": a contract's key
+abbrev pub keyRows : List NamedRow
+keyRows = keyNamed instrument symbol expiry strike optionType
+
+-- M-100: the key is two contract keys
+abbrev pub pairKeyRows : List NamedRow
+pairKeyRows = keyRows ++ keyNamed secondInstrument secondSymbol secondExpiry secondStrike secondOptionType
+
+-- 01 "The message": price and quantity of each order of a side from level k on; the papers differ in how a price is laid out
+abbrev pub orders : (ℕ → Name) → (ℕ → Name) → Row → ℕ → ℕ → List NamedRow
+orders price quantity laid k zero = []
+orders price quantity laid k (suc depth) =
+    named (price k) laid ∷ named (quantity k) (row.Quantity 12) ∷ orders price quantity laid (suc k) depth
 
 -- 01 "The message": the orders of both sides, the buyers' first
-abbrev pub sides : ℕ → ℕ → List NamedRow
-sides width depth = orders buyPrice buyQuantity width 0 depth ++ orders sellPrice sellQuantity width 0 depth
+abbrev pub sides : Row → ℕ → List NamedRow
+sides laid depth = orders buyPrice buyQuantity laid 0 depth ++ orders sellPrice sellQuantity laid 0 depth
 
 -- 01 "The message": last traded price, traded quantity
-abbrev pub traded : ℕ → List NamedRow
-traded width = named lastPrice (row.Price width) ∷ named tradedQuantity (row.Quantity 12) ∷ []
+abbrev pub traded : Row → List NamedRow
+traded laid = named lastPrice laid ∷ named tradedQuantity (row.Quantity 12) ∷ []
 
--- 000 sections 4.4 and 4.5, 003 sections 4.5 and 4.6: opening, high, low, close and average price
-abbrev pub dayPrices : ℕ → List NamedRow
-dayPrices width =
-    named openingPrice (row.Price width) ∷ named highPrice (row.Price width) ∷ named lowPrice (row.Price width)
-    ∷ named closePrice (row.Price width) ∷ named averagePrice (row.Price width) ∷ []
+-- 000 sections 4.4 to 4.7, 003 sections 4.3 to 4.6: opening, high and low price
+abbrev pub dayRange : Row → List NamedRow
+dayRange laid = named openingPrice laid ∷ named highPrice laid ∷ named lowPrice laid ∷ []
 
--- 000 section 4.5, 003 section 4.6: all buyers' and all sellers' quantity: level 2 alone
+-- 000 sections 4.4 and 4.5, 003 sections 4.5 and 4.6: close and average price: contracts alone
+abbrev pub dayClose : Row → List NamedRow
+dayClose laid = named closePrice laid ∷ named averagePrice laid ∷ []
+
+-- 000 sections 4.5 and 4.7, 003 sections 4.4 and 4.6: all buyers' and all sellers' quantity: level 2 alone
 abbrev pub sideTotals : List NamedRow
 sideTotals = named allBuyers (row.Quantity 12) ∷ named allSellers (row.Quantity 12) ∷ []
 
 -- 000 sections 4.4 and 4.5, 003 sections 4.5 and 4.6: the rows of an update of a contract, in the order in which they are laid
 -- out
-abbrev pub contractRows : ℕ → ℕ → List NamedRow → List NamedRow
-contractRows width depth totals =
-    keyRows ++ (named marketType row.MarketType ∷ sides width depth) ++ traded width ++ (named status row.Status ∷ dayPrices width) ++ totals
+abbrev pub contractRows : Row → ℕ → List NamedRow → List NamedRow
+contractRows laid depth totals =
+    keyRows ++ (named marketType row.MarketType ∷ sides laid depth) ++ traded laid ++ (named status row.Status ∷ dayRange laid ++ dayClose laid) ++ totals
     ++ (named turnover (row.Turnover 25) ∷ [])
 
--- 01 "The message": the rows of each form by name
+-- 000 sections 4.6 and 4.7, 003 sections 4.3 and 4.4: the rows of an update of a pair, in the order in which they are laid out
+abbrev pub pairRows : Row → ℕ → List NamedRow → List NamedRow
+pairRows laid depth totals = pairKeyRows ++ sides laid depth ++ traded laid ++ dayRange laid ++ totals
+
+-- 01 "The message", M-100: the rows of each form by name
 unfoldable pub namedRows : Form → List NamedRow
 namedRows Heartbeat = []
-namedRows LevelOne = contractRows 17 1 []
-namedRows LevelTwo = contractRows 17 5 sideTotals
+namedRows LevelOne = contractRows (row.Price 17) 1 []
+namedRows LevelTwo = contractRows (row.Price 17) 5 sideTotals
+namedRows PairOne = pairRows (row.Difference 17) 1 []
+namedRows PairTwo = pairRows (row.Difference 17) 5 sideTotals
 
 -- 01 "The message": the rows of each form, as they are laid out
 unfoldable pub rowsOf : Form → List Row
 rowsOf form = map (λ r. r .row) (namedRows form)
 
--- 01 "The message": what a form tells of
+-- 01 "The message", M-100: what a form tells of
 abbrev pub subjectOf : Form → Subject
 subjectOf Heartbeat = Nothing
-subjectOf LevelOne = Contract One
-subjectOf LevelTwo = Contract Two
+subjectOf LevelOne = Of Contract One
+subjectOf LevelTwo = Of Contract Two
+subjectOf PairOne = Of Pair One
+subjectOf PairTwo = Of Pair Two
 
--- 01 "The checksum": heartbeats carry zero, an update its sum
+-- 01 "The message", M-100: the rows of the key of what is listed
+abbrev pub keyRowsOf : Item → ℕ
+keyRowsOf Contract = keyRowCount
+keyRowsOf Pair = pairRowCount
+
+-- 01 "The message", M-100: the bytes of that key
+abbrev pub keyBytesOf : Item → ℕ
+keyBytesOf Contract = keyBytes
+keyBytesOf Pair = pairBytes
+
+-- 01 "The checksum", M-100: heartbeats carry zero, an update its sum
 abbrev pub sumOf : Form → Sum
 sumOf Heartbeat = Zero
 sumOf LevelOne = Right
 sumOf LevelTwo = Right
+sumOf PairOne = Right
+sumOf PairTwo = Right
 
--- 01 "What may be asked": the form whose rows a contract's record of that level keeps
-abbrev pub recordForm : Level → Form
-recordForm One = LevelOne
-recordForm Two = LevelTwo
+-- 01 "What may be asked", M-100: the form whose rows a record of that level keeps
+abbrev pub recordForm : Item → Level → Form
+recordForm Contract One = LevelOne
+recordForm Contract Two = LevelTwo
+recordForm Pair One = PairOne
+recordForm Pair Two = PairTwo
+
+-- a word of our own: the form that tells of a subject
+abbrev pub formAbout : Subject → Form
+formAbout Nothing = Heartbeat
+formAbout (Of item level) = recordForm item level
 
 -- ---- the table
 
@@ -99,11 +139,11 @@ pub record Entry : Type 0 where
 abbrev pub entry : ℕ → ℕ → Form → Entry
 entry letter second form = record { letter = letter; second = second; form = form }
 
--- 01 "The message": DH and TH are heartbeats, DN and TN updates of either level
+-- 01 "The message": DH and TH are heartbeats, DN and TN updates of either level; M-100: DP and TP are updates of a pair
 abbrev pub table : List Entry
 table =
-    entry 0x44 0x48 Heartbeat ∷ entry 0x44 0x4E LevelOne ∷ entry 0x44 0x4E LevelTwo
-    ∷ entry 0x54 0x48 Heartbeat ∷ entry 0x54 0x4E LevelOne ∷ entry 0x54 0x4E LevelTwo ∷ []
+    entry 0x44 0x48 Heartbeat ∷ entry 0x44 0x4E LevelOne ∷ entry 0x44 0x4E LevelTwo ∷ entry 0x44 0x50 PairOne ∷ entry 0x44 0x50 PairTwo
+    ∷ entry 0x54 0x48 Heartbeat ∷ entry 0x54 0x4E LevelOne ∷ entry 0x54 0x4E LevelTwo ∷ entry 0x54 0x50 PairOne ∷ entry 0x54 0x50 PairTwo ∷ []
 
 -- 01 "The message": the forms that a code may have
 abbrev pub formsIn : List Entry → ℕ → ℕ → List Form
@@ -145,16 +185,25 @@ sameLevel One Two = false
 sameLevel Two One = false
 sameLevel Two Two = true
 
--- 01 "What may be asked": the writer is told the level of an update; a heartbeat's isn't looked at
-abbrev pub hasLevel : Subject → Level → Bool
-hasLevel Nothing level = true
-hasLevel (Contract own) level = sameLevel own level
+-- a word of our own: whether both are contracts, or both pairs
+abbrev pub sameItem : Item → Item → Bool
+sameItem Contract Contract = true
+sameItem Contract Pair = false
+sameItem Pair Contract = false
+sameItem Pair Pair = true
 
--- 01 "What may be asked": the first of these forms that has the level
-abbrev pub writtenBy : List Form → Level → Chosen
-writtenBy [] level = chosen.NoForm
-writtenBy (form ∷ rest) level = cond (hasLevel (subjectOf form) level) (chosen.Form form) (writtenBy rest level)
+-- 01 "What may be asked": the writer is told the level of an update; a heartbeat's isn't looked at. M-100: pairs have a writer of
+-- their own, which writes nothing else
+abbrev pub isAsked : Subject → Item → Level → Bool
+isAsked Nothing item level = sameItem item Contract
+isAsked (Of own at) item level = sameItem own item && sameLevel at level
 
--- 01 "What may be asked": the form that is written for a code and a level; none for a code that is not in the table
-unfoldable pub writtenForm : ℕ → ℕ → Level → Chosen
-writtenForm letter second level = writtenBy (formsOf letter second) level
+-- 01 "What may be asked": the first of these forms that tells of what is asked for
+abbrev pub writtenBy : List Form → Item → Level → Chosen
+writtenBy [] item level = chosen.NoForm
+writtenBy (form ∷ rest) item level = cond (isAsked (subjectOf form) item level) (chosen.Form form) (writtenBy rest item level)
+
+-- 01 "What may be asked", M-100: the form that is written for a code and what is asked for: a contract or a pair, at a level; none
+-- for a code that is not in the table
+unfoldable pub writtenForm : ℕ → ℕ → Item → Level → Chosen
+writtenForm letter second item level = writtenBy (formsOf letter second) item level

@@ -3,7 +3,7 @@ use mathlib.Core.List.{List, [], _∷_}
 use Rattle.forms.specs.declared.forms.Family.{Family}
 use Rattle.forms.specs.declared.forms.Family.the-variants as family
 use Rattle.forms.specs.declared.forms.Form.{Form}
-use Rattle.forms.specs.declared.forms.Form.the-variants.{Heartbeat, LevelOne, LevelTwo}
+use Rattle.forms.specs.declared.forms.Form.the-variants.{Heartbeat, LevelOne, LevelTwo, PairOne, PairTwo}
 use Rattle.forms.specs.declared.forms.Named.{Named}
 use Rattle.forms.specs.declared.forms.Named.the-variants as is
 use Rattle.forms.specs.declared.forms.Sum.{Sum}
@@ -14,6 +14,7 @@ use Rattle.forms.specs.Forms.{sumOf}
 abbrev pub familyForms : Family → List Form
 familyForms family.Heartbeat = Heartbeat ∷ []
 familyForms family.Contract = LevelOne ∷ LevelTwo ∷ []
+familyForms family.Pair = PairOne ∷ PairTwo ∷ []
 familyForms family.Outside = []
 
 -- a word of our own: what the sum may be by what the message is named; of what has none of its code's lengths it is not asked

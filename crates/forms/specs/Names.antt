@@ -2,13 +2,19 @@
 use Prim.Native.Nat.{ℕ}
 use Rattle.forms.specs.declared.rows.Row.{Row}
 
--- 000 sections 4.4 and 4.5, 003 sections 4.5 and 4.6: the fields of an update; an order's level counts from 0
+-- 000 sections 4.4 to 4.7, 003 sections 4.3 to 4.6: the fields of an update, a pair's second key too; an order's level counts
+-- from 0
 pub data Name : Type 0 where
   instrument : Name
   symbol : Name
   expiry : Name
   strike : Name
   optionType : Name
+  secondInstrument : Name
+  secondSymbol : Name
+  secondExpiry : Name
+  secondStrike : Name
+  secondOptionType : Name
   marketType : Name
   buyPrice : ℕ → Name
   buyQuantity : ℕ → Name

@@ -6,13 +6,14 @@ use mathlib.Core.Logic.{_↔_}
 use mathlib.Core.List.{[], _∷_}
 use lib.ListN.{getD}
 use Rattle.laws.specs.Tests.{eqb-is, and-is}
-use Rattle.forms.specs.Names.{Name, instrument, symbol, expiry, strike, optionType, marketType, buyPrice, buyQuantity, sellPrice, sellQuantity, lastPrice, tradedQuantity, status, openingPrice, highPrice, lowPrice, closePrice, averagePrice, allBuyers, allSellers, turnover}
+use Rattle.forms.specs.Names.{Name, instrument, symbol, expiry, strike, optionType, secondInstrument, secondSymbol, secondExpiry, secondStrike, secondOptionType, marketType, buyPrice, buyQuantity, sellPrice, sellQuantity, lastPrice, tradedQuantity, status, openingPrice, highPrice, lowPrice, closePrice, averagePrice, allBuyers, allSellers, turnover}
 use Rattle.forms.specs.SameName.{nameNumber, orderLevel, sameName}
 
 nameFrom : ℕ → ℕ → Name
 nameFrom number k =
     getD
-    (instrument ∷ symbol ∷ expiry ∷ strike ∷ optionType ∷ marketType ∷ buyPrice k ∷ buyQuantity k ∷ sellPrice k ∷ sellQuantity k
+    (instrument ∷ symbol ∷ expiry ∷ strike ∷ optionType
+    ∷ secondInstrument ∷ secondSymbol ∷ secondExpiry ∷ secondStrike ∷ secondOptionType ∷ marketType ∷ buyPrice k ∷ buyQuantity k ∷ sellPrice k ∷ sellQuantity k
     ∷ lastPrice ∷ tradedQuantity ∷ status ∷ openingPrice ∷ highPrice ∷ lowPrice ∷ closePrice ∷ averagePrice ∷ allBuyers ∷ allSellers
     ∷ turnover ∷ [])
     number instrument
@@ -24,6 +25,11 @@ name-back symbol = refl
 name-back expiry = refl
 name-back strike = refl
 name-back optionType = refl
+name-back secondInstrument = refl
+name-back secondSymbol = refl
+name-back secondExpiry = refl
+name-back secondStrike = refl
+name-back secondOptionType = refl
 name-back marketType = refl
 name-back (buyPrice k) = refl
 name-back (buyQuantity k) = refl

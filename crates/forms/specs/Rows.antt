@@ -3,7 +3,7 @@ use Prim.Native.Nat.{ℕ, _+_, _-_}
 use mathlib.Core.List.{List, [], _∷_, _++_}
 use lib.ListN.{length, replicate, take}
 use Rattle.forms.specs.declared.rows.Row.{Row}
-use Rattle.forms.specs.declared.rows.Row.the-variants.{Key, MarketType, Status, Price, Quantity, Turnover}
+use Rattle.forms.specs.declared.rows.Row.the-variants.{Key, MarketType, Status, Price, Difference, Quantity, Turnover}
 use Rattle.forms.specs.Sizes.{mostRows, bareLength}
 
 -- 01 "The message": the width of a row's field
@@ -12,6 +12,7 @@ widthOf (Key width) = width
 widthOf MarketType = 1
 widthOf Status = 1
 widthOf (Price width) = width
+widthOf (Difference width) = width
 widthOf (Quantity width) = width
 widthOf (Turnover width) = width
 
@@ -39,6 +40,7 @@ keyInFront (Key width ∷ rows) = width + keyInFront rows
 keyInFront (MarketType ∷ rows) = 0
 keyInFront (Status ∷ rows) = 0
 keyInFront (Price width ∷ rows) = 0
+keyInFront (Difference width ∷ rows) = 0
 keyInFront (Quantity width ∷ rows) = 0
 keyInFront (Turnover width ∷ rows) = 0
 

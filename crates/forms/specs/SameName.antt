@@ -2,7 +2,7 @@
 use Prim.Native.Nat.{ℕ}
 use mathlib.Core.Bool.{Bool, _&&_}
 use lib.Dec.{eqb}
-use Rattle.forms.specs.Names.{Name, allBuyers, allSellers, averagePrice, buyPrice, buyQuantity, closePrice, expiry, highPrice, instrument, lastPrice, lowPrice, marketType, openingPrice, optionType, sellPrice, sellQuantity, status, strike, symbol, tradedQuantity, turnover}
+use Rattle.forms.specs.Names.{Name, allBuyers, allSellers, averagePrice, buyPrice, buyQuantity, closePrice, expiry, highPrice, instrument, lastPrice, lowPrice, marketType, openingPrice, optionType, secondExpiry, secondInstrument, secondOptionType, secondStrike, secondSymbol, sellPrice, sellQuantity, status, strike, symbol, tradedQuantity, turnover}
 
 -- a word of our own: a number for each name, those of orders aside from their level
 abbrev pub nameNumber : Name → ℕ
@@ -11,22 +11,27 @@ nameNumber symbol = 1
 nameNumber expiry = 2
 nameNumber strike = 3
 nameNumber optionType = 4
-nameNumber marketType = 5
-nameNumber (buyPrice k) = 6
-nameNumber (buyQuantity k) = 7
-nameNumber (sellPrice k) = 8
-nameNumber (sellQuantity k) = 9
-nameNumber lastPrice = 10
-nameNumber tradedQuantity = 11
-nameNumber status = 12
-nameNumber openingPrice = 13
-nameNumber highPrice = 14
-nameNumber lowPrice = 15
-nameNumber closePrice = 16
-nameNumber averagePrice = 17
-nameNumber allBuyers = 18
-nameNumber allSellers = 19
-nameNumber turnover = 20
+nameNumber secondInstrument = 5
+nameNumber secondSymbol = 6
+nameNumber secondExpiry = 7
+nameNumber secondStrike = 8
+nameNumber secondOptionType = 9
+nameNumber marketType = 10
+nameNumber (buyPrice k) = 11
+nameNumber (buyQuantity k) = 12
+nameNumber (sellPrice k) = 13
+nameNumber (sellQuantity k) = 14
+nameNumber lastPrice = 15
+nameNumber tradedQuantity = 16
+nameNumber status = 17
+nameNumber openingPrice = 18
+nameNumber highPrice = 19
+nameNumber lowPrice = 20
+nameNumber closePrice = 21
+nameNumber averagePrice = 22
+nameNumber allBuyers = 23
+nameNumber allSellers = 24
+nameNumber turnover = 25
 
 -- a word of our own: the level of an order's name
 abbrev pub orderLevel : Name → ℕ
@@ -35,6 +40,11 @@ orderLevel symbol = 0
 orderLevel expiry = 0
 orderLevel strike = 0
 orderLevel optionType = 0
+orderLevel secondInstrument = 0
+orderLevel secondSymbol = 0
+orderLevel secondExpiry = 0
+orderLevel secondStrike = 0
+orderLevel secondOptionType = 0
 orderLevel marketType = 0
 orderLevel (buyPrice k) = k
 orderLevel (buyQuantity k) = k

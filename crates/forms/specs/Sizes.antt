@@ -17,6 +17,14 @@ keyRowCount = 5
 abbrev pub keyBytes : ℕ
 keyBytes = 39
 
+-- M-100: the rows of a pair's key
+abbrev pub pairRowCount : ℕ
+pairRowCount = 10
+
+-- M-100: the bytes of a pair's key: two contract keys
+abbrev pub pairBytes : ℕ
+pairBytes = 78
+
 -- 01 "The message": what a message has beside its data: code (2), length (2), sequence number (4), checksum (2), end byte
 abbrev pub bareLength : ℕ
 bareLength = 11

@@ -1,14 +1,14 @@
 // The forms of messages as data: which code and length name which form, and what a form has.
 ghost use mathlib.Core.Path.{_≡_};
 ghost use lib.ListN.{length};
-ghost use Rattle.forms.specs.Answers.{Tells, subjectLevel, namedNumbers, formNamed, chosenNumbers, formChosen};
+ghost use Rattle.forms.specs.Answers.{Tells, subjectNumbers, namedNumbers, formNamed, chosenNumbers, formChosen};
 ghost use Rattle.forms.specs.Rows.{padded, dataLength};
-ghost use Rattle.forms.specs.Forms.{rowsOf, subjectOf, recordForm, formsOf, formOf, sumOf, sumRule, writtenForm};
+ghost use Rattle.forms.specs.Forms.{rowsOf, subjectOf, keyRowsOf, keyBytesOf, recordForm, formsOf, formOf, sumOf, sumRule, writtenBy, writtenForm};
 ghost use Rattle.forms.specs.Inner.{familyForms, sumNamed};
 use crate::rows::Level;
 use crate::rows::Row;
 
-// What the longest form has, and a contract key.
+// What the longest form has, a contract key, and the two keys of a pair.
 pub const MOST_ROWS: usize = 37;
 
 pub const MOST_DATA: usize = 494;
@@ -17,10 +17,14 @@ pub const KEY_ROWS: usize = 5;
 
 pub const KEY_BYTES: usize = 39;
 
+pub const PAIR_ROWS: usize = 10;
+
+pub const PAIR_BYTES: usize = 78;
+
 // What a message has beside its data.
 pub const BARE: usize = 11;
 
-// Level 1 has fewer rows and less data than level 2, which has the most.
+// Level 1 has fewer rows and less data than level 2, which has the most rows; that of a contract has the most data.
 const LEVEL_ONE_ROWS: usize = 19;
 
 const LEVEL_ONE_DATA: usize = 238;
@@ -29,16 +33,32 @@ const LEVEL_ONE_LENGTH: usize = LEVEL_ONE_DATA + BARE;
 
 const LEVEL_TWO_LENGTH: usize = MOST_DATA + BARE;
 
+const PAIR_ONE_DATA: usize = 216;
+
+const PAIR_TWO_DATA: usize = 472;
+
+const PAIR_ONE_LENGTH: usize = PAIR_ONE_DATA + BARE;
+
+const PAIR_TWO_LENGTH: usize = PAIR_TWO_DATA + BARE;
+
 pub enum Form {
     Heartbeat,
     LevelOne,
     LevelTwo,
+    PairOne,
+    PairTwo,
 }
 
-// What a form tells of.
+// What the house files list: contracts, and spreads, which are pairs of them.
+pub enum Item {
+    Contract,
+    Pair,
+}
+
+// What a form tells of: nothing, or one that is listed, at a level.
 pub enum Subject {
     Nothing,
-    Contract(Level),
+    Of(Item, Level),
 }
 
 // What the two bytes of the sum may be.
@@ -61,10 +81,11 @@ pub enum Named {
 enum Family {
     Heartbeat,
     Contract,
+    Pair,
     Outside,
 }
 
-// The form that is written for a code and a level.
+// The form that is written for a code and what is asked for.
 pub enum Chosen {
     Form(Form),
     NoForm,
@@ -72,6 +93,8 @@ pub enum Chosen {
 
 // The papers' widths.
 const PRICE: Row = Row::Price(17);
+
+const DIFFERENCE: Row = Row::Difference(17);
 
 const QUANTITY: Row = Row::Quantity(12);
 
@@ -164,6 +187,88 @@ const LEVEL_TWO: [Row; MOST_ROWS] = [
     TURNOVER,
 ];
 
+// 000 section 4.6 and 003 section 4.3.
+const PAIR_ONE: [Row; MOST_ROWS] = [
+    Row::Key(6),
+    Row::Key(10),
+    Row::Key(11),
+    Row::Key(10),
+    Row::Key(2),
+    Row::Key(6),
+    Row::Key(10),
+    Row::Key(11),
+    Row::Key(10),
+    Row::Key(2),
+    DIFFERENCE,
+    QUANTITY,
+    DIFFERENCE,
+    QUANTITY,
+    DIFFERENCE,
+    QUANTITY,
+    DIFFERENCE,
+    DIFFERENCE,
+    DIFFERENCE,
+    NO_ROW,
+    NO_ROW,
+    NO_ROW,
+    NO_ROW,
+    NO_ROW,
+    NO_ROW,
+    NO_ROW,
+    NO_ROW,
+    NO_ROW,
+    NO_ROW,
+    NO_ROW,
+    NO_ROW,
+    NO_ROW,
+    NO_ROW,
+    NO_ROW,
+    NO_ROW,
+    NO_ROW,
+    NO_ROW,
+];
+
+// 000 section 4.7 and 003 section 4.4.
+const PAIR_TWO: [Row; MOST_ROWS] = [
+    Row::Key(6),
+    Row::Key(10),
+    Row::Key(11),
+    Row::Key(10),
+    Row::Key(2),
+    Row::Key(6),
+    Row::Key(10),
+    Row::Key(11),
+    Row::Key(10),
+    Row::Key(2),
+    DIFFERENCE,
+    QUANTITY,
+    DIFFERENCE,
+    QUANTITY,
+    DIFFERENCE,
+    QUANTITY,
+    DIFFERENCE,
+    QUANTITY,
+    DIFFERENCE,
+    QUANTITY,
+    DIFFERENCE,
+    QUANTITY,
+    DIFFERENCE,
+    QUANTITY,
+    DIFFERENCE,
+    QUANTITY,
+    DIFFERENCE,
+    QUANTITY,
+    DIFFERENCE,
+    QUANTITY,
+    DIFFERENCE,
+    QUANTITY,
+    DIFFERENCE,
+    DIFFERENCE,
+    DIFFERENCE,
+    QUANTITY,
+    QUANTITY,
+];
+
 pub fn rows_of(form: Form) -> [Row; MOST_ROWS]
     ensures { λ r. ⌜ r ≡ padded (rowsOf form) ⌝ }
 {
@@ -171,6 +276,8 @@ pub fn rows_of(form: Form) -> [Row; MOST_ROWS]
         Form::Heartbeat => NO_ROWS,
         Form::LevelOne => LEVEL_ONE,
         Form::LevelTwo => LEVEL_TWO,
+        Form::PairOne => PAIR_ONE,
+        Form::PairTwo => PAIR_TWO,
     }
 }
 
@@ -181,6 +288,8 @@ pub fn count_of(form: Form) -> usize
         Form::Heartbeat => 0,
         Form::LevelOne => LEVEL_ONE_ROWS,
         Form::LevelTwo => MOST_ROWS,
+        Form::PairOne => LEVEL_ONE_ROWS,
+        Form::PairTwo => MOST_ROWS,
     }
 }
 
@@ -191,26 +300,55 @@ pub fn data_length(form: Form) -> usize
         Form::Heartbeat => 0,
         Form::LevelOne => LEVEL_ONE_DATA,
         Form::LevelTwo => MOST_DATA,
+        Form::PairOne => PAIR_ONE_DATA,
+        Form::PairTwo => PAIR_TWO_DATA,
     }
 }
 
 pub fn subject_of(form: Form) -> Subject
-    ensures { λ r. ⌜ subjectLevel r ≡ subjectLevel (subjectOf form) ⌝ }
+    ensures { λ r. ⌜ subjectNumbers r ≡ subjectNumbers (subjectOf form) ⌝ }
 {
     match form {
         Form::Heartbeat => Subject::Nothing,
-        Form::LevelOne => Subject::Contract(Level::One),
-        Form::LevelTwo => Subject::Contract(Level::Two),
+        Form::LevelOne => Subject::Of(Item::Contract, Level::One),
+        Form::LevelTwo => Subject::Of(Item::Contract, Level::Two),
+        Form::PairOne => Subject::Of(Item::Pair, Level::One),
+        Form::PairTwo => Subject::Of(Item::Pair, Level::Two),
     }
 }
 
-// The form whose rows a contract's record of that level keeps.
-pub fn record_form(level: Level) -> Form
-    ensures { λ r. ⌜ r ≡ recordForm level ⌝ }
+// The rows and the bytes of the key of what is listed.
+pub fn key_rows_of(item: Item) -> usize
+    ensures { λ r. ⌜ r ≡ keyRowsOf item ⌝ }
 {
-    match level {
-        Level::One => Form::LevelOne,
-        Level::Two => Form::LevelTwo,
+    match item {
+        Item::Contract => KEY_ROWS,
+        Item::Pair => PAIR_ROWS,
+    }
+}
+
+pub fn key_bytes_of(item: Item) -> usize
+    ensures { λ r. ⌜ r ≡ keyBytesOf item ⌝ }
+{
+    match item {
+        Item::Contract => KEY_BYTES,
+        Item::Pair => PAIR_BYTES,
+    }
+}
+
+// The form whose rows a record of that level keeps.
+pub fn record_form(item: Item, level: Level) -> Form
+    ensures { λ r. ⌜ r ≡ recordForm item level ⌝ }
+{
+    match item {
+        Item::Contract => match level {
+            Level::One => Form::LevelOne,
+            Level::Two => Form::LevelTwo,
+        },
+        Item::Pair => match level {
+            Level::One => Form::PairOne,
+            Level::Two => Form::PairTwo,
+        },
     }
 }
 
@@ -221,6 +359,7 @@ fn family_of_second(second: u8) -> Family
     match second {
         b'H' => Family::Heartbeat,
         b'N' => Family::Contract,
+        b'P' => Family::Pair,
         _ => Family::Outside,
     }
 }
@@ -249,6 +388,11 @@ pub fn form_of(letter: u8, second: u8, length: usize) -> Named
             LEVEL_TWO_LENGTH => Named::Form(Form::LevelTwo),
             _ => Named::NoLength,
         },
+        Family::Pair => match length {
+            PAIR_ONE_LENGTH => Named::Form(Form::PairOne),
+            PAIR_TWO_LENGTH => Named::Form(Form::PairTwo),
+            _ => Named::NoLength,
+        },
         Family::Outside => Named::PassedOver,
     }
 }
@@ -260,6 +404,7 @@ pub fn sum_rule(letter: u8, second: u8) -> Sum
     match family_of(letter, second) {
         Family::Heartbeat => Sum::Zero,
         Family::Contract => Sum::Right,
+        Family::Pair => Sum::Right,
         Family::Outside => Sum::RightOrZero,
     }
 }
@@ -272,6 +417,8 @@ fn sum_of(form: Form) -> Sum
         Form::Heartbeat => Sum::Zero,
         Form::LevelOne => Sum::Right,
         Form::LevelTwo => Sum::Right,
+        Form::PairOne => Sum::Right,
+        Form::PairTwo => Sum::Right,
     }
 }
 
@@ -286,12 +433,29 @@ pub fn sum_named(named: Named) -> Sum
     }
 }
 
-pub fn written_form(letter: u8, second: u8, level: Level) -> Chosen
-    ensures { λ r. ⌜ Tells chosenNumbers formChosen (writtenForm letter second level) r ⌝ }
+// The form of a family that tells of what is asked for. A heartbeat tells of nothing; it is written beside contracts.
+fn form_asked(family: Family, item: Item, level: Level) -> Chosen
+    ensures { λ r. ⌜ Tells chosenNumbers formChosen (writtenBy (familyForms family) item level) r ⌝ }
 {
-    match family_of(letter, second) {
-        Family::Heartbeat => Chosen::Form(Form::Heartbeat),
-        Family::Contract => Chosen::Form(record_form(level)),
+    match family {
+        Family::Heartbeat => match item {
+            Item::Contract => Chosen::Form(Form::Heartbeat),
+            Item::Pair => Chosen::NoForm,
+        },
+        Family::Contract => match item {
+            Item::Contract => Chosen::Form(record_form(Item::Contract, level)),
+            Item::Pair => Chosen::NoForm,
+        },
+        Family::Pair => match item {
+            Item::Contract => Chosen::NoForm,
+            Item::Pair => Chosen::Form(record_form(Item::Pair, level)),
+        },
         Family::Outside => Chosen::NoForm,
     }
+}
+
+pub fn written_form(letter: u8, second: u8, item: Item, level: Level) -> Chosen
+    ensures { λ r. ⌜ Tells chosenNumbers formChosen (writtenForm letter second item level) r ⌝ }
+{
+    form_asked(family_of(letter, second), item, level)
 }

@@ -7,6 +7,8 @@ pub enum Row {
     MarketType,
     Status,
     Price(usize),
+    // A difference of prices, which may be below zero.
+    Difference(usize),
     Quantity(usize),
     Turnover(usize),
 }
@@ -24,6 +26,7 @@ pub fn width_of(row: Row) -> usize
         Row::MarketType => 1,
         Row::Status => 1,
         Row::Price(width) => width,
+        Row::Difference(width) => width,
         Row::Quantity(width) => width,
         Row::Turnover(width) => width,
     }

@@ -6,10 +6,14 @@ ghost use lib.ListN.{length};
 use lent::RUNS;
 use quotebox::Refusal;
 use quotebox::Started;
+use quotebox::Written;
 use runs::Run;
 
 // The most keys of a segment.
 const MOST_KEYS: usize = 64;
+
+// The bytes of the longest spread list without pairs: that of two segments.
+const NO_SPREADS: usize = 18;
 
 // The refusal of what the program's memory doesn't hold; of the cells wanted it says nothing.
 const NO_ROOM: Refusal = Refusal::Memory(0);
@@ -28,20 +32,26 @@ fn too_many(list: &[u8]) -> bool {
 }
 
 // Every batch of standard input, and then the list.
-fn run(list: &[u8], rows: [Run; RUNS], records: &mut [u64], page: &mut [u8]) -> usize
+fn run(
+    list: &[u8],
+    spreads: &[u8],
+    rows: [Run; RUNS],
+    records: &mut [u64],
+    page: &mut [u8],
+) -> usize
     ensures { λ r. ⌜ r ≤ length (now (page .entry)) ⌝ }
 {
-    let taken = take::take_all(list, rows, records, &mut io::large_buffer(), page);
+    let taken = take::take_all(list, spreads, rows, records, &mut io::large_buffer(), page);
     let rows = taken.rows;
-    report::put_list(list, rows, records, page, taken.used)
+    report::put_list(list, spreads, rows, records, page, taken.used)
 }
 
-fn start(list: &[u8], page: &mut [u8]) -> usize
+fn start(list: &[u8], spreads: &[u8], page: &mut [u8]) -> usize
     ensures { λ r. ⌜ r ≤ length (now (page .entry)) ⌝ }
 {
     let blanks = [Run { first: 0, last: 0 }; RUNS];
     let mut records = [0u64; console::RECORD_CELLS];
-    let began = lent::start(list, &[1, 1], blanks, &mut records);
+    let began = lent::start(list, spreads, &[1, 1], blanks, &mut records);
     let answer = began.answer;
     let rows = began.rows;
     match answer {
@@ -50,7 +60,21 @@ fn start(list: &[u8], page: &mut [u8]) -> usize
             if too_many(list) {
                 return report::put_refused_start(page, NO_ROOM);
             }
-            run(list, rows, &mut records, page)
+            run(list, spreads, rows, &mut records, page)
+        }
+    }
+}
+
+// Starts with no spreads: a list that has no spread list without pairs is refused for the same reason at start.
+fn start_without_spreads(list: &[u8], page: &mut [u8]) -> usize
+    ensures { λ r. ⌜ r ≤ length (now (page .entry)) ⌝ }
+{
+    let mut spreads = [0u8; NO_SPREADS];
+    match quotebox::no_spreads(list, &mut spreads) {
+        Written::Refused(refusal) => report::put_refused_start(page, refusal),
+        Written::Message(size) => {
+            let end = console::least(size, NO_SPREADS);
+            start(list, &spreads[0..end], page)
         }
     }
 }
@@ -61,7 +85,7 @@ fn answer(file: &[u8], page: &mut [u8]) -> usize
     if console::MOST_LIST < file.len() {
         return report::put_refused_start(page, NO_ROOM);
     }
-    start(file, page)
+    start_without_spreads(file, page)
 }
 
 fn main() {

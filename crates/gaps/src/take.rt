@@ -56,6 +56,7 @@ fn end_of(room: &[u8], at: usize, end: usize) -> usize
 // Batch number `batch`, and its line where it is refused.
 fn take_batch(
     list: &[u8],
+    spreads: &[u8],
     rows: [Run; lent::RUNS],
     records: &mut [u64],
     bytes: &[u8],
@@ -66,7 +67,7 @@ fn take_batch(
     requires { ⌜ used ≤ length (now page) ⌝ }
     ensures { λ r. ⌜ r .used ≤ length (now (page .entry)) ⌝ }
 {
-    let took = lent::take(list, rows, records, bytes);
+    let took = lent::take(list, spreads, rows, records, bytes);
     let answer = took.answer;
     let rows = took.rows;
     match answer {
@@ -93,6 +94,7 @@ fn next(room: &mut [u8], page: &[u8], desk: Desk) -> Desk
 // One batch. The reading ends with the input, and behind a batch that is cut short or says it is too long.
 fn take_next(
     list: &[u8],
+    spreads: &[u8],
     records: &mut [u64],
     room: &mut [u8],
     batch: u64,
@@ -117,7 +119,7 @@ fn take_next(
     }
     let stop = end_of(room, at, end);
     let bytes = &room[at..stop];
-    let taken = take_batch(list, rows, records, bytes, batch, page, used);
+    let taken = take_batch(list, spreads, rows, records, bytes, batch, page, used);
     let rows = taken.rows;
     Turn {
         desk: Desk {
@@ -133,6 +135,7 @@ fn take_next(
 // All batches, and how much of the page is used by their lines.
 pub fn take_all(
     list: &[u8],
+    spreads: &[u8],
     rows: [Run; lent::RUNS],
     records: &mut [u64],
     room: &mut [u8],
@@ -151,7 +154,7 @@ pub fn take_all(
     };
     let mut batch: u64 = 0;
     while batch < console::LAST_TURN {
-        turn = take_next(list, records, room, batch, page, turn);
+        turn = take_next(list, spreads, records, room, batch, page, turn);
         batch = console::turn_after(batch, turn.more);
     }
     let rows = turn.rows;

@@ -10,38 +10,39 @@ use lib.ListN.{length}
 use Rattle.laws.specs.Rules.{firstBroken}
 use Rattle.laws.specs.RulesLaws.{front-holds, none-hold, front-broken}
 use Rattle.laws.specs.Choice.{clash}
-use Rattle.contracts.specs.Lookup.{segmentOf, placeIn}
+use Rattle.pairs.specs.Lists.{Lists}
+use Rattle.contracts.specs.Lookup.{segmentOf}
 use Rattle.contracts.specs.LookupLaws.{segment-has}
 use Rattle.forms.specs.declared.rows.Level.{Level}
-use Rattle.quote.specs.Quote.{quoteOf}
+use Rattle.forms.specs.declared.forms.Item.{Item}
 use Rattle.sequence.specs.Runs.{missing}
 use Rattle.sequence.specs.Gaps.{Gaps, wanted}
 use Rattle.sequence.specs.GapsLaws.{same-gaps}
 use Rattle.sequence.specs.Row.{gapsOf}
-use Rattle.message.specs.Message.{Message}
+use Rattle.message.specs.Message.{Message, placeIn}
 use Rattle.state.specs.declared.refusal.Refusal.{Refusal}
 use Rattle.state.specs.declared.refusal.Refusal.the-variants.{Code, Contract, Memory}
 use Rattle.state.specs.declared.answers.Listed.{Listed}
-use Rattle.quotebox.specs.declared.record.Reading.{Reading}
 use Rattle.state.specs.declared.answers.Recorded.{Recorded}
 use Rattle.state.specs.Memory.{Lent, lends, gapRowIn}
-use Rattle.state.specs.Slots.{Slot, contract}
+use Rattle.state.specs.Slots.{Slot, slot as recordSlot}
 use Rattle.state.specs.Places.{formFor}
 use Rattle.state.specs.AnswersLaws.{listed-told}
-use Rattle.quotebox.specs.CallPromises.{ListedRuns, ReadRecord}
-use Rattle.quotebox.specs.CallPromisesLaws.{one-reading}
+use Rattle.quotebox.specs.CallPromises.{ListedRuns}
+use Rattle.quotebox.specs.CallPromisesLaws.{one-read}
 use Rattle.quotebox.specs.CallsLaws.{record-refused}
 use Rattle.quotebox.specs.Calls.{listValues, runsPut}
 use Rattle.quotebox.specs.CallRules.{gapsOfLetter, listRules, recordRules}
 use Rattle.state.specs.Answers.{leftBy, answered}
 use Rattle.state.specs.Refusals.{Rule}
-use Rattle.quotebox.specs.Record.{blank}
 use Rattle.quotebox.specs.RecordLaws.{segment-broken, key-broken}
 use Rattle.quotebox.specs.Start.{startOf}
 use Rattle.state.specs.State.{segmentRules}
 use Rattle.state.specs.StateLaws.{good-unrefused, letter-broken}
 use Rattle.history.specs.Past.{Event, wroteOffIn, takenOf}
 use Rattle.history.specs.Segment.{Fits}
+use Rattle.history.specs.Shown.{QuoteFor, shown, blankFor, ReadsItem}
+use Rattle.history.specs.Updates.{itemIn}
 use Rattle.history.specs.Histories.{Reached}
 use Rattle.history.specs.HoldsLaws.{reached-holds}
 use Rattle.history.specs.ListingLaws.{fits-here, segment-good}
@@ -56,27 +57,27 @@ unlike e = clash (cc)
 same-some : {m k : Message} → some m ≡ some k → m ≡ k
 same-some e = cc
 
-module _ {list rows records rows′ records′ starts starts′ : List ℕ} {past past′ : List Event}
-    (r : Reached starts (lends list rows records) past) (r′ : Reached starts′ (lends list rows′ records′) past′) (same : SameTaken list starts past list starts′ past′) where
+module _ {lists : Lists} {rows records rows′ records′ starts starts′ : List ℕ} {past past′ : List Event}
+    (r : Reached starts (lends lists rows records) past) (r′ : Reached starts′ (lends lists rows′ records′) past′) (same : SameTaken lists starts past lists starts′ past′) where
   abbrev lent : Lent
-  lent = lends list rows records
+  lent = lends lists rows records
 
   abbrev lent′ : Lent
-  lent′ = lends list rows′ records′
+  lent′ = lends lists rows′ records′
 
   -- ---- a listed segment
 
-  module _ (letter i : ℕ) (s : segmentOf list letter ≡ some i) where
+  module _ (letter i : ℕ) (s : segmentOf (lists .contracts) letter ≡ some i) where
     abbrev start : ℕ
     start = startOf starts i
 
     starts-are : startOf starts i ≡ startOf starts′ i
-    starts-are = same .same-starts i (segment-has list letter i s .0)
+    starts-are = same .same-starts i (segment-has (lists .contracts) letter i s .0)
 
     taken-same : (m : Message) → List·Memᴰ m (takenOf i start past) ↔ List·Memᴰ m (takenOf i start past′)
     taken-same m =
         subst (λ (n : ℕ). List·Memᴰ m (takenOf i start past) ↔ List·Memᴰ m (takenOf i n past′)) (sym starts-are)
-        (same .same-messages i (segment-has list letter i s .0) m)
+        (same .same-messages i (segment-has (lists .contracts) letter i s .0) m)
 
     abbrev g : Gaps
     g = gapsOfLetter lent letter
@@ -112,30 +113,27 @@ module _ {list rows records rows′ records′ starts starts′ : List ℕ} {pas
         let begin : g .start ≡ g′ .start = fits .start-is ∙ sym (fits′ .start-is) in
         λ k. record { start = begin k; highest = highest-same k; runs = runs-same k }
 
-    readings-same : (slot : Slot) (a b : Reading)
-        → ReadsNewest slot (takenOf i start past) a → ReadsNewest slot (takenOf i (startOf starts′ i) past′) b → a ≡ b
-    readings-same slot a b p q = go p (subst (λ (n : ℕ). ReadsNewest slot (takenOf i n past′) b) (sym starts-are) q)
+    readings-same : (slot : Slot) (a b : Recorded) (x y : QuoteFor (itemIn slot))
+        → ReadsNewest slot (takenOf i start past) a x → ReadsNewest slot (takenOf i (startOf starts′ i) past′) b y → (a ≡ b) × (x ≡ y)
+    readings-same slot a b x y p q = go p (subst (λ (n : ℕ). ReadsNewest slot (takenOf i n past′) b y) (sym starts-are) q)
       where
-        one : (x y : Option Message) → FoundNewest slot (takenOf i start past) x → FoundNewest slot (takenOf i start past′) y → x ≡ y
+        one : (m k : Option Message) → FoundNewest slot (takenOf i start past) m → FoundNewest slot (takenOf i start past′) k → m ≡ k
         one = same-newest (takenOf i start past) (takenOf i start past′) taken-same (taken-apart i start past) slot
 
-        alike : a .answer ≡ b .answer → a .quote ≡ b .quote → a ≡ b
-        alike e f = λ k. record { answer = e k; quote = f k }
-
-        go : ReadsNewest slot (takenOf i start past) a → ReadsNewest slot (takenOf i start past′) b → a ≡ b
-        go (no-record u e f) (no-record v g h) = alike (e ∙ sym g) (f ∙ sym h)
+        go : ReadsNewest slot (takenOf i start past) a x → ReadsNewest slot (takenOf i start past′) b y → (a ≡ b) × (x ≡ y)
+        go (no-record u e f) (no-record v g h) = (e ∙ sym g, f ∙ sym h)
         go (no-record u e f) (a-record m v g h) = absurd (unlike (sym (one none (some m) u v)))
         go (a-record m u e f) (no-record v g h) = absurd (unlike (one (some m) none u v))
         go (a-record m u e f) (a-record k v g h) =
             let is : m ≡ k = same-some (one (some m) (some k) u v) in
-            alike (e ∙ ap (λ (x : Message). Recorded.Record (sequenceNumber x)) is ∙ sym g) (f ∙ ap (λ (x : Message). quoteOf (formFor slot) (x .cells)) is ∙ sym h)
+            (e ∙ ap (λ (n : Message). Recorded.Record (sequenceNumber n)) is ∙ sym g, f ∙ ap (λ (n : Message). shown (itemIn slot) (formFor slot) (n .cells)) is ∙ sym h)
 
   -- ---- the letter is refused in both, or in neither
 
   pub rules-same : (letter : ℕ) → firstBroken (segmentRules lent letter) ≡ firstBroken (segmentRules lent′ letter)
-  rules-same letter = go (segmentOf list letter) refl
+  rules-same letter = go (segmentOf (lists .contracts) letter) refl
     where
-      go : (o : Option ℕ) → segmentOf list letter ≡ o → firstBroken (segmentRules lent letter) ≡ firstBroken (segmentRules lent′ letter)
+      go : (o : Option ℕ) → segmentOf (lists .contracts) letter ≡ o → firstBroken (segmentRules lent letter) ≡ firstBroken (segmentRules lent′ letter)
       go none e =
           letter-broken lent letter (good-unrefused lent (reached-holds r .state)) e
           ∙ sym (letter-broken lent′ letter (good-unrefused lent′ (reached-holds r′ .state)) e)
@@ -143,9 +141,9 @@ module _ {list rows records rows′ records′ starts starts′ : List ℕ} {pas
 
   pub gaps-agree : (letter : ℕ) → gapsOfLetter lent letter ≡ gapsOfLetter lent′ letter
   unfolding gapsOfLetter
-  gaps-agree letter = go (segmentOf list letter) refl
+  gaps-agree letter = go (segmentOf (lists .contracts) letter) refl
     where
-      go : (o : Option ℕ) → segmentOf list letter ≡ o → gapsOfLetter lent letter ≡ gapsOfLetter lent′ letter
+      go : (o : Option ℕ) → segmentOf (lists .contracts) letter ≡ o → gapsOfLetter lent letter ≡ gapsOfLetter lent′ letter
       go none e = ap (λ (o : Option ℕ). gapsOf (gapRowIn rows o)) e ∙ sym (ap (λ (o : Option ℕ). gapsOf (gapRowIn rows′ o)) e)
       go (some i) e = gaps-same letter i e
 
@@ -176,28 +174,28 @@ module _ {list rows records rows′ records′ starts starts′ : List ℕ} {pas
 
   -- ---- and in records
 
-  record-rules-same : (letter : ℕ) (key : List ℕ) → firstBroken (recordRules lent letter key) ≡ firstBroken (recordRules lent′ letter key)
-  unfolding recordRules
-  record-rules-same letter key = front-same (segmentRules lent letter) (segmentRules lent′ letter) _ (rules-same letter)
+  module _ (item : Item) (letter : ℕ) (key : List ℕ) where
+    record-rules-same : firstBroken (recordRules item lent letter key) ≡ firstBroken (recordRules item lent′ letter key)
+    unfolding recordRules
+    record-rules-same = front-same (segmentRules lent letter) (segmentRules lent′ letter) _ (rules-same letter)
 
-  module _ (letter : ℕ) (key : List ℕ) (level : Level) (a b : Reading) (p : ReadRecord lent letter key level a) (q : ReadRecord lent′ letter key level b) where
-    refused-same : (refusal : Refusal) → firstBroken (recordRules lent letter key) ≡ some refusal → a ≡ b
-    refused-same refusal e =
-        one-reading a (record { answer = Recorded.Refused refusal; quote = blank }) p (record-refused lent letter key level refusal e)
-        ∙ sym
-        (one-reading b (record { answer = Recorded.Refused refusal; quote = blank }) q
-        (record-refused lent′ letter key level refusal (sym (record-rules-same letter key) ∙ e)))
+    module _ (level : Level) (a b : Recorded) (x y : QuoteFor item) (p : ReadsItem item lent letter key level a x) (q : ReadsItem item lent′ letter key level b y) where
+      refused-same : (refusal : Refusal) → firstBroken (recordRules item lent letter key) ≡ some refusal → (a ≡ b) × (x ≡ y)
+      refused-same refusal e =
+          let here = one-read a (Recorded.Refused refusal) p (record-refused (shown item) (blankFor item) item lent letter key level refusal e) in
+          let there = one-read b (Recorded.Refused refusal) q (record-refused (shown item) (blankFor item) item lent′ letter key level refusal (sym record-rules-same ∙ e)) in
+          (here .0 ∙ sym (there .0), here .1 ∙ sym (there .1))
 
-    pub records-agree : a ≡ b
-    records-agree = go (segmentOf list letter) refl
-      where
-        there : (i : ℕ) → segmentOf list letter ≡ some i → (o : Option ℕ) → placeIn list i key ≡ o → a ≡ b
-        there i s none f = refused-same (Contract 0) (key-broken lent letter key (segment-good r letter i s) i s f)
-        there i s (some place) f =
-            readings-same letter i s (contract i place level) a b (reads-key r letter i s key place f level a p) (reads-key r′ letter i s key place f level b q)
+      pub records-agree : (a ≡ b) × (x ≡ y)
+      records-agree = go (segmentOf (lists .contracts) letter) refl
+        where
+          there : (i : ℕ) → segmentOf (lists .contracts) letter ≡ some i → (o : Option ℕ) → placeIn item lists i key ≡ o → (a ≡ b) × (x ≡ y)
+          there i s none f = refused-same (Contract 0) (key-broken item lent letter key (segment-good r letter i s) i s f)
+          there i s (some place) f =
+              readings-same letter i s (recordSlot item i place level) a b x y (reads-key r item letter i s key place f level a x p) (reads-key r′ item letter i s key place f level b y q)
 
-        go : (o : Option ℕ) → segmentOf list letter ≡ o → a ≡ b
-        go none e =
-            refused-same (Code 0)
-            (segment-broken lent letter key (Code 0) (letter-broken lent letter (good-unrefused lent (reached-holds r .state)) e))
-        go (some i) e = there i e (placeIn list i key) refl
+          go : (o : Option ℕ) → segmentOf (lists .contracts) letter ≡ o → (a ≡ b) × (x ≡ y)
+          go none e =
+              refused-same (Code 0)
+              (segment-broken item lent letter key (Code 0) (letter-broken lent letter (good-unrefused lent (reached-holds r .state)) e))
+          go (some i) e = there i e (placeIn item lists i key) refl

@@ -1,13 +1,23 @@
 -- Each promise holds exactly of what the step says: of its answer and of what it leaves, and of nothing else.
 use Prim.Native.Nat.{ℕ}
-use mathlib.Core.Path.{_≡_, refl, ap, ap₂, subst}
+use mathlib.Core.Path.{_≡_, refl, sym, ap, ap₂, subst, _∙_}
 use mathlib.Core.Bool.{Bool, true, false, cond}
 use mathlib.Core.List.{List, [], _∷_}
 use mathlib.Core.Logic.{_↔_}
 use mathlib.Core.Option.{Option, none, some}
 use lib.Dec.{eqb}
+use Rattle.pairs.specs.Lists.{Lists}
 use Rattle.forms.specs.declared.rows.Level.{Level}
+use lib.ListN.{length}
+use lib.Seq.{sets}
+use Rattle.forms.specs.declared.forms.Form.{Form}
+use Rattle.forms.specs.declared.forms.Item.{Item}
+use Rattle.forms.specs.declared.forms.Item.the-variants.{Contract, Pair}
+use Rattle.pairs.specs.NoSpreads.{noSpreads}
 use Rattle.quote.specs.declared.quote.Quote.{Quote}
+use Rattle.quote.specs.declared.spread.SpreadQuote.{SpreadQuote}
+use Rattle.quote.specs.Quote.{cellsOf}
+use Rattle.quote.specs.Spread.{spreadCellsOf}
 use Rattle.sequence.specs.Gaps.{Gaps}
 use Rattle.sequence.specs.Runs.{Run}
 use Rattle.state.specs.declared.refusal.Refusal.{Refusal}
@@ -16,7 +26,6 @@ use Rattle.state.specs.declared.answers.Judged.{Judged}
 use Rattle.state.specs.declared.answers.Listed.{Listed}
 use Rattle.state.specs.declared.answers.WrittenOff.{WrittenOff}
 use Rattle.state.specs.declared.answers.Recorded.{Recorded}
-use Rattle.quotebox.specs.declared.record.Reading.{Reading}
 use Rattle.state.specs.declared.answers.Written.{Written}
 use Rattle.state.specs.Answers.{startedNumbers, listedNumbers, writtenOffNumbers, recordedNumbers, writtenNumbers, answered, leftBy}
 use Rattle.state.specs.Memory.{Lent}
@@ -25,18 +34,20 @@ use Rattle.batch.specs.Acts.{batchActs, lentAfter}
 use Rattle.batch.specs.Promises.{JudgedBatch, TookBatch}
 use Rattle.batch.specs.TookLaws.{answer-numbers, one-judged, one-took}
 use Rattle.writer.specs.declared.writing.Code.{Code}
-use Rattle.writer.specs.Writer.{dataWritten, lengthWritten, messagePut}
+use Rattle.writer.specs.Writer.{lengthWritten}
 use Rattle.writer.specs.Chosen.{formWritten}
-use Rattle.writer.specs.WriterPromises.{WroteMessage}
+use Rattle.writer.specs.WriterPromises.{WroteCells, WroteMessage, WroteSpread}
 use Rattle.writer.specs.WriterPromisesLaws.{one-written}
 use Rattle.quotebox.specs.StartActs.{lentStarted}
 use Rattle.quotebox.specs.Calls.{listValues, runsPut, runValues, lowestRun, lentWrittenOff}
 use Rattle.quotebox.specs.CallRules.{gapsOfLetter}
-use Rattle.quotebox.specs.CallPromises.{StartedBox, ListedRuns, WroteOffRun, ReadRecord}
-use Rattle.quotebox.specs.CallPromisesLaws.{one-started, one-listed, one-written-off, one-reading}
+use Rattle.quotebox.specs.CallPromises.{StartedBox, ListedRuns, WroteOffRun, PutNoSpreads}
+use Rattle.quotebox.specs.CallPromisesLaws.{one-started, one-listed, one-written-off, one-read, one-no-spreads}
 use Rattle.quotebox.specs.Record.{recordNumber, recordOfKey, recordValues}
-use Rattle.history.specs.Calls.{started, judged, took, listed, wroteOff, read, wrote, start, judge, take, listGaps, writeOff, readRecord, writeMessage, withList}
-use Rattle.history.specs.Step.{startRefusal, startAnswer, batchAnswer, listRefusal, listAnswer, offRefusal, removed, offAnswer, readRefusal, recordAnswer, readAnswer, writeRefusal, writeAnswer, step}
+use Rattle.history.specs.Shown.{QuoteFor, ReadsItem}
+use Rattle.history.specs.Calls as calls
+use Rattle.history.specs.Calls.{Answer, started, judged, took, listed, wroteOff, read, wrote, start, judge, take, listGaps, writeOff, readRecord, writeMessage, writeSpread, withLists}
+use Rattle.history.specs.Step.{startRefusal, startAnswer, batchAnswer, listRefusal, listAnswer, offRefusal, removed, offAnswer, readRefusal, recordAnswer, readAnswer, readQuote, writeRefusal, writeAnswer, writeLeaves, written, noSpreadsRefusal, step}
 
 -- ---- the answers by their numbers
 
@@ -66,11 +77,11 @@ write-numbers (some refusal) n = refl
 
 -- ---- no call but a start changes the list
 
-pub took-list : (lent : Lent) (letter : ℕ) (a : Acted) → lentAfter lent letter a .list ≡ lent .list
+pub took-list : (lent : Lent) (letter : ℕ) (a : Acted) → lentAfter lent letter a .lists ≡ lent .lists
 took-list lent letter (acted box) = refl
 took-list lent letter (refused refusal) = refl
 
-pub off-list : (lent : Lent) (letter : ℕ) (o : Option Refusal) → leftBy o lent (lentWrittenOff lent letter) .list ≡ lent .list
+pub off-list : (lent : Lent) (letter : ℕ) (o : Option Refusal) → leftBy o lent (lentWrittenOff lent letter) .lists ≡ lent .lists
 unfolding lentWrittenOff
 off-list lent letter none = refl
 off-list lent letter (some refusal) = refl
@@ -78,14 +89,14 @@ off-list lent letter (some refusal) = refl
 -- ---- the promises hold of what the step says
 
 module _ (lent : Lent) where
-  pub start-promised : (list starts : List ℕ) → StartedBox (withList list lent) starts (startAnswer (startRefusal lent list starts)) (withList list (step lent (start list starts) .left))
-  start-promised list starts =
+  pub start-promised : (lists : Lists) (starts : List ℕ) → StartedBox (withLists lists lent) starts (startAnswer (startRefusal lent lists starts)) (withLists lists (step lent (start lists starts) .left))
+  start-promised lists starts =
       record {
-        answers = start-numbers (startRefusal lent list starts);
-        left = go (startRefusal lent list starts);
+        answers = start-numbers (startRefusal lent lists starts);
+        left = go (startRefusal lent lists starts);
       }
     where
-      go : (o : Option Refusal) → withList list (leftBy o lent (lentStarted (withList list lent) starts)) ≡ leftBy o (withList list lent) (lentStarted (withList list lent) starts)
+      go : (o : Option Refusal) → withLists lists (leftBy o lent (lentStarted (withLists lists lent) starts)) ≡ leftBy o (withLists lists lent) (lentStarted (withLists lists lent) starts)
       go none = refl
       go (some refusal) = refl
 
@@ -102,32 +113,68 @@ module _ (lent : Lent) where
   pub off-promised : (letter : ℕ) → WroteOffRun lent letter (offAnswer lent letter) (step lent (writeOff letter) .left)
   off-promised letter = record { answers = off-numbers (offRefusal lent letter) (lowestRun (gapsOfLetter lent letter)); left = refl }
 
-  pub read-promised : (letter : ℕ) (key : List ℕ) (level : Level) → ReadRecord lent letter key level (readAnswer lent letter key level)
-  read-promised letter key level =
-      record { answers = record-numbers (readRefusal lent letter key) (recordNumber (lent .records) (recordOfKey (lent .list) letter key level)); quotes = refl }
+  pub read-promised : (item : Item) (letter : ℕ) (key : List ℕ) (level : Level) → ReadsItem item lent letter key level (readAnswer item lent letter key level) (readQuote item lent letter key level)
+  read-promised item letter key level =
+      record { answers = record-numbers (readRefusal item lent letter key) (recordNumber (lent .records) (recordOfKey item (lent .lists) letter key level)); quotes = refl }
 
-module _ (code : Code) (level : Level) (number : ℕ) (key : List ℕ) (quote : Quote) (out : List ℕ) where
-  abbrev put : List ℕ
-  put = leftBy (writeRefusal code level number key quote out) out (messagePut code number (dataWritten (formWritten code level) key quote .bytes) out)
+module _ (item : Item) (code : Code) (level : Level) (number : ℕ) (key : List ℕ) (cells : Form → List ℕ) (out : List ℕ) where
+  abbrev saidWritten : Written
+  saidWritten = writeAnswer (writeRefusal item code level number key cells out) (lengthWritten (formWritten item code level))
 
-  pub write-promised : WroteMessage code level number key quote out (writeAnswer (writeRefusal code level number key quote out) (lengthWritten (formWritten code level))) put
-  write-promised = record { answers = write-numbers (writeRefusal code level number key quote out) (lengthWritten (formWritten code level)); out-left = refl }
+  pub write-promised : WroteCells item code level number key cells out saidWritten (writeLeaves item code level number key cells out)
+  write-promised = record { answers = write-numbers (writeRefusal item code level number key cells out) (lengthWritten (formWritten item code level)); out-left = refl }
+
+module _ (list out : List ℕ) where
+  abbrev saidNone : Written
+  saidNone = writeAnswer (noSpreadsRefusal list out) (length (noSpreads list))
+
+  abbrev leftNone : List ℕ
+  leftNone = leftBy (noSpreadsRefusal list out) out (sets out 0 (noSpreads list))
+
+  pub no-spreads-promised : PutNoSpreads list out saidNone leftNone
+  no-spreads-promised = record { answers = write-numbers (noSpreadsRefusal list out) (length (noSpreads list)); left = refl }
 
 -- ---- and of nothing else
 
 both : {A B : Type 0} (P : A → B → Type 0) (a a′ : A) (b b′ : B) → a ≡ a′ → b ≡ b′ → P a b → P a′ b′
 both {A} {B} P a a′ b b′ e f p = subst (λ (x : A). P x b′) e (subst (λ (y : B). P a y) f p)
 
+-- what a reading's answer is made of
+abbrev answerIn : Answer → Recorded
+answerIn (started answer) = Recorded.NoRecord
+answerIn (judged answer) = Recorded.NoRecord
+answerIn (took answer) = Recorded.NoRecord
+answerIn (listed answer cells) = Recorded.NoRecord
+answerIn (wroteOff answer) = Recorded.NoRecord
+answerIn (read item answer quote) = answer
+answerIn (wrote answer out) = Recorded.NoRecord
+
+abbrev quoteIn : (item : Item) → QuoteFor item → Answer → QuoteFor item
+quoteIn item other (started answer) = other
+quoteIn item other (judged answer) = other
+quoteIn item other (took answer) = other
+quoteIn item other (listed answer cells) = other
+quoteIn item other (wroteOff answer) = other
+quoteIn Contract other (read Contract answer quote) = quote
+quoteIn Contract other (read Pair answer quote) = other
+quoteIn Pair other (read Contract answer quote) = other
+quoteIn Pair other (read Pair answer quote) = quote
+quoteIn item other (wrote answer out) = other
+
+quote-in : (item : Item) (other quote : QuoteFor item) (answer : Recorded) → quoteIn item other (read item answer quote) ≡ quote
+quote-in Contract other quote answer = refl
+quote-in Pair other quote answer = refl
+
 module _ (lent : Lent) where
-  pub start-exactly : (list starts : List ℕ) (answer : Started) (lent′ : Lent)
-      → StartedBox (withList list lent) starts answer lent′ ↔ ((step lent (start list starts) .answer ≡ started answer) × (withList list (step lent (start list starts) .left) ≡ lent′))
-  start-exactly list starts answer lent′ =
-      let o : Option Refusal = startRefusal lent list starts in (
-        (λ p. let one = one-started (startAnswer o) answer (start-promised lent list starts) p in (ap started (one .0), one .1)),
+  pub start-exactly : (lists : Lists) (starts : List ℕ) (answer : Started) (lent′ : Lent)
+      → StartedBox (withLists lists lent) starts answer lent′ ↔ ((step lent (start lists starts) .answer ≡ started answer) × (withLists lists (step lent (start lists starts) .left) ≡ lent′))
+  start-exactly lists starts answer lent′ =
+      let o : Option Refusal = startRefusal lent lists starts in (
+        (λ p. let one = one-started (startAnswer o) answer (start-promised lent lists starts) p in (ap started (one .0), one .1)),
         (λ w.
             let e = w .0 in
             let same : startAnswer o ≡ answer = cc in
-            both (StartedBox (withList list lent) starts) (startAnswer o) answer _ lent′ same (w .1) (start-promised lent list starts)),
+            both (StartedBox (withLists lists lent) starts) (startAnswer o) answer _ lent′ same (w .1) (start-promised lent lists starts)),
       )
 
   pub judge-exactly : (batch : List ℕ) (answer : Judged) → JudgedBatch lent batch answer ↔ step lent (judge batch) .answer ≡ judged answer
@@ -168,20 +215,37 @@ module _ (lent : Lent) where
         both (WroteOffRun lent letter) (offAnswer lent letter) answer _ lent′ same (w .1) (off-promised lent letter)),
   )
 
-  pub read-exactly : (letter : ℕ) (key : List ℕ) (level : Level) (reading : Reading)
-      → ReadRecord lent letter key level reading ↔ step lent (readRecord letter key level) .answer ≡ read reading
-  read-exactly letter key level reading = (
-    (λ p. ap read (one-reading (readAnswer lent letter key level) reading (read-promised lent letter key level) p)),
-    (λ e. let same : readAnswer lent letter key level ≡ reading = cc in subst (ReadRecord lent letter key level) same (read-promised lent letter key level)),
+  pub read-exactly : (item : Item) (letter : ℕ) (key : List ℕ) (level : Level) (answer : Recorded) (quote : QuoteFor item)
+      → ReadsItem item lent letter key level answer quote ↔ step lent (readRecord item letter key level) .answer ≡ read item answer quote
+  read-exactly item letter key level answer quote = (
+    (λ p. let one = one-read (readAnswer item lent letter key level) answer (read-promised lent item letter key level) p in ap₂ (read item) (one .0) (one .1)),
+    (λ e.
+        let same : readAnswer item lent letter key level ≡ answer = ap answerIn e in
+        let shows : readQuote item lent letter key level ≡ quote =
+        sym (quote-in item quote (readQuote item lent letter key level) (readAnswer item lent letter key level)) ∙ ap (quoteIn item quote) e ∙ quote-in item quote quote answer in
+        both (ReadsItem item lent letter key level) (readAnswer item lent letter key level) answer (readQuote item lent letter key level) quote same shows (read-promised lent item letter key level)),
   )
 
-  pub write-exactly : (code : Code) (level : Level) (number : ℕ) (key : List ℕ) (quote : Quote) (out : List ℕ) (answer : Written) (out′ : List ℕ)
-      → WroteMessage code level number key quote out answer out′ ↔ step lent (writeMessage code level number key quote out) .answer ≡ wrote answer out′
-  write-exactly code level number key quote out answer out′ =
-      let said : Written = writeAnswer (writeRefusal code level number key quote out) (lengthWritten (formWritten code level)) in (
-        (λ p. let one = one-written code level number key quote out said answer (write-promised code level number key quote out) p in ap₂ wrote (one .0) (one .1)),
+  pub write-exactly : (item : Item) (code : Code) (level : Level) (number : ℕ) (key : List ℕ) (cells : Form → List ℕ) (out : List ℕ) (answer : Written) (out′ : List ℕ)
+      → WroteCells item code level number key cells out answer out′ ↔ written item code level number key cells out ≡ wrote answer out′
+  write-exactly item code level number key cells out answer out′ =
+      let said : Written = saidWritten item code level number key cells out in
+      let put : List ℕ = writeLeaves item code level number key cells out in (
+        (λ p. let one = one-written item code level number key cells out said answer (write-promised item code level number key cells out) p in ap₂ wrote (one .0) (one .1)),
         (λ e.
             let same : said ≡ answer = cc in
-            let left : put code level number key quote out ≡ out′ = cc in
-            both (WroteMessage code level number key quote out) said answer (put code level number key quote out) out′ same left (write-promised code level number key quote out)),
+            let left : put ≡ out′ = cc in
+            both (WroteCells item code level number key cells out) said answer put out′ same left (write-promised item code level number key cells out)),
+      )
+
+  pub no-spreads-exactly : (list out : List ℕ) (answer : Written) (out′ : List ℕ)
+      → PutNoSpreads list out answer out′ ↔ step lent (calls.noSpreads list out) .answer ≡ wrote answer out′
+  no-spreads-exactly list out answer out′ =
+      let said : Written = saidNone list out in
+      let put : List ℕ = leftNone list out in (
+        (λ p. let one = one-no-spreads said answer (no-spreads-promised list out) p in ap₂ wrote (one .0) (one .1)),
+        (λ e.
+            let same : said ≡ answer = cc in
+            let left : put ≡ out′ = cc in
+            both (PutNoSpreads list out) said answer put out′ same left (no-spreads-promised list out)),
       )

@@ -9,9 +9,10 @@ use lib.Dec.{ltb, eqb}
 use lib.ListN.{length}
 use Rattle.contracts.specs.File.{segmentsOf}
 use Rattle.contracts.specs.Lookup.{segmentOf}
-use Rattle.contracts.specs.Sound.{SoundList}
+use Rattle.pairs.specs.Lists.{SoundLists}
 use Rattle.sequence.specs.Runs.{_to_, names}
-use Rattle.quote.specs.declared.quote.Quote.{Quote}
+use Rattle.forms.specs.declared.forms.Form.{Form}
+use Rattle.forms.specs.declared.forms.Item.{Item}
 use Rattle.forms.specs.declared.rows.Level.{Level}
 use Rattle.state.specs.declared.refusal.Refusal.{Refusal}
 use Rattle.state.specs.declared.refusal.Refusal.the-variants.{Gaps, NoGap, Memory}
@@ -19,72 +20,74 @@ use Rattle.state.specs.declared.answers.Started.{Started}
 use Rattle.state.specs.declared.answers.Judged.{Judged}
 use Rattle.state.specs.declared.answers.Listed.{Listed}
 use Rattle.state.specs.declared.answers.WrittenOff.{WrittenOff}
-use Rattle.quotebox.specs.declared.record.Reading.{Reading}
+use Rattle.state.specs.declared.answers.Recorded.{Recorded}
 use Rattle.state.specs.declared.answers.Written.{Written}
 use Rattle.writer.specs.declared.writing.Code.{Code}
 use Rattle.batch.specs.Promises.{JudgedBatch, TookBatch}
-use Rattle.quotebox.specs.CallPromises.{StartedBox, ListedRuns, WroteOffRun, ReadRecord}
-use Rattle.writer.specs.WriterPromises.{WroteMessage}
+use Rattle.quotebox.specs.CallPromises.{StartedBox, ListedRuns, WroteOffRun, PutNoSpreads}
+use Rattle.writer.specs.WriterPromises.{WroteCells}
 use Rattle.quotebox.specs.Start.{startOf}
 use Rattle.state.specs.GoodState.{GoodState}
 use Rattle.state.specs.Memory.{Lent}
 use Rattle.state.specs.Slots.{Slot, SlotListed}
 use Rattle.history.specs.Past.{Event, afterWriteOff, wroteOffIn, takenOf, highestIn, missingIn, runsStanding, takenFor}
-use Rattle.history.specs.Updates.{letterIn, keyIn, levelIn}
+use Rattle.history.specs.Shown.{QuoteFor, ReadsItem}
+use Rattle.history.specs.Updates.{itemIn, letterIn, keyIn, levelIn}
 use Rattle.history.specs.Exactly.{NamesMissing, ReadsNewest, CountsCame, OverInBatch}
 use Rattle.history.specs.Machine.{isNew, LowestRun, IsAccepted, GoodNow, Judges}
 use Rattle.history.specs.Refines.{machineOf}
 
--- demand 3: "After any sequence of calls from a fresh start", for each listed segment and each listed contract:
+-- demand 3: "After any sequence of calls from a fresh start", for each listed segment, and each listed contract and pair:
 pub record AfterCalls (starts : List ℕ) (lent : Lent) (past : List Event) : Type 0 where
   -- "the gap list names exactly the missing numbers"
-  pub names-missing : (letter i : ℕ) → segmentOf (lent .list) letter ≡ some i → (cells : List ℕ) (highest runs : ℕ) (cells′ : List ℕ)
+  pub names-missing : (letter i : ℕ) → segmentOf (lent .lists .contracts) letter ≡ some i → (cells : List ℕ) (highest runs : ℕ) (cells′ : List ℕ)
       → ListedRuns lent letter cells (Listed.Runs highest runs) cells′ → NamesMissing i (startOf starts i) past highest runs cells′
   -- it is answered where two cells are lent for each run that the missing numbers make, and else refused 15
-  pub list-answered : (letter i : ℕ) → segmentOf (lent .list) letter ≡ some i → (cells : List ℕ) (answer : Listed) (cells′ : List ℕ)
+  pub list-answered : (letter i : ℕ) → segmentOf (lent .lists .contracts) letter ≡ some i → (cells : List ℕ) (answer : Listed) (cells′ : List ℕ)
       → ListedRuns lent letter cells answer cells′ → 2 * runsStanding i (startOf starts i) past ≤ length cells
       → answer ≡ Listed.Runs (highestIn i (startOf starts i) past) (runsStanding i (startOf starts i) past)
-  pub list-refused : (letter i : ℕ) → segmentOf (lent .list) letter ≡ some i → (cells : List ℕ) (answer : Listed) (cells′ : List ℕ)
+  pub list-refused : (letter i : ℕ) → segmentOf (lent .lists .contracts) letter ≡ some i → (cells : List ℕ) (answer : Listed) (cells′ : List ℕ)
       → ListedRuns lent letter cells answer cells′ → length cells < 2 * runsStanding i (startOf starts i) past
       → answer ≡ Listed.Refused (Memory (2 * runsStanding i (startOf starts i) past))
   -- "A write-off removes the lowest run": it answers the lowest run of the missing numbers
-  pub off-lowest : (letter i : ℕ) → segmentOf (lent .list) letter ≡ some i → (first last : ℕ) (lent′ : Lent)
+  pub off-lowest : (letter i : ℕ) → segmentOf (lent .lists .contracts) letter ≡ some i → (first last : ℕ) (lent′ : Lent)
       → WroteOffRun lent letter (WrittenOff.Removed first last) lent′ → LowestRun (missingIn i (startOf starts i) past) first last
   -- 17 exactly when none is missing
-  pub off-none : (letter i : ℕ) → segmentOf (lent .list) letter ≡ some i → (answer : WrittenOff) (lent′ : Lent) → WroteOffRun lent letter answer lent′
+  pub off-none : (letter i : ℕ) → segmentOf (lent .lists .contracts) letter ≡ some i → (answer : WrittenOff) (lent′ : Lent) → WroteOffRun lent letter answer lent′
       → answer ≡ WrittenOff.Refused NoGap ↔ ((n : ℕ) → missingIn i (startOf starts i) past n ≡ false)
   -- afterwards exactly its numbers are written off, beside those that were
-  pub off-after : (letter i : ℕ) → segmentOf (lent .list) letter ≡ some i → (first last j n : ℕ)
-      → wroteOffIn j (afterWriteOff (lent .list) letter (WrittenOff.Removed first last) past) n ≡ eqb i j && names (first to last) n || wroteOffIn j past n
+  pub off-after : (letter i : ℕ) → segmentOf (lent .lists .contracts) letter ≡ some i → (first last j n : ℕ)
+      → wroteOffIn j (afterWriteOff (lent .lists) letter (WrittenOff.Removed first last) past) n ≡ eqb i j && names (first to last) n || wroteOffIn j past n
   -- "and each record is its contract's highest-numbered update taken"
-  pub reads-newest : (slot : Slot) → SlotListed (lent .list) slot → (reading : Reading)
-      → ReadRecord lent (letterIn (lent .list) slot) (keyIn (lent .list) slot) (levelIn slot) reading → ReadsNewest slot (takenFor starts slot past) reading
+  pub reads-newest : (slot : Slot) → SlotListed (lent .lists) slot → (answer : Recorded) (quote : QuoteFor (itemIn slot))
+      → ReadsItem (itemIn slot) lent (letterIn (lent .lists) slot) (keyIn (lent .lists) slot) (levelIn slot) answer quote
+      → ReadsNewest slot (takenFor starts slot past) answer quote
   -- "A number above highest, or missing, is taken. All others are old"
-  pub takes-missing : (i : ℕ) → i < segmentsOf (lent .list) → (n : ℕ)
+  pub takes-missing : (i : ℕ) → i < segmentsOf (lent .lists .contracts) → (n : ℕ)
       → isNew (startOf starts i) (takenOf i (startOf starts i) past) (wroteOffIn i past) n
       ≡ ltb (highestIn i (startOf starts i) past) n || missingIn i (startOf starts i) past n
   -- "An accepted batch answers how many messages were taken, old and heartbeats; judging answers what taking would"
   pub counts-came : (batch : List ℕ) (taken old heartbeats : ℕ) → JudgedBatch lent batch (Judged.Accepted taken old heartbeats)
-      → CountsCame (lent .list) starts past batch taken old heartbeats
+      → CountsCame (lent .lists) starts past batch taken old heartbeats
   -- "A batch is accepted exactly when document 01's rules hold for all of it", 14 counted from the missing numbers
   pub accepted-exactly : (batch : List ℕ) (answer : Judged) → JudgedBatch lent batch answer
-      → IsAccepted answer ↔ GoodNow (machineOf (lent .list) starts past) batch
+      → IsAccepted answer ↔ GoodNow (machineOf (lent .lists) starts past) batch
   -- and what is answered, the refusal by the first broken rule too, is what the machine of that past answers
-  pub judged-exactly : (batch : List ℕ) (answer : Judged) → JudgedBatch lent batch answer ↔ Judges (machineOf (lent .list) starts past) batch answer
+  pub judged-exactly : (batch : List ℕ) (answer : Judged) → JudgedBatch lent batch answer ↔ Judges (machineOf (lent .lists) starts past) batch answer
   -- "A call is refused for gaps exactly when no earlier rule refuses it and over 64 runs would stand"
   pub refused-for-gaps : (batch : List ℕ) (answer : Judged) → JudgedBatch lent batch answer
-      → (i : ℕ) → answer ≡ Judged.Refused (Gaps i) ↔ OverInBatch (lent .list) starts past batch i
+      → (i : ℕ) → answer ≡ Judged.Refused (Gaps i) ↔ OverInBatch (lent .lists) starts past batch i
   -- 16, 15 for state too short, and 18 are not given
   pub state-passes : GoodState lent
-  -- bodies too: so 13 is given exactly where the key is none of the list's (`message` GoodLaws: `contract-listed`)
-  pub list-sound : SoundList (lent .list)
+  -- bodies too: so 13 is given exactly where the key is none of its list's (`message` GoodLaws: `contract-listed`)
+  pub lists-sound : SoundLists (lent .lists)
 
 -- demand 3: "Two boxes that took the same messages agree": in gap lists, and in records
 pub record Agree (lent lent′ : Lent) : Type 0 where
   pub same-gaps : (letter : ℕ) (cells : List ℕ) (a b : Listed) (cells′ cells″ : List ℕ)
       → ListedRuns lent letter cells a cells′ → ListedRuns lent′ letter cells b cells″ → (a ≡ b) × (cells′ ≡ cells″)
-  pub same-records : (letter : ℕ) (key : List ℕ) (level : Level) (a b : Reading)
-      → ReadRecord lent letter key level a → ReadRecord lent′ letter key level b → a ≡ b
+  pub same-records : (item : Item) (letter : ℕ) (key : List ℕ) (level : Level) (a b : Recorded) (quote quote′ : QuoteFor item)
+      → ReadsItem item lent letter key level a quote → ReadsItem item lent′ letter key level b quote′ → (a ≡ b) × (quote ≡ quote′)
 
 -- demand 1 and 01 "What may be asked": "A refusal leaves all lent memory as before", whatever is handed to the call; judging
 -- and reading a record write nothing
@@ -94,8 +97,9 @@ pub record RefusalsKeep (lent : Lent) : Type 0 where
   pub list-keeps : (letter : ℕ) (cells : List ℕ) (refusal : Refusal) (cells′ : List ℕ)
       → ListedRuns lent letter cells (Listed.Refused refusal) cells′ → cells′ ≡ cells
   pub write-off-keeps : (letter : ℕ) (refusal : Refusal) (lent′ : Lent) → WroteOffRun lent letter (WrittenOff.Refused refusal) lent′ → lent′ ≡ lent
-  pub write-keeps : (code : Code) (level : Level) (number : ℕ) (key : List ℕ) (quote : Quote) (out : List ℕ) (refusal : Refusal) (out′ : List ℕ)
-      → WroteMessage code level number key quote out (Written.Refused refusal) out′ → out′ ≡ out
+  pub write-keeps : (item : Item) (code : Code) (level : Level) (number : ℕ) (key : List ℕ) (cells : Form → List ℕ) (out : List ℕ) (refusal : Refusal) (out′ : List ℕ)
+      → WroteCells item code level number key cells out (Written.Refused refusal) out′ → out′ ≡ out
+  pub no-spreads-keeps : (list out : List ℕ) (refusal : Refusal) (out′ : List ℕ) → PutNoSpreads list out (Written.Refused refusal) out′ → out′ ≡ out
 
 -- demand 1, and 01, the table's rows 15, 16 and 18: an accepted call leaves gap rows and records that pass 16, 15 and 18,
 -- whatever was handed to it

@@ -5,10 +5,11 @@ use mathlib.Core.Bool.{Bool, _||_}
 use mathlib.Core.List.{List}
 use mathlib.Core.Logic.{Iff·trans, Iff·symm}
 use lib.Dec.{ltb}
+use Rattle.pairs.specs.Lists.{Lists}
 use Rattle.state.specs.declared.refusal.Refusal.the-variants.{Gaps}
 use Rattle.state.specs.declared.answers.Judged.{Judged}
 use Rattle.state.specs.Memory.{Lent, lends}
-use Rattle.quotebox.specs.CallPromisesLaws.{start-refusal, list-refusal, off-refusal, start-leaves, off-leaves}
+use Rattle.quotebox.specs.CallPromisesLaws.{start-refusal, list-refusal, off-refusal, no-spreads-refusal, start-leaves, off-leaves}
 use Rattle.batch.specs.OrderLaws.{refused-exact}
 use Rattle.batch.specs.Promises.{JudgedBatch, TookBatch}
 use Rattle.quotebox.specs.Start.{startOf}
@@ -50,7 +51,7 @@ module _ {starts : List ℕ} {lent : Lent} {past : List Event} (r : Reached star
         refused-for-gaps = λ batch answer p i.
             Iff·trans (judged-refused lent batch answer p (Gaps i)) (Iff·trans (Iff·symm (refused-exact lent batch (Gaps i))) (acts-over r batch i));
         state-passes = reached-holds r .state;
-        list-sound = reached-holds r .list-sound;
+        lists-sound = reached-holds r .lists-sound;
       }
 
 -- what is said of judging a batch is said of taking it
@@ -59,13 +60,13 @@ took-judged t = record { answers = t .answers }
 
 -- two boxes that took the same messages agree
 pub two-agree : {lent lent′ : Lent} {starts starts′ : List ℕ} {past past′ : List Event}
-    → Reached starts lent past → Reached starts′ lent′ past′ → SameTaken (lent .list) starts past (lent′ .list) starts′ past′ → Agree lent lent′
-two-agree {lent} {lent′} {starts} {starts′} {past} {past′} r r′ same = go (lent′ .list) (same .same-list) r′ same
+    → Reached starts lent past → Reached starts′ lent′ past′ → SameTaken (lent .lists) starts past (lent′ .lists) starts′ past′ → Agree lent lent′
+two-agree {lent} {lent′} {starts} {starts′} {past} {past′} r r′ same = go (lent′ .lists) (same .same-lists) r′ same
   where
-    go : (list′ : List ℕ) → lent .list ≡ list′ → Reached starts′ (lends list′ (lent′ .rows) (lent′ .records)) past′ → SameTaken (lent .list) starts past list′ starts′ past′
-        → Agree lent (lends list′ (lent′ .rows) (lent′ .records))
-    go list′ e =
-        subst (λ (l : List ℕ). Reached starts′ (lends l (lent′ .rows) (lent′ .records)) past′ → SameTaken (lent .list) starts past l starts′ past′ → Agree lent (lends l (lent′ .rows) (lent′ .records)))
+    go : (lists′ : Lists) → lent .lists ≡ lists′ → Reached starts′ (lends lists′ (lent′ .rows) (lent′ .records)) past′ → SameTaken (lent .lists) starts past lists′ starts′ past′
+        → Agree lent (lends lists′ (lent′ .rows) (lent′ .records))
+    go lists′ e =
+        subst (λ (l : Lists). Reached starts′ (lends l (lent′ .rows) (lent′ .records)) past′ → SameTaken (lent .lists) starts past l starts′ past′ → Agree lent (lends l (lent′ .rows) (lent′ .records)))
         e (λ r′ same. record { same-gaps = listings-agree r r′ same; same-records = records-agree r r′ same })
 
 -- a refused call changes nothing
@@ -76,7 +77,8 @@ refusals-keep lent =
       take-keeps = refused-keeps lent;
       list-keeps = λ letter cells refusal cells′ p. list-refusal refusal p .1;
       write-off-keeps = λ letter refusal lent′ p. off-refusal refusal p .1;
-      write-keeps = λ code level number key quote out refusal out′ p. write-refusal code level number key quote out refusal p .1;
+      write-keeps = λ item code level number key cells out refusal out′ p. write-refusal item code level number key cells out refusal p .1;
+      no-spreads-keeps = λ list out refusal out′ p. no-spreads-refusal refusal p .1;
     }
 
 -- an accepted call leaves a state that passes

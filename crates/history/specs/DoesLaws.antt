@@ -1,25 +1,28 @@
 -- What a message of a segment does, by what it is. Of the laws on histories this one alone looks into an update.
 use Prim.Native.Nat.{ℕ, _<_}
 use mathlib.Core.Path.{_≡_, refl, sym, ap, subst, _∙_}
-use mathlib.Core.Bool.{true}
+use mathlib.Core.Bool.{true, false}
 use mathlib.Core.List.{List}
 use mathlib.Core.Option.{Option, none, some}
-use Rattle.contracts.specs.Habits.{contracts}
 use Rattle.contracts.specs.Lookup.{segmentOf}
 use Rattle.contracts.specs.LookupLaws.{segment-has, key-at-place}
-use Rattle.quote.specs.declared.quote.Quote.{Quote}
+use Rattle.pairs.specs.Lists.{Lists}
 use Rattle.forms.specs.declared.rows.Level.{Level}
 use Rattle.forms.specs.declared.forms.Form.{Form}
 use Rattle.forms.specs.declared.forms.Subject.{Subject}
-use Rattle.forms.specs.declared.forms.Subject.the-variants.{Contract}
+use Rattle.forms.specs.declared.forms.Subject.the-variants.{Of}
+use Rattle.forms.specs.declared.forms.Item.{Item}
+use Rattle.forms.specs.declared.forms.Item.the-variants.{Contract, Pair}
 use Rattle.layout.specs.Cells.{zerosBehind}
 use Rattle.forms.specs.Forms.{namedRows, rowsOf, recordForm, subjectOf}
 use Rattle.layout.specs.Read.{readRows}
 use Rattle.forms.specs.Rows.{messageLength}
-use Rattle.quote.specs.Quote.{quoteOf, cellsOf}
-use Rattle.quote.specs.QuoteTrip.{read-kept}
-use Rattle.quote.specs.Shows.{fieldNamed, ShowsFields}
-use Rattle.quote.specs.ShowsLaws.{shows-fields}
+use Rattle.quote.specs.Quote.{ofPair}
+use Rattle.quote.specs.QuoteTrip.{read-kept, spread-read-kept}
+use Rattle.quote.specs.Shows.{fieldNamed}
+use Rattle.quote.specs.ShowsLaws.{shows-fields, shows-spread-fields}
+use Rattle.layout.specs.declared.read.Verdict.the-variants as verdict
+use Rattle.message.specs.Items.{habitOf, fileOf}
 use Rattle.message.specs.declared.body.What.{What}
 use Rattle.message.specs.declared.body.What.the-variants as what
 use Rattle.message.specs.declared.head.Fault.{Fault}
@@ -31,34 +34,47 @@ use Rattle.message.specs.Message.{Message, messageKey}
 use Rattle.message.specs.Reads.{messageOf}
 use Rattle.message.specs.MessageLaws.{key-in}
 use Rattle.message.specs.Numbers.{verdictOf, numberIn}
-use Rattle.state.specs.Slots.{Slot, contract, SlotListed, slotFor}
+use Rattle.state.specs.Slots.{Slot, slot as recordSlot, SlotListed, slotFor}
 use Rattle.state.specs.Places.{slotAt, formFor, recordOf}
-use Rattle.state.specs.SlotsLaws.{contract-form}
+use Rattle.forms.specs.FormsLaws.{record-form}
 use Rattle.turns.specs.ActsLaws.{acts-as}
 use Rattle.turns.specs.Turns.{Box, numberActs, updated, messageActs}
 use Rattle.stores.specs.Stored.{stored}
 use Rattle.history.specs.Exactly.{UpdateSays}
-use Rattle.history.specs.Updates.{slotOf, levelIn}
+use Rattle.history.specs.Shown.{QuoteFor, shown, cellsFor, ShowsEach}
+use Rattle.history.specs.Updates.{slotOf, itemIn, levelIn}
 use Rattle.history.specs.Machine.{isNumbered, sequenceNumber}
 
 -- what storing an update in its slot does to records
-abbrev pub storedIn : List ℕ → Slot → Message → List ℕ → List ℕ
-storedIn list slot m = stored (slotAt list slot) (sequenceNumber m) (recordOf (levelIn slot) (m .cells))
+abbrev pub storedIn : Lists → Slot → Message → List ℕ → List ℕ
+storedIn lists slot m = stored (slotAt lists slot) (sequenceNumber m) (recordOf (itemIn slot) (levelIn slot) (m .cells))
 
 -- an update of a slot
-pub record Updates (list bytes : List ℕ) (m : Message) (slot : Slot) : Type 0 where
-  pub listed : SlotListed list slot
+pub record Updates (lists : Lists) (bytes : List ℕ) (m : Message) (slot : Slot) : Type 0 where
+  pub listed : SlotListed lists slot
   pub some-number : 0 < sequenceNumber m
-  pub quote : Quote
-  pub of-quote : m .cells ≡ cellsOf (formFor slot) quote
-  pub says : UpdateSays list bytes m slot
+  pub quote : QuoteFor (itemIn slot)
+  pub of-quote : m .cells ≡ cellsFor (itemIn slot) (formFor slot) quote
+  pub says : UpdateSays lists bytes m slot
 
-module _ (list : List ℕ) (letter i : ℕ) (bytes : List ℕ) where
+-- what is read of a form's rows are the cells of the quote that they hold
+quote-kept : (item : Item) (level : Level) (form : Form) → subjectOf form ≡ Of item level → (bytes : List ℕ) → readRows 0 (rowsOf form) bytes .verdict ≡ verdict.Good
+    → cellsFor item form (shown item form (zerosBehind (readRows 0 (rowsOf form) bytes .cells))) ≡ zerosBehind (readRows 0 (rowsOf form) bytes .cells)
+quote-kept Contract level form s bytes good = read-kept form bytes good (ap ofPair s)
+quote-kept Pair level form s bytes good = spread-read-kept form bytes good (ap ofPair s)
+
+-- and that quote shows every field
+quote-shows : (item : Item) (level : Level) (form : Form) → subjectOf form ≡ Of item level → (bytes : List ℕ) → readRows 0 (rowsOf form) bytes .verdict ≡ verdict.Good
+    → ShowsEach item (fieldNamed (namedRows form) bytes) (shown item form (zerosBehind (readRows 0 (rowsOf form) bytes .cells)))
+quote-shows Contract level form s bytes good = shows-fields form (ap ofPair s) bytes good
+quote-shows Pair level form s bytes good = shows-spread-fields form (ap ofPair s) bytes good
+
+module _ (lists : Lists) (letter i : ℕ) (bytes : List ℕ) where
   abbrev m : Message
-  m = messageOf list letter bytes
+  m = messageOf lists letter bytes
 
   abbrev Acts : (List ℕ → List ℕ) → Type 0
-  Acts changed = (box : Box) (k : ℕ) → messageActs list letter box k bytes ≡ numberActs box k (sequenceNumber m) changed
+  Acts changed = (box : Box) (k : ℕ) → messageActs lists letter box k bytes ≡ numberActs box k (sequenceNumber m) changed
 
   -- a message that is good and has a number
   abbrev Numbered : Type 0
@@ -68,9 +84,9 @@ module _ (list : List ℕ) (letter i : ℕ) (bytes : List ℕ) where
     is-bad : (fault : Fault) → m .what ≡ what.Bad fault → Does
     beats : m .what ≡ what.Heartbeat → Does
     passes : Numbered → slotOf i (m .what) ≡ none → Acts (λ records. records) → Does
-    updates : (slot : Slot) → Numbered → slotOf i (m .what) ≡ some slot → Acts (storedIn list slot m) → Updates list bytes m slot → Does
+    updates : (slot : Slot) → Numbered → slotOf i (m .what) ≡ some slot → Acts (storedIn lists slot m) → Updates lists bytes m slot → Does
 
-  module _ (listed : segmentOf list letter ≡ some i) where
+  module _ (listed : segmentOf (lists .contracts) letter ≡ some i) where
     pub does : Does
     does = go (m .what) refl
       where
@@ -79,34 +95,35 @@ module _ (list : List ℕ) (letter i : ℕ) (bytes : List ℕ) where
         go what.Heartbeat e = beats e
         go (what.PassedOver number) e =
             passes (ap isNumbered e, ap verdictOf e) (ap (slotOf i) e)
-            (λ box k. acts-as list letter bytes m refl e box k ∙ ap (λ (n : ℕ). numberActs box k n (λ records. records)) (sym (ap numberIn e)))
+            (λ box k. acts-as lists letter bytes m refl e box k ∙ ap (λ (n : ℕ). numberActs box k n (λ records. records)) (sym (ap numberIn e)))
         go (what.Update number form place) e =
-            let u = update-told list letter bytes (ap verdictOf e) number form place e in
+            let u = update-told lists letter bytes (ap verdictOf e) number form place e in
+            let item : Item = u .item in
             let level : Level = u .tells .0 in
-            let subject : subjectOf form ≡ Contract level = u .tells .1 in
-            let form-is : form ≡ recordForm level = contract-form form level subject in
-            let key = key-at-place contracts list i (messageKey bytes) place (sym (key-in list letter (messageKey bytes) listed) ∙ u .place-is) in
+            let subject : subjectOf form ≡ Of item level = u .tells .1 in
+            let form-is : form ≡ recordForm item level = record-form form item level subject in
+            let key = key-at-place (habitOf item) (fileOf item lists) i (messageKey item bytes) place (sym (key-in item lists letter (messageKey item bytes) listed) ∙ u .place-is) in
             let number-is : number ≡ sequenceNumber m = sym (ap numberIn e) in
-            let some-number : 0 < number = rw (u .form-is, subject, u .number-is) at (good-exact list letter bytes .0 (ap verdictOf e) .numbering) in
-            let quote : Quote = quoteOf form (zerosBehind (readRows 0 (rowsOf form) (dataOf bytes) .cells)) in
-            updates (contract i place level) (ap isNumbered e, ap verdictOf e) (ap (slotOf i) e ∙ ap (λ (s : Subject). slotFor s i place) subject)
+            let some-number : 0 < number = rw (u .form-is, subject, u .number-is) at (good-exact lists letter bytes .0 (ap verdictOf e) .numbering) in
+            let quote : QuoteFor item = shown item form (zerosBehind (readRows 0 (rowsOf form) (dataOf bytes) .cells)) in
+            updates (recordSlot item i place level) (ap isNumbered e, ap verdictOf e) (ap (slotOf i) e ∙ ap (λ (s : Subject). slotFor s i place) subject)
             (λ box k.
-            acts-as list letter bytes m refl e box k
-            ∙ ap (λ (s : Subject). numberActs box k number (updated list (segmentOf list letter) place s number (m .cells))) subject
-            ∙ ap (λ (o : Option ℕ). numberActs box k number (updated list o place (Contract level) number (m .cells))) listed
-            ∙ ap (λ (n : ℕ). numberActs box k n (stored (slotAt list (contract i place level)) n (recordOf level (m .cells)))) number-is)
+            acts-as lists letter bytes m refl e box k
+            ∙ ap (λ (s : Subject). numberActs box k number (updated lists (segmentOf (lists .contracts) letter) place s number (m .cells))) subject
+            ∙ ap (λ (o : Option ℕ). numberActs box k number (updated lists o place (Of item level) number (m .cells))) listed
+            ∙ ap (λ (n : ℕ). numberActs box k n (stored (slotAt lists (recordSlot item i place level)) n (recordOf item level (m .cells)))) number-is)
             (record {
-              listed = (segment-has list letter i listed .0, key .0);
+              listed = (segment-has (lists .contracts) letter i listed .0, key .0);
               some-number = rw (← number-is) some-number;
               quote = quote;
-              of-quote = u .cells-are ∙ sym (read-kept form (dataOf bytes) (u .rows-good)) ∙ ap (λ (f : Form). cellsOf f quote) form-is;
+              of-quote = u .cells-are ∙ sym (quote-kept item level form subject (dataOf bytes) (u .rows-good)) ∙ ap (λ (f : Form). cellsFor item f quote) form-is;
               says =
                   record {
                     number-is = u .number-is ∙ number-is;
                     key-is = sym (key .1);
                     level-is = u .length-is ∙ ap (λ (f : Form). messageLength (rowsOf f)) form-is;
                     shows =
-                        subst (λ (f : Form). ShowsFields (fieldNamed (namedRows f) (dataOf bytes)) (quoteOf f (m .cells))) form-is
-                        (rw (u .cells-are) (shows-fields form (dataOf bytes) (u .rows-good)));
+                        subst (λ (f : Form). ShowsEach item (fieldNamed (namedRows f) (dataOf bytes)) (shown item f (m .cells))) form-is
+                        (rw (u .cells-are) (quote-shows item level form subject (dataOf bytes) (u .rows-good)));
                   };
             })

@@ -8,38 +8,37 @@ use mathlib.Core.Option.{Option, none, some}
 use lib.ListN.{drop}
 use Rattle.contracts.specs.File.{segmentsOf}
 use Rattle.contracts.specs.Lookup.{segmentOf}
+use Rattle.pairs.specs.Lists.{Lists}
 use Rattle.sequence.specs.Gaps.{most}
-use Rattle.quote.specs.Quote.{quoteOf}
-use Rattle.quote.specs.Shows.{fieldNamed, ShowsFields}
+use Rattle.quote.specs.Shows.{fieldNamed}
 use Rattle.forms.specs.Forms.{namedRows, rowsOf}
 use Rattle.forms.specs.Rows.{messageLength}
 use Rattle.message.specs.Fields.{lengthOf, numberOf, dataOf as dataIn}
 use Rattle.message.specs.Good.{GoodMessage}
 use Rattle.message.specs.Message.{Message, messageKey as bytesKey}
 use Rattle.message.specs.Reads.{messageOf}
-use Rattle.quotebox.specs.declared.record.Reading.{Reading}
 use Rattle.state.specs.declared.answers.Recorded.{Recorded}
 use Rattle.state.specs.Slots.{Slot}
 use Rattle.state.specs.Places.{formFor}
 use Rattle.batch.specs.Batch.{batchLetter, countOf, batchData}
 use Rattle.batch.specs.Good.{GoodFront}
-use Rattle.quotebox.specs.Record.{blank}
 use Rattle.quotebox.specs.Start.{startOf}
 use Rattle.history.specs.Past.{Event, came, wroteOffIn, takenOf, batchMessages, highestIn, missingIn, runsStanding, isTaken, isOld, howMany}
-use Rattle.history.specs.Updates.{keyIn, isOf}
+use Rattle.history.specs.Shown.{QuoteFor, shown, blankFor, ShowsEach}
+use Rattle.history.specs.Updates.{itemIn, keyIn, isOf}
 use Rattle.history.specs.Machine.{isHeartbeat, sequenceNumber, NamesExactly, TooMany}
 
 -- demand 3: "the gap list names exactly the missing numbers" of segment i
 abbrev pub NamesMissing : ℕ → ℕ → List Event → ℕ → ℕ → List ℕ → Type 0
 NamesMissing i start past highest runs cells = NamesExactly start (highestIn i start past) (missingIn i start past) highest runs cells
 
--- demand 3: the highest-numbered update of a slot's contract and level among the messages taken of its segment
+-- demand 3: the highest-numbered update of a slot's contract or pair and level among the messages taken of its segment
 pub record IsNewest (slot : Slot) (taken : List Message) (m : Message) : Type 0 where
   pub was-taken : List·Memᴰ m taken
-  pub of-contract : isOf slot (m .what) ≡ true
+  pub of-slot : isOf slot (m .what) ≡ true
   pub highest : (k : Message) → List·Memᴰ k taken → isOf slot (k .what) ≡ true → sequenceNumber k ≤ sequenceNumber m
 
--- 01 "What may be asked": a contract with no update taken, of that level
+-- 01 "What may be asked": a contract or a pair with no update taken, of that level
 abbrev pub NoUpdate : Slot → List Message → Type 0
 NoUpdate slot taken = (m : Message) → List·Memᴰ m taken → isOf slot (m .what) ≡ false
 
@@ -50,59 +49,60 @@ FoundNewest slot taken (some m) = IsNewest slot taken m
 
 -- demand 3: "each record is its contract's highest-numbered update taken": its number, and its rows as they stand in its
 -- message
-pub data ReadsNewest (slot : Slot) (taken : List Message) (reading : Reading) : Type 0 where
-  no-record : NoUpdate slot taken → reading .answer ≡ Recorded.NoRecord → reading .quote ≡ blank → ReadsNewest slot taken reading
-  a-record : (m : Message) → IsNewest slot taken m → reading .answer ≡ Recorded.Record (sequenceNumber m) → reading .quote ≡ quoteOf (formFor slot) (m .cells) → ReadsNewest slot taken reading
+pub data ReadsNewest (slot : Slot) (taken : List Message) (answer : Recorded) (quote : QuoteFor (itemIn slot)) : Type 0 where
+  no-record : NoUpdate slot taken → answer ≡ Recorded.NoRecord → quote ≡ blankFor (itemIn slot) → ReadsNewest slot taken answer quote
+  a-record : (m : Message) → IsNewest slot taken m → answer ≡ Recorded.Record (sequenceNumber m) → quote ≡ shown (itemIn slot) (formFor slot) (m .cells)
+      → ReadsNewest slot taken answer quote
 
--- demands 2 and 3: what an update of a slot is by its message's bytes: its number, its contract's key, its level by its length, and
+-- demands 2 and 3: what an update of a slot is by its message's bytes: its number, the key of its contract or pair, its level by its length, and
 -- its quote, which shows every field from the field of its name
-pub record UpdateSays (list bytes : List ℕ) (m : Message) (slot : Slot) : Type 0 where
+pub record UpdateSays (lists : Lists) (bytes : List ℕ) (m : Message) (slot : Slot) : Type 0 where
   pub number-is : numberOf bytes ≡ sequenceNumber m
-  pub key-is : bytesKey bytes ≡ keyIn list slot
+  pub key-is : bytesKey (itemIn slot) bytes ≡ keyIn lists slot
   pub level-is : lengthOf bytes ≡ messageLength (rowsOf (formFor slot))
-  pub shows : ShowsFields (fieldNamed (namedRows (formFor slot)) (dataIn bytes)) (quoteOf (formFor slot) (m .cells))
+  pub shows : ShowsEach (itemIn slot) (fieldNamed (namedRows (formFor slot)) (dataIn bytes)) (shown (itemIn slot) (formFor slot) (m .cells))
 
 -- 01 "What the proof settles" (counts defined from the history): the counts of an accepted batch are those of its messages,
 -- each by what became of it when it came
-pub record CountsCame (list starts : List ℕ) (past : List Event) (batch : List ℕ) (taken old heartbeats : ℕ) : Type 0 where
+pub record CountsCame (lists : Lists) (starts : List ℕ) (past : List Event) (batch : List ℕ) (taken old heartbeats : ℕ) : Type 0 where
   pub segment : ℕ
-  pub listed : segmentOf list (batchLetter batch) ≡ some segment
-  pub taken-are : taken ≡ howMany (isTaken segment (startOf starts segment)) segment (batchMessages list batch) past
-  pub old-are : old ≡ howMany (isOld segment (startOf starts segment)) segment (batchMessages list batch) past
-  pub heartbeats-are : heartbeats ≡ howMany (λ before m. isHeartbeat (m .what)) segment (batchMessages list batch) past
+  pub listed : segmentOf (lists .contracts) (batchLetter batch) ≡ some segment
+  pub taken-are : taken ≡ howMany (isTaken segment (startOf starts segment)) segment (batchMessages lists batch) past
+  pub old-are : old ≡ howMany (isOld segment (startOf starts segment)) segment (batchMessages lists batch) past
+  pub heartbeats-are : heartbeats ≡ howMany (λ before m. isHeartbeat (m .what)) segment (batchMessages lists batch) past
 
 -- 01 "Sequence and gaps": the past when the message that bytes begin with has come, of a letter and its segment i
-abbrev pub cameNext : List ℕ → ℕ → ℕ → List ℕ → List Event → List Event
-cameNext list letter i bytes past = came i (messageOf list letter bytes) ∷ past
+abbrev pub cameNext : Lists → ℕ → ℕ → List ℕ → List Event → List Event
+cameNext lists letter i bytes past = came i (messageOf lists letter bytes) ∷ past
 
 -- demand 3: of so many messages of segment s from message k on, message i is the one at which over 64 runs would stand, counted
 -- from the set of missing numbers, and no rule refuses before: it and every message before it is good, 5 to 13
-abbrev pub OverAt : ℕ → List ℕ → ℕ → ℕ → ℕ → List Event → ℕ → List ℕ → ℕ → Type 0
-OverAt zero list letter s start past k bytes i = ⊥
-OverAt (suc more) list letter s start past k bytes i =
-    GoodMessage list letter bytes
-    × (((i ≡ k) × TooMany (runsStanding s start (cameNext list letter s bytes past)))
-    ⊎ ((runsStanding s start (cameNext list letter s bytes past) ≤ most)
-    × OverAt more list letter s start (cameNext list letter s bytes past) (suc k) (drop (lengthOf bytes) bytes) i))
+abbrev pub OverAt : ℕ → Lists → ℕ → ℕ → ℕ → List Event → ℕ → List ℕ → ℕ → Type 0
+OverAt zero lists letter s start past k bytes i = ⊥
+OverAt (suc more) lists letter s start past k bytes i =
+    GoodMessage lists letter bytes
+    × (((i ≡ k) × TooMany (runsStanding s start (cameNext lists letter s bytes past)))
+    ⊎ ((runsStanding s start (cameNext lists letter s bytes past) ≤ most)
+    × OverAt more lists letter s start (cameNext lists letter s bytes past) (suc k) (drop (lengthOf bytes) bytes) i))
 
 -- demand 3: a batch is refused for gaps at message i, no earlier rule refusing it
-pub record OverInBatch (list starts : List ℕ) (past : List Event) (batch : List ℕ) (i : ℕ) : Type 0 where
+pub record OverInBatch (lists : Lists) (starts : List ℕ) (past : List Event) (batch : List ℕ) (i : ℕ) : Type 0 where
   -- 1 to 4 before the messages
   pub front : GoodFront batch
   pub segment : ℕ
-  pub listed : segmentOf list (batchLetter batch) ≡ some segment
-  pub over : OverAt (countOf batch) list (batchLetter batch) segment (startOf starts segment) past 0 (batchData batch) i
+  pub listed : segmentOf (lists .contracts) (batchLetter batch) ≡ some segment
+  pub over : OverAt (countOf batch) lists (batchLetter batch) segment (startOf starts segment) past 0 (batchData batch) i
 
 -- 01 "Sequence and gaps": nothing was written off
 abbrev pub NoneWrittenOff : List Event → Type 0
 NoneWrittenOff past = (i n : ℕ) → wroteOffIn i past n ≡ false
 
--- demand 3: two boxes of one contract list and the same start numbers "that took the same messages", in whatever order and
+-- demand 3: two boxes of one contract list, one spread list and the same start numbers "that took the same messages", in whatever order and
 -- however cut into batches, with nothing written off
-pub record SameTaken (list starts : List ℕ) (past : List Event) (list′ starts′ : List ℕ) (past′ : List Event) : Type 0 where
-  pub same-list : list ≡ list′
-  pub same-starts : (i : ℕ) → i < segmentsOf list → startOf starts i ≡ startOf starts′ i
-  pub same-messages : (i : ℕ) → i < segmentsOf list → (m : Message)
+pub record SameTaken (lists : Lists) (starts : List ℕ) (past : List Event) (lists′ : Lists) (starts′ : List ℕ) (past′ : List Event) : Type 0 where
+  pub same-lists : lists ≡ lists′
+  pub same-starts : (i : ℕ) → i < segmentsOf (lists .contracts) → startOf starts i ≡ startOf starts′ i
+  pub same-messages : (i : ℕ) → i < segmentsOf (lists .contracts) → (m : Message)
       → List·Memᴰ m (takenOf i (startOf starts i) past) ↔ List·Memᴰ m (takenOf i (startOf starts′ i) past′)
   pub none-off : NoneWrittenOff past
   pub none-off′ : NoneWrittenOff past′

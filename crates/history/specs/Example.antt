@@ -8,6 +8,9 @@ use native.Mathlib.Omega.{arith}
 use lib.ListN.{replicate}
 use Rattle.contracts.specs.Cases.{oneT}
 use Rattle.contracts.specs.File.{segmentsOf, letterAt, zeroAt, countAt, offsetAt, keyFrom, contractsBefore}
+use Rattle.pairs.specs.Lists.{Lists}
+use Rattle.pairs.specs.NoSpreads.{noSpreads}
+use Rattle.pairs.specs.SpreadTests.{pairsListed, spreadHeaderSound, spreadsSound}
 use Rattle.contracts.specs.Lookup.{segmentOf}
 use Rattle.contracts.specs.SoundTests.{entrySound, headerSoundBy, keySound, bodySound, soundBy}
 use Rattle.sequence.specs.Row.{gapsOf}
@@ -38,9 +41,17 @@ use Rattle.history.specs.DemandsLaws.{after-calls}
 abbrev starts : List ℕ
 starts = 1 ∷ []
 
--- lent memory: gap rows for one segment and records for one contract, with no list yet
+-- 01 "The contract list", M-100: T listed, with no pairs
+abbrev listed : Lists
+listed = record { contracts = oneT; pairs = noSpreads oneT }
+
+-- a word of our own: two empty files
+abbrev noLists : Lists
+noLists = record { contracts = []; pairs = [] }
+
+-- lent memory: gap rows for one segment and records for one contract, with no lists yet
 abbrev lentFirst : Lent
-lentFirst = lends [] (replicate 132 0) (replicate 48 0)
+lentFirst = lends noLists (replicate 132 0) (replicate 48 0)
 
 -- 01 "Cases", its last: one message of T that is passed over, with a number
 abbrev batch : ℕ → List ℕ
@@ -48,7 +59,7 @@ batch n = 0x01 ∷ 0x00 ∷ 0x0B ∷ 0x00 ∷ 0x01 ∷ 0x54 ∷ 0x45 ∷ 0x00 �
 
 -- 01 "Cases", its last: a start with nothing lent, which is refused; a start; number 1, then number 4
 abbrev calls : List Made
-calls = elsewhere (lends [] [] []) (start oneT starts) ∷ own (start oneT starts) ∷ own (take (batch 1)) ∷ own (take (batch 4)) ∷ []
+calls = elsewhere (lends noLists [] []) (start listed starts) ∷ own (start listed starts) ∷ own (take (batch 1)) ∷ own (take (batch 4)) ∷ []
 
 -- 01 "Cases", its last: the box then
 abbrev now : BoxNow
@@ -56,17 +67,17 @@ now = allAfter (unstarted lentFirst) calls
 
 -- they answer: 15 for the 132 cells that the first start wants; started; one message taken, and one more
 pub told : map answerNumbers (allAnswers (unstarted lentFirst) calls) ≡ (15 ∷ 0 ∷ 0 ∷ 132 ∷ []) ∷ (0 ∷ []) ∷ (0 ∷ 1 ∷ 0 ∷ 0 ∷ []) ∷ (0 ∷ 1 ∷ 0 ∷ 0 ∷ []) ∷ []
-unfolding startRules eachStarts keyFrom keySound bodySound soundBy rowsStarted recordsCleared segmentsOf letterAt zeroAt countAt offsetAt contractsBefore segmentOf entrySound headerSoundBy gapsOf laid soundGapRow formsOf formOf sumRule letterOf secondOf lengthOf numberOf dataIn sumSent endByte formIn sumIn rightSum framed coded trailed summed headOf messageKey keyPlace contentsBy messageOf flagOf sizeOf countOf messageActs messagesAct batchActs rowsOf namedRows
+unfolding noSpreads pairsListed spreadHeaderSound spreadsSound startRules eachStarts keyFrom keySound bodySound soundBy rowsStarted recordsCleared segmentsOf letterAt zeroAt countAt offsetAt contractsBefore segmentOf entrySound headerSoundBy gapsOf laid soundGapRow formsOf formOf sumRule letterOf secondOf lengthOf numberOf dataIn sumSent endByte formIn sumIn rightSum framed coded trailed summed headOf messageKey keyPlace contentsBy messageOf flagOf sizeOf countOf messageActs messagesAct batchActs rowsOf namedRows
 told = refl
 
 -- the history
 pub reached : Reached starts (now .lent) (pastOf now)
-unfolding startRules eachStarts segmentsOf letterAt zeroAt countAt offsetAt keyFrom contractsBefore entrySound headerSoundBy keySound bodySound soundBy
+unfolding noSpreads pairsListed spreadHeaderSound spreadsSound startRules eachStarts segmentsOf letterAt zeroAt countAt offsetAt keyFrom contractsBefore entrySound headerSoundBy keySound bodySound soundBy
 reached = calls-reach lentFirst calls (record { starts = starts; past = pastOf now }) refl
 
 -- its past says of segment 0, which is listed for T: highest 4, missing 2 and 3, one run
-pub says : (segmentOf (now .lent .list) 84 ≡ some 0) × (highestIn 0 1 (pastOf now) ≡ 4) × (those (missingIn 0 1 (pastOf now)) 5 ≡ 2 ∷ 3 ∷ []) × (runsStanding 0 1 (pastOf now) ≡ 1)
-unfolding startRules eachStarts keyFrom keySound bodySound soundBy rowsStarted recordsCleared segmentsOf letterAt zeroAt countAt offsetAt contractsBefore segmentOf entrySound headerSoundBy gapsOf laid soundGapRow formsOf formOf sumRule letterOf secondOf lengthOf numberOf dataIn sumSent endByte formIn sumIn rightSum framed coded trailed summed headOf messageKey keyPlace contentsBy messageOf flagOf sizeOf countOf messageActs messagesAct batchActs rowsOf namedRows
+pub says : (segmentOf (now .lent .lists .contracts) 84 ≡ some 0) × (highestIn 0 1 (pastOf now) ≡ 4) × (those (missingIn 0 1 (pastOf now)) 5 ≡ 2 ∷ 3 ∷ []) × (runsStanding 0 1 (pastOf now) ≡ 1)
+unfolding noSpreads pairsListed spreadHeaderSound spreadsSound startRules eachStarts keyFrom keySound bodySound soundBy rowsStarted recordsCleared segmentsOf letterAt zeroAt countAt offsetAt contractsBefore segmentOf entrySound headerSoundBy gapsOf laid soundGapRow formsOf formOf sumRule letterOf secondOf lengthOf numberOf dataIn sumSent endByte formIn sumIn rightSum framed coded trailed summed headOf messageKey keyPlace contentsBy messageOf flagOf sizeOf countOf messageActs messagesAct batchActs rowsOf namedRows
 says = (refl, refl, refl, refl)
 
 -- and so listing its gaps with two cells lent answers highest 4 and one run

@@ -5,30 +5,32 @@ use mathlib.Core.Path.{_≡_}
 use lib.ListN.{length, take}
 use Rattle.state.specs.Memory.{Lent, lends, gapRowsWanted}
 use Rattle.state.specs.Slots.{recordsWanted}
-use Rattle.history.specs.Calls.{Call, start, judge, take as taking, listGaps, writeOff, readRecord, writeMessage, withList}
+use Rattle.history.specs.Calls.{Call, start, judge, take as taking, listGaps, writeOff, readRecord, writeMessage, writeSpread, noSpreads, withLists}
 use Rattle.history.specs.Step.{step}
 
 -- 01 "What may be asked": the first cells of lent memory, as many as are wanted
 abbrev pub frontOf : Lent → Lent
 frontOf lent =
-    lends (lent .list) (take (gapRowsWanted (lent .list)) (lent .rows)) (take (recordsWanted (lent .list)) (lent .records))
+    lends (lent .lists) (take (gapRowsWanted (lent .lists)) (lent .rows)) (take (recordsWanted (lent .lists)) (lent .records))
 
 -- 01, the table's row 15: as many cells are lent as are wanted
 pub record Enough (lent : Lent) : Type 0 where
-  pub rows-lent : gapRowsWanted (lent .list) ≤ length (lent .rows)
-  pub records-lent : recordsWanted (lent .list) ≤ length (lent .records)
+  pub rows-lent : gapRowsWanted (lent .lists) ≤ length (lent .rows)
+  pub records-lent : recordsWanted (lent .lists) ≤ length (lent .records)
 
--- 01 "What may be asked": what a call is handed: a start has a list of its own
+-- 01 "What may be asked": what a call is handed: a start has lists of its own
 abbrev pub handed : Lent → Call → Lent
-handed lent (start list starts) = withList list lent
+handed lent (start lists starts) = withLists lists lent
 handed lent (judge batch) = lent
 handed lent (taking batch) = lent
 handed lent (listGaps letter cells) = lent
 handed lent (writeOff letter) = lent
-handed lent (readRecord letter key level) = lent
+handed lent (readRecord item letter key level) = lent
 handed lent (writeMessage code level number key quote out) = lent
+handed lent (writeSpread code level number key quote out) = lent
+handed lent (noSpreads list out) = lent
 
--- 01 "What may be asked": two lent memories of one list, both with enough cells, whose wanted cells are the same
+-- 01 "What may be asked": two lent memories of the same lists, both with enough cells, whose wanted cells are the same
 pub record SameFront (lent lent′ : Lent) : Type 0 where
   pub enough : Enough lent
   pub enough′ : Enough lent′

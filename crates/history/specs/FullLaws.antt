@@ -13,6 +13,7 @@ use Rattle.laws.specs.Rules.{firstBroken, Hold, Broken}
 use Rattle.laws.specs.RulesLaws.{unlike, none-hold, hold-none, broken-some}
 use Rattle.laws.specs.Choice.{clash, either}
 use Rattle.contracts.specs.Lookup.{segmentOf}
+use Rattle.pairs.specs.Lists.{Lists}
 use Rattle.sequence.specs.Gaps.{Gaps, most, takes}
 use Rattle.sequence.specs.Changes.{full, runsAfter}
 use Rattle.sequence.specs.Row.{gapsOf}
@@ -92,11 +93,11 @@ number-fell box k number changed refusal e =
 -- ---- one message
 
 -- a good message breaks no rule
-pub good-unbroken : (list : List ℕ) (letter : ℕ) (bytes : List ℕ) → GoodMessage list letter bytes → (fault : Fault) → Broken (messageRules list letter bytes) fault → ⊥
-good-unbroken list letter bytes good fault b =
-    unlike (sym (broken-some (messageRules list letter bytes) fault b) ∙ hold-none (messageRules list letter bytes) (rules-exact list letter bytes .1 good))
+pub good-unbroken : (lists : Lists) (letter : ℕ) (bytes : List ℕ) → GoodMessage lists letter bytes → (fault : Fault) → Broken (messageRules lists letter bytes) fault → ⊥
+good-unbroken lists letter bytes good fault b =
+    unlike (sym (broken-some (messageRules lists letter bytes) fault b) ∙ hold-none (messageRules lists letter bytes) (rules-exact lists letter bytes .1 good))
 
-module _ (list starts : List ℕ) (letter s : ℕ) (listed : segmentOf list letter ≡ some s) where
+module _ (lists : Lists) (starts : List ℕ) (letter s : ℕ) (listed : segmentOf (lists .contracts) letter ≡ some s) where
   abbrev start : ℕ
   start = startOf starts s
 
@@ -106,13 +107,13 @@ module _ (list starts : List ℕ) (letter s : ℕ) (listed : segmentOf list lett
   too-many : {n : ℕ} → TooMany n → n ≤ most → ⊥
   too-many h l = omega arith
 
-  pub box-standing : (past : List Event) (box : Box) → BoxFits list starts s past box → standing past ≤ most
+  pub box-standing : (past : List Event) (box : Box) → BoxFits lists starts s past box → standing past ≤ most
   box-standing past box f =
       subst (λ (n : ℕ). n ≤ most) (fits-standing start (takenOf s start past) (wroteOffIn s past) (gapsOf (box .row)) (f .gaps-fit)) (f .gaps-fit .sound .few)
 
-  module _ (past : List Event) (box : Box) (f : BoxFits list starts s past box) (k : ℕ) (bytes : List ℕ) where
+  module _ (past : List Event) (box : Box) (f : BoxFits lists starts s past box) (k : ℕ) (bytes : List ℕ) where
     abbrev m : Message
-    m = messageOf list letter bytes
+    m = messageOf lists letter bytes
 
     abbrev g : Gaps
     g = gapsOf (box .row)
@@ -133,68 +134,68 @@ module _ (list starts : List ℕ) (letter s : ℕ) (listed : segmentOf list lett
 
     -- what becomes of message k: it is bad, or it acts and at most 64 runs stand, or over 64 would
     pub data Comes : Type 0 where
-      bad : (fault : Fault) → messageActs list letter box k bytes ≡ refused (ofFault fault k) → Broken (messageRules list letter bytes) fault → Comes
-      goes : (box′ : Box) → messageActs list letter box k bytes ≡ acted box′ → GoodMessage list letter bytes → BoxFits list starts s later box′ → Comes
-      over : messageActs list letter box k bytes ≡ refused (GapsOver k) → GoodMessage list letter bytes → TooMany (standing later) → Comes
+      bad : (fault : Fault) → messageActs lists letter box k bytes ≡ refused (ofFault fault k) → Broken (messageRules lists letter bytes) fault → Comes
+      goes : (box′ : Box) → messageActs lists letter box k bytes ≡ acted box′ → GoodMessage lists letter bytes → BoxFits lists starts s later box′ → Comes
+      over : messageActs lists letter box k bytes ≡ refused (GapsOver k) → GoodMessage lists letter bytes → TooMany (standing later) → Comes
 
     numbered-comes : (isNumbered (m .what) ≡ true) × (verdictOf (m .what) ≡ Good) → (changed : List ℕ → List ℕ)
-        → messageActs list letter box k bytes ≡ numberActs box k (sequenceNumber m) changed → Comes
-    numbered-comes numbered changed is = go (messageActs list letter box k bytes) refl
+        → messageActs lists letter box k bytes ≡ numberActs box k (sequenceNumber m) changed → Comes
+    numbered-comes numbered changed is = go (messageActs lists letter box k bytes) refl
       where
-        is-good : GoodMessage list letter bytes
-        is-good = good-exact list letter bytes .0 (numbered .1)
+        is-good : GoodMessage lists letter bytes
+        is-good = good-exact lists letter bytes .0 (numbered .1)
 
-        go : (a : Acted) → messageActs list letter box k bytes ≡ a → Comes
-        go (acted box′) h = goes box′ h is-good (message-turns list starts letter s listed past box f k bytes box′ h .fits)
+        go : (a : Acted) → messageActs lists letter box k bytes ≡ a → Comes
+        go (acted box′) h = goes box′ h is-good (message-turns lists starts letter s listed past box f k bytes box′ h .fits)
         go (refused refusal) h =
             let fell = number-fell box k (sequenceNumber m) changed refusal (sym is ∙ h) in
             over (h ∙ ap refused (sym (fell .2))) is-good (numbered-over (numbered .0) (fell .0) (fell .1))
 
     pub comes : Comes
-    comes = go (does list letter s bytes listed)
+    comes = go (does lists letter s bytes listed)
       where
-        go : Does list letter s bytes → Comes
+        go : Does lists letter s bytes → Comes
         go (is-bad fault e) =
-            bad fault (acts-as list letter bytes m refl e box k) (fault-exact list letter bytes fault .0 e)
+            bad fault (acts-as lists letter bytes m refl e box k) (fault-exact lists letter bytes fault .0 e)
         go (beats e) =
-            let h = acts-as list letter bytes m refl e box k in
-            goes _ h (good-exact list letter bytes .0 (ap verdictOf e)) (message-turns list starts letter s listed past box f k bytes _ h .fits)
+            let h = acts-as lists letter bytes m refl e box k in
+            goes _ h (good-exact lists letter bytes .0 (ap verdictOf e)) (message-turns lists starts letter s listed past box f k bytes _ h .fits)
         go (passes numbered none-of is) = numbered-comes numbered (λ records. records) (is box k)
-        go (updates slot numbered of-slot is u) = numbered-comes numbered (storedIn list slot m) (is box k)
+        go (updates slot numbered of-slot is u) = numbered-comes numbered (storedIn lists slot m) (is box k)
 
   -- ---- messages in turn
 
-  pub over-exact : (count k : ℕ) (past : List Event) (box : Box) (bytes : List ℕ) (i : ℕ) → BoxFits list starts s past box
-      → messagesAct count list letter k box bytes ≡ refused (GapsOver i) ↔ OverAt count list letter s start past k bytes i
+  pub over-exact : (count k : ℕ) (past : List Event) (box : Box) (bytes : List ℕ) (i : ℕ) → BoxFits lists starts s past box
+      → messagesAct count lists letter k box bytes ≡ refused (GapsOver i) ↔ OverAt count lists letter s start past k bytes i
   unfolding messagesAct
   over-exact zero k past box bytes i f = (end-not-gaps box i (eqb (length bytes) 0), (λ w. absurd w))
   over-exact (suc more) k past box bytes i f =
-      go (comes past box f k bytes) (λ box′ fit. over-exact more (suc k) (cameNext list letter s bytes past) box′ (drop (lengthOf bytes) bytes) i fit)
+      go (comes past box f k bytes) (λ box′ fit. over-exact more (suc k) (cameNext lists letter s bytes past) box′ (drop (lengthOf bytes) bytes) i fit)
     where
       go : Comes past box f k bytes
-          → ((box′ : Box) → BoxFits list starts s (cameNext list letter s bytes past) box′
-          → messagesAct more list letter (suc k) box′ (drop (lengthOf bytes) bytes) ≡ refused (GapsOver i) ↔ OverAt more list letter s start (cameNext list letter s bytes past) (suc k) (drop (lengthOf bytes) bytes) i)
-          → messagesAct (suc more) list letter k box bytes ≡ refused (GapsOver i) ↔ OverAt (suc more) list letter s start past k bytes i
+          → ((box′ : Box) → BoxFits lists starts s (cameNext lists letter s bytes past) box′
+          → messagesAct more lists letter (suc k) box′ (drop (lengthOf bytes) bytes) ≡ refused (GapsOver i) ↔ OverAt more lists letter s start (cameNext lists letter s bytes past) (suc k) (drop (lengthOf bytes) bytes) i)
+          → messagesAct (suc more) lists letter k box bytes ≡ refused (GapsOver i) ↔ OverAt (suc more) lists letter s start past k bytes i
       go (bad fault acts broken) rest = (
-        (λ e. absurd (fault-not-gaps fault k i (same-refusal (sym (messages-refused list letter more k box bytes (ofFault fault k) acts) ∙ e)))),
-        (λ w. absurd (good-unbroken list letter bytes (w .0) fault broken)),
+        (λ e. absurd (fault-not-gaps fault k i (same-refusal (sym (messages-refused lists letter more k box bytes (ofFault fault k) acts) ∙ e)))),
+        (λ w. absurd (good-unbroken lists letter bytes (w .0) fault broken)),
       )
       go (goes box′ acts good fit) rest =
-          let few = box-standing (cameNext list letter s bytes past) box′ fit in
-          let next = messages-next list letter more k box bytes box′ acts in (
+          let few = box-standing (cameNext lists letter s bytes past) box′ fit in
+          let next = messages-next lists letter more k box bytes box′ acts in (
             (λ e. (good, inr (few, rest box′ fit .0 (sym next ∙ e)))),
             (λ w.
-                ⊎-elim (λ (o : (i ≡ k) × TooMany (standing (cameNext list letter s bytes past))). absurd (too-many (o .1) few))
-                (λ (o : (standing (cameNext list letter s bytes past) ≤ most) × OverAt more list letter s start (cameNext list letter s bytes past) (suc k) (drop (lengthOf bytes) bytes) i).
+                ⊎-elim (λ (o : (i ≡ k) × TooMany (standing (cameNext lists letter s bytes past))). absurd (too-many (o .1) few))
+                (λ (o : (standing (cameNext lists letter s bytes past) ≤ most) × OverAt more lists letter s start (cameNext lists letter s bytes past) (suc k) (drop (lengthOf bytes) bytes) i).
                 next ∙ rest box′ fit .1 (o .1))
                 (w .1)),
           )
       go (over acts good many) rest =
-          let stops = messages-refused list letter more k box bytes (GapsOver k) acts in (
+          let stops = messages-refused lists letter more k box bytes (GapsOver k) acts in (
             (λ e. (good, inl (sym (same-place (same-refusal (sym stops ∙ e))), many))),
             (λ w.
-                ⊎-elim (λ (o : (i ≡ k) × TooMany (standing (cameNext list letter s bytes past))). stops ∙ ap (λ (n : ℕ). refused (GapsOver n)) (sym (o .0)))
-                (λ (o : (standing (cameNext list letter s bytes past) ≤ most) × OverAt more list letter s start (cameNext list letter s bytes past) (suc k) (drop (lengthOf bytes) bytes) i).
+                ⊎-elim (λ (o : (i ≡ k) × TooMany (standing (cameNext lists letter s bytes past))). stops ∙ ap (λ (n : ℕ). refused (GapsOver n)) (sym (o .0)))
+                (λ (o : (standing (cameNext lists letter s bytes past) ≤ most) × OverAt more lists letter s start (cameNext lists letter s bytes past) (suc k) (drop (lengthOf bytes) bytes) i).
                 absurd (too-many many (o .0)))
                 (w .1)),
           )
@@ -217,56 +218,56 @@ front-not-gaps batch i e =
     go true true true true true e = clash (cc)
 
 -- where no segment has the letter the first message is bad
-unlisted-not-gaps : (list : List ℕ) (letter : ℕ) → segmentOf list letter ≡ none → (count : ℕ) (box : Box) (bytes : List ℕ) (i : ℕ) → messagesAct count list letter 0 box bytes ≡ refused (GapsOver i) → ⊥
+unlisted-not-gaps : (lists : Lists) (letter : ℕ) → segmentOf (lists .contracts) letter ≡ none → (count : ℕ) (box : Box) (bytes : List ℕ) (i : ℕ) → messagesAct count lists letter 0 box bytes ≡ refused (GapsOver i) → ⊥
 unfolding messagesAct
-unlisted-not-gaps list letter u zero box bytes i e = end-not-gaps box i (eqb (length bytes) 0) e
-unlisted-not-gaps list letter u (suc more) box bytes i e = go (messageOf list letter bytes .what) refl
+unlisted-not-gaps lists letter u zero box bytes i e = end-not-gaps box i (eqb (length bytes) 0) e
+unlisted-not-gaps lists letter u (suc more) box bytes i e = go (messageOf lists letter bytes .what) refl
   where
-    go : (w : What) → messageOf list letter bytes .what ≡ w → ⊥
+    go : (w : What) → messageOf lists letter bytes .what ≡ w → ⊥
     go (what.Bad fault) f =
         fault-not-gaps fault 0 i
         (same-refusal
-        (sym (messages-refused list letter more 0 box bytes (ofFault fault 0) (acts-as list letter bytes (messageOf list letter bytes) refl f box 0)) ∙ e))
-    go what.Heartbeat f = never-good list letter u bytes (ap verdictOf f)
-    go (what.PassedOver number) f = never-good list letter u bytes (ap verdictOf f)
-    go (what.Update number form place) f = never-good list letter u bytes (ap verdictOf f)
+        (sym (messages-refused lists letter more 0 box bytes (ofFault fault 0) (acts-as lists letter bytes (messageOf lists letter bytes) refl f box 0)) ∙ e))
+    go what.Heartbeat f = never-good lists letter u bytes (ap verdictOf f)
+    go (what.PassedOver number) f = never-good lists letter u bytes (ap verdictOf f)
+    go (what.Update number form place) f = never-good lists letter u bytes (ap verdictOf f)
 
 module _ {starts : List ℕ} {lent : Lent} {past : List Event} (r : Reached starts lent past) (batch : List ℕ) (i : ℕ) where
   abbrev letter : ℕ
   letter = batchLetter batch
 
-  abbrev list : List ℕ
-  list = lent .list
+  abbrev lists : Lists
+  lists = lent .lists
 
   state : Hold (stateRules lent)
   state = state-exact lent .1 (reached-holds r .state)
 
-  pub acts-over : batchActs lent batch ≡ refused (GapsOver i) ↔ OverInBatch list starts past batch i
+  pub acts-over : batchActs lent batch ≡ refused (GapsOver i) ↔ OverInBatch lists starts past batch i
   acts-over = (is-over, over-is)
     where
-      is-over : batchActs lent batch ≡ refused (GapsOver i) → OverInBatch list starts past batch i
+      is-over : batchActs lent batch ≡ refused (GapsOver i) → OverInBatch lists starts past batch i
       is-over e = front (firstBroken (batchRules batch)) refl
         where
-          listed : Hold (batchRules batch) → (o : Option ℕ) → segmentOf list letter ≡ o → OverInBatch list starts past batch i
+          listed : Hold (batchRules batch) → (o : Option ℕ) → segmentOf (lists .contracts) letter ≡ o → OverInBatch lists starts past batch i
           listed h none u =
-              absurd (unlisted-not-gaps list letter u (countOf batch) (boxOf lent letter) (batchData batch) i (sym (messages-decide lent batch state h) ∙ e))
+              absurd (unlisted-not-gaps lists letter u (countOf batch) (boxOf lent letter) (batchData batch) i (sym (messages-decide lent batch state h) ∙ e))
           listed h (some s) l =
               record {
                 front = front-exact batch .0 h;
                 segment = s;
                 listed = l;
                 over =
-                    over-exact list starts letter s l (countOf batch) 0 past (boxOf lent letter) (batchData batch) i (box-before (reached-holds r) batch s l) .0
+                    over-exact lists starts letter s l (countOf batch) 0 past (boxOf lent letter) (batchData batch) i (box-before (reached-holds r) batch s l) .0
                     (sym (messages-decide lent batch state h) ∙ e);
               }
 
-          front : (o : Option Refusal) → firstBroken (batchRules batch) ≡ o → OverInBatch list starts past batch i
-          front none h = listed (none-hold (batchRules batch) h) (segmentOf list letter) refl
+          front : (o : Option Refusal) → firstBroken (batchRules batch) ≡ o → OverInBatch lists starts past batch i
+          front none h = listed (none-hold (batchRules batch) h) (segmentOf (lists .contracts) letter) refl
           front (some refusal) h =
               absurd (front-not-gaps batch i (h ∙ ap some (same-refusal (sym (front-refuses lent batch state refusal h) ∙ e))))
 
-      over-is : OverInBatch list starts past batch i → batchActs lent batch ≡ refused (GapsOver i)
+      over-is : OverInBatch lists starts past batch i → batchActs lent batch ≡ refused (GapsOver i)
       over-is w =
           messages-decide lent batch state (front-exact batch .1 (w .front))
-          ∙ over-exact list starts letter (w .segment) (w .listed) (countOf batch) 0 past (boxOf lent letter) (batchData batch) i
+          ∙ over-exact lists starts letter (w .segment) (w .listed) (countOf batch) 0 past (boxOf lent letter) (batchData batch) i
           (box-before (reached-holds r) batch (w .segment) (w .listed)) .1 (w .over)

@@ -1,5 +1,5 @@
 -- Histories: 01 "What may be asked". Any finite list of public calls with any arguments, folded by their step. Each is handed the
--- box's own memory, which is what the call before left with the list of the latest accepted start, or other memory than that.
+-- box's own memory, which is what the call before left with the lists of the latest accepted start, or other memory than that.
 use mathlib.Core.Path.{_≡_}
 use mathlib.Core.List.{List, [], _∷_}
 use mathlib.Core.Option.{Option, none, some}
@@ -9,10 +9,10 @@ use Rattle.state.specs.Memory.{Lent}
 use Rattle.state.specs.declared.answers.Judged.{Judged}
 use Rattle.state.specs.declared.answers.Judged.the-variants as judged
 use Rattle.history.specs.Past.{Event, afterTake, afterWriteOff}
-use Rattle.history.specs.Calls.{Call, Answer, start, judge, take, listGaps, writeOff, readRecord, writeMessage}
+use Rattle.history.specs.Calls.{Call, Answer, start, judge, take, listGaps, writeOff, readRecord, writeMessage, writeSpread, noSpreads}
 use Rattle.history.specs.Step.{startRefusal, batchAnswer, offAnswer, step}
 
--- 01 "What may be asked": a call handed the box's own memory (a start with any list), or one lent other memory
+-- 01 "What may be asked": a call handed the box's own memory (a start with any lists), or one lent other memory
 pub data Made : Type 0 where
   own : Call → Made
   elsewhere : Lent → Call → Made
@@ -44,13 +44,15 @@ comes more (some since) = some (record { starts = since .starts; past = more (si
 -- 01 "What may be asked": what there is since the start after a call, by its input and its answer: an accepted start begins
 -- anew; taking a batch and a write-off add to the past; no other call does
 abbrev pub sinceAfter : Lent → Call → Option Since → Option Since
-sinceAfter lent (start list starts) since = leftBy (startRefusal lent list starts) since (some (record { starts = starts; past = [] }))
+sinceAfter lent (start lists starts) since = leftBy (startRefusal lent lists starts) since (some (record { starts = starts; past = [] }))
 sinceAfter lent (judge batch) since = since
-sinceAfter lent (take batch) since = comes (afterTake (lent .list) batch (batchAnswer lent batch)) since
+sinceAfter lent (take batch) since = comes (afterTake (lent .lists) batch (batchAnswer lent batch)) since
 sinceAfter lent (listGaps letter cells) since = since
-sinceAfter lent (writeOff letter) since = comes (afterWriteOff (lent .list) letter (offAnswer lent letter)) since
-sinceAfter lent (readRecord letter key level) since = since
+sinceAfter lent (writeOff letter) since = comes (afterWriteOff (lent .lists) letter (offAnswer lent letter)) since
+sinceAfter lent (readRecord item letter key level) since = since
 sinceAfter lent (writeMessage code level number key quote out) since = since
+sinceAfter lent (writeSpread code level number key quote out) since = since
+sinceAfter lent (noSpreads list out) since = since
 
 -- 01 "What may be asked": the box after one call; a call lent other memory changes nothing of it
 abbrev pub afterCall : BoxNow → Made → BoxNow
@@ -79,13 +81,15 @@ accepting (judged.Refused refusal) batch batches = batches
 
 -- 01 "What may be asked": the batches accepted since the latest accepted start, after a call
 abbrev pub batchesAfter : BoxNow → Made → List (List ℕ) → List (List ℕ)
-batchesAfter now (own (start list starts)) batches = leftBy (startRefusal (now .lent) list starts) batches []
+batchesAfter now (own (start lists starts)) batches = leftBy (startRefusal (now .lent) lists starts) batches []
 batchesAfter now (own (judge batch)) batches = batches
 batchesAfter now (own (take batch)) batches = accepting (batchAnswer (now .lent) batch) batch batches
 batchesAfter now (own (listGaps letter cells)) batches = batches
 batchesAfter now (own (writeOff letter)) batches = batches
-batchesAfter now (own (readRecord letter key level)) batches = batches
+batchesAfter now (own (readRecord item letter key level)) batches = batches
 batchesAfter now (own (writeMessage code level number key quote out)) batches = batches
+batchesAfter now (own (writeSpread code level number key quote out)) batches = batches
+batchesAfter now (own (noSpreads list out)) batches = batches
 batchesAfter now (elsewhere lent call) batches = batches
 
 -- 01 "What may be asked": the batches accepted since the latest accepted start, after calls made in turn

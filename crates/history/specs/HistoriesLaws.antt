@@ -17,7 +17,7 @@ use Rattle.quotebox.specs.CallPromisesLaws.{start-left, one-written-off}
 use Rattle.quotebox.specs.CallsLaws.{start-done}
 use Rattle.quotebox.specs.StartActs.{startBroken, lentStarted}
 use Rattle.history.specs.Past.{Event, afterTake, afterWriteOff}
-use Rattle.history.specs.Calls.{Call, start, judge, take, listGaps, writeOff, readRecord, writeMessage, withList}
+use Rattle.history.specs.Calls.{Call, start, judge, take, listGaps, writeOff, readRecord, writeMessage, writeSpread, noSpreads, withLists}
 use Rattle.history.specs.Step.{startRefusal, batchAnswer, offAnswer, step}
 use Rattle.history.specs.CallsLaws.{take-promised, off-promised}
 use Rattle.history.specs.Histories.{Made, own, elsewhere, Since, BoxNow, unstarted, sinceAfter, allAfter, Reached, afterCall}
@@ -28,9 +28,9 @@ use Rattle.history.specs.Histories.{Made, own, elsewhere, Since, BoxNow,
 pub record Steps (Holds : List ℕ → Lent → List Event → Type 0) : Type 0 where
   pub begins : (starts : List ℕ) (lent lent′ : Lent) → StartedBox lent starts Started.Started lent′ → Holds starts lent′ []
   pub takes : (starts : List ℕ) (lent lent′ : Lent) (past : List Event) → Holds starts lent past
-      → (batch : List ℕ) (answer : Judged) → TookBatch lent batch answer lent′ → Holds starts lent′ (afterTake (lent .list) batch answer past)
+      → (batch : List ℕ) (answer : Judged) → TookBatch lent batch answer lent′ → Holds starts lent′ (afterTake (lent .lists) batch answer past)
   pub writes-off : (starts : List ℕ) (lent lent′ : Lent) (past : List Event) → Holds starts lent past
-      → (letter : ℕ) (answer : WrittenOff) → WroteOffRun lent letter answer lent′ → Holds starts lent′ (afterWriteOff (lent .list) letter answer past)
+      → (letter : ℕ) (answer : WrittenOff) → WroteOffRun lent letter answer lent′ → Holds starts lent′ (afterWriteOff (lent .lists) letter answer past)
 
 module _ (Holds : List ℕ → Lent → List Event → Type 0) (steps : Steps Holds) where
   abbrev Then : Lent → Option Since → Type 0
@@ -38,14 +38,14 @@ module _ (Holds : List ℕ → Lent → List Event → Type 0) (steps : Steps Ho
   Then lent (some since) = Holds (since .starts) lent (since .past)
 
   call-keeps : (lent : Lent) (since : Option Since) (c : Call) → Then lent since → Then (step lent c .left) (sinceAfter lent c since)
-  call-keeps lent since (start list starts) h = go (startRefusal lent list starts) refl
+  call-keeps lent since (start lists starts) h = go (startRefusal lent lists starts) refl
     where
-      go : (o : Option Refusal) → startRefusal lent list starts ≡ o
-          → Then (leftBy (startRefusal lent list starts) lent (lentStarted (withList list lent) starts))
-          (leftBy (startRefusal lent list starts) since (some (record { starts = starts; past = [] })))
+      go : (o : Option Refusal) → startRefusal lent lists starts ≡ o
+          → Then (leftBy (startRefusal lent lists starts) lent (lentStarted (withLists lists lent) starts))
+          (leftBy (startRefusal lent lists starts) since (some (record { starts = starts; past = [] })))
       go none e =
           rw e
-          (steps .begins starts (withList list lent) (lentStarted (withList list lent) starts) (start-done (withList list lent) starts e refl refl))
+          (steps .begins starts (withLists lists lent) (lentStarted (withLists lists lent) starts) (start-done (withLists lists lent) starts e refl refl))
       go (some refusal) e = rw e h
   call-keeps lent since (judge batch) h = h
   call-keeps lent none (take batch) h = tt
@@ -55,8 +55,10 @@ module _ (Holds : List ℕ → Lent → List Event → Type 0) (steps : Steps Ho
   call-keeps lent none (writeOff letter) h = tt
   call-keeps lent (some since) (writeOff letter) h =
       steps .writes-off (since .starts) lent _ (since .past) h letter (offAnswer lent letter) (off-promised lent letter)
-  call-keeps lent since (readRecord letter key level) h = h
+  call-keeps lent since (readRecord item letter key level) h = h
   call-keeps lent since (writeMessage code level number key quote out) h = h
+  call-keeps lent since (writeSpread code level number key quote out) h = h
+  call-keeps lent since (noSpreads list out) h = h
 
   all-keep : (now : BoxNow) (calls : List Made) → Then (now .lent) (now .since) → Then (allAfter now calls .lent) (allAfter now calls .since)
   all-keep now [] h = h
@@ -76,17 +78,19 @@ calls-reach memory calls since e =
 
 -- and it stays one, whatever calls follow
 call-since : (lent : Lent) (c : Call) (since : Since) → (later : Since) × (sinceAfter lent c (some since) ≡ some later)
-call-since lent (start list starts) since = go (startRefusal lent list starts)
+call-since lent (start lists starts) since = go (startRefusal lent lists starts)
   where
     go : (o : Option Refusal) → (later : Since) × (leftBy o (some since) (some (record { starts = starts; past = [] })) ≡ some later)
     go none = (record { starts = starts; past = [] }, refl)
     go (some refusal) = (since, refl)
 call-since lent (judge batch) since = (since, refl)
-call-since lent (take batch) since = (record { starts = since .starts; past = afterTake (lent .list) batch (batchAnswer lent batch) (since .past) }, refl)
+call-since lent (take batch) since = (record { starts = since .starts; past = afterTake (lent .lists) batch (batchAnswer lent batch) (since .past) }, refl)
 call-since lent (listGaps letter cells) since = (since, refl)
-call-since lent (writeOff letter) since = (record { starts = since .starts; past = afterWriteOff (lent .list) letter (offAnswer lent letter) (since .past) }, refl)
-call-since lent (readRecord letter key level) since = (since, refl)
+call-since lent (writeOff letter) since = (record { starts = since .starts; past = afterWriteOff (lent .lists) letter (offAnswer lent letter) (since .past) }, refl)
+call-since lent (readRecord item letter key level) since = (since, refl)
 call-since lent (writeMessage code level number key quote out) since = (since, refl)
+call-since lent (writeSpread code level number key quote out) since = (since, refl)
+call-since lent (noSpreads list out) since = (since, refl)
 
 pub all-since : (now : BoxNow) (since : Since) → now .since ≡ some since → (calls : List Made) → (later : Since) × (allAfter now calls .since ≡ some later)
 all-since now since e [] = (since, e)
@@ -115,11 +119,11 @@ one-more r c e =
 pub reached-begun : {starts : List ℕ} {lent lent′ : Lent} → StartedBox lent starts Started.Started lent′ → Reached starts lent′ []
 reached-begun {starts} {lent} {lent′} p =
     let since : Since = record { starts = starts; past = [] } in
-    let held : startRefusal lent (lent .list) starts ≡ none = accepted-by (startBroken lent starts) [] [] (p .answers) .0 in
+    let held : startRefusal lent (lent .lists) starts ≡ none = accepted-by (startBroken lent starts) [] [] (p .answers) .0 in
     let left = start-left p in
     record {
       memory = lent;
-      calls = own (start (lent .list) starts) ∷ [];
+      calls = own (start (lent .lists) starts) ∷ [];
       reaches =
           ap (λ (o : Option Refusal). record { lent = leftBy o lent (lentStarted lent starts); since = leftBy o none (some since) }) held
           ∙ (λ k. record { lent = sym left k; since = some since });
@@ -127,14 +131,14 @@ reached-begun {starts} {lent} {lent′} p =
 
 -- a batch taken, whatever it is answered
 pub reached-take : {starts : List ℕ} {lent lent′ : Lent} {past : List Event} → Reached starts lent past → (batch : List ℕ) (answer : Judged)
-    → TookBatch lent batch answer lent′ → Reached starts lent′ (afterTake (lent .list) batch answer past)
+    → TookBatch lent batch answer lent′ → Reached starts lent′ (afterTake (lent .lists) batch answer past)
 reached-take {starts} {lent} {lent′} {past} r batch answer p =
     let one = one-took lent batch (batchAnswer lent batch) answer (step lent (take batch) .left) lent′ (take-promised lent batch) p in
-    one-more r (take batch) (λ k. record { lent = one .1 k; since = some (record { starts = starts; past = afterTake (lent .list) batch (one .0 k) past }) })
+    one-more r (take batch) (λ k. record { lent = one .1 k; since = some (record { starts = starts; past = afterTake (lent .lists) batch (one .0 k) past }) })
 
 -- a write-off, whatever it is answered
 pub reached-off : {starts : List ℕ} {lent lent′ : Lent} {past : List Event} → Reached starts lent past → (letter : ℕ) (answer : WrittenOff)
-    → WroteOffRun lent letter answer lent′ → Reached starts lent′ (afterWriteOff (lent .list) letter answer past)
+    → WroteOffRun lent letter answer lent′ → Reached starts lent′ (afterWriteOff (lent .lists) letter answer past)
 reached-off {starts} {lent} {lent′} {past} r letter answer p =
     let one = one-written-off (offAnswer lent letter) answer (off-promised lent letter) p in
-    one-more r (writeOff letter) (λ k. record { lent = one .1 k; since = some (record { starts = starts; past = afterWriteOff (lent .list) letter (one .0 k) past }) })
+    one-more r (writeOff letter) (λ k. record { lent = one .1 k; since = some (record { starts = starts; past = afterWriteOff (lent .lists) letter (one .0 k) past }) })

@@ -15,6 +15,7 @@ use Rattle.laws.specs.Order.{same}
 use Rattle.contracts.specs.File.{segmentsOf}
 use Rattle.contracts.specs.Lookup.{segmentOf}
 use Rattle.contracts.specs.LookupLaws.{segment-has}
+use Rattle.pairs.specs.Lists.{Lists}
 use Rattle.sequence.specs.Runs.{Run, _to_, run, names}
 use Rattle.sequence.specs.Answers.{writeOffAnswer, lowest, writtenOff}
 use Rattle.sequence.specs.Row.{gapsOf}
@@ -59,12 +60,12 @@ use Rattle.history.specs.Holds.{Holds}
 
 pub start-holds : {lent lent′ : Lent} {starts : List ℕ} → StartedBox lent starts Started.Started lent′ → Holds starts lent′ []
 start-holds {lent} {lent′} {starts} p =
-    let same-list : lent′ .list ≡ lent .list = ap (λ (l : Lent). l .list) (start-left p) in
+    let same-lists : lent′ .lists ≡ lent .lists = ap (λ (l : Lent). l .lists) (start-left p) in
     record {
-      list-sound = rw same-list (start-good p .list-sound);
+      lists-sound = rw same-lists (start-good p .lists-sound);
       state = start-leaves p;
-      gaps-fit = rw same-list λ i there. rw (gaps-started p i there) (fits-begun (startOf starts i) (start-good p .started i there));
-      records-fit = rw same-list λ slot there. no-records p slot there;
+      gaps-fit = rw same-lists λ i there. rw (gaps-started p i there) (fits-begun (startOf starts i) (start-good p .started i there));
+      records-fit = rw same-lists λ slot there. no-records p slot there;
     }
 
 -- ---- what messages of one segment leave of another's past
@@ -83,18 +84,19 @@ module _ {lent : Lent} {starts : List ℕ} {past : List Event} (h : Holds starts
   abbrev letter : ℕ
   letter = batchLetter batch
 
-  abbrev list : List ℕ
-  list = lent .list
+  abbrev lists : Lists
+  lists = lent .lists
 
   abbrev ms : List Message
-  ms = batchMessages list batch
+  ms = batchMessages lists batch
 
-  module _ (i : ℕ) (s : segmentOf list letter ≡ some i) where
-    pub box-before : BoxFits list starts i past (boxOf lent letter)
+  module _ (i : ℕ) (s : segmentOf (lists .contracts) letter ≡ some i) where
+    pub box-before : BoxFits lists starts i past (boxOf lent letter)
     box-before =
-        let there = segment-has list letter i s .0 in
-        let row : gapRowIn (lent .rows) (segmentOf list letter) ≡ gapRowOf (lent .rows) i = ap (gapRowIn (lent .rows)) s in
+        let there = segment-has (lists .contracts) letter i s .0 in
+        let row : gapRowIn (lent .rows) (segmentOf (lists .contracts) letter) ≡ gapRowOf (lent .rows) i = ap (gapRowIn (lent .rows)) s in
         record {
+          headers = h .state .headers;
           row-sound = rw row (h .state .rows-sound i there);
           gaps-fit = rw row (h .gaps-fit i there);
           records-fit = h .records-fit;
@@ -102,23 +104,23 @@ module _ {lent : Lent} {starts : List ℕ} {past : List Event} (h : Holds starts
         }
 
   module _ (box : Box) (acts : batchActs lent batch ≡ acted box) where
-    module _ (i : ℕ) (s : segmentOf list letter ≡ some i) where
-      pub batch-turned : Turned list starts i past (boxOf lent letter) ms box
+    module _ (i : ℕ) (s : segmentOf (lists .contracts) letter ≡ some i) where
+      pub batch-turned : Turned lists starts i past (boxOf lent letter) ms box
       batch-turned =
-          messages-turn list starts letter i s (countOf batch) 0 past (boxOf lent letter) (batchData batch) box (box-before i s)
+          messages-turn lists starts letter i s (countOf batch) 0 past (boxOf lent letter) (batchData batch) box (box-before i s)
           (messages-accepted lent batch box acts)
 
-      left-is : lentAfter lent letter (acted box) ≡ lends list (withGapRow (lent .rows) i (box .row)) (box .records)
-      left-is = ap (λ (o : Option ℕ). lends list (withGapRowIn (lent .rows) (box .row) o) (box .records)) s
+      left-is : lentAfter lent letter (acted box) ≡ lends lists (withGapRow (lent .rows) i (box .row)) (box .records)
+      left-is = ap (λ (o : Option ℕ). lends lists (withGapRowIn (lent .rows) (box .row) o) (box .records)) s
 
-      pub batch-holds : {lent′ : Lent} → lent′ ≡ lends list (withGapRow (lent .rows) i (box .row)) (box .records) → GoodState lent′ → Holds starts lent′ (allCame i ms past)
+      pub batch-holds : {lent′ : Lent} → lent′ ≡ lends lists (withGapRow (lent .rows) i (box .row)) (box .records) → GoodState lent′ → Holds starts lent′ (allCame i ms past)
       batch-holds {lent′} e state =
-          let same-list : lent′ .list ≡ list = ap (λ (l : Lent). l .list) e in
+          let same-lists : lent′ .lists ≡ lists = ap (λ (l : Lent). l .lists) e in
           record {
-            list-sound = rw same-list (h .list-sound);
+            lists-sound = rw same-lists (h .lists-sound);
             state = state;
-            gaps-fit = rw same-list gaps;
-            records-fit = rw (same-list, ap (λ (l : Lent). l .records) e) (batch-turned .fits .records-fit);
+            gaps-fit = rw same-lists gaps;
+            records-fit = rw (same-lists, ap (λ (l : Lent). l .records) e) (batch-turned .fits .records-fit);
           }
         where
           rows-are : lent′ .rows ≡ withGapRow (lent .rows) i (box .row)
@@ -128,9 +130,9 @@ module _ {lent : Lent} {starts : List ℕ} {past : List Event} (h : Holds starts
           wide = sound-row-exactly (box .row) .0 (batch-turned .fits .row-sound) .0
 
           room : gapRowCells * i + gapRowCells ≤ length (lent .rows)
-          room = omega (arith, segment-has list letter i s .0, h .state .rows-lent)
+          room = omega (arith, segment-has (lists .contracts) letter i s .0, h .state .rows-lent)
 
-          gaps : (j : ℕ) → j < segmentsOf list
+          gaps : (j : ℕ) → j < segmentsOf (lists .contracts)
               → Fits (startOf starts j) (takenOf j (startOf starts j) (allCame i ms past)) (wroteOffIn j (allCame i ms past)) (gapsOf (gapRowOf (lent′ .rows) j))
           gaps j there =
               ⊎-elim (λ (f : i ≡ j). rw (rows-are, ← f, row-put (lent .rows) i (box .row) room wide) (batch-turned .fits .gaps-fit))
@@ -140,7 +142,7 @@ module _ {lent : Lent} {starts : List ℕ} {past : List Event} (h : Holds starts
               (same i j)
 
   -- whatever a batch is answered
-  pub take-holds : (answer : Judged) {lent′ : Lent} → TookBatch lent batch answer lent′ → Holds starts lent′ (afterTake list batch answer past)
+  pub take-holds : (answer : Judged) {lent′ : Lent} → TookBatch lent batch answer lent′ → Holds starts lent′ (afterTake lists batch answer past)
   take-holds (judged.Accepted taken old heartbeats) {lent′} t =
       let did = accepted-box (batchActs lent batch) (t .answers) in
       let l = is-listed lent batch (did .0) (did .1) in
@@ -171,18 +173,18 @@ module _ {lent lent′ : Lent} {letter : ℕ} (first last : ℕ) (p : WroteOffRu
   unfolding writeOffRules
   both-held = last-held (segmentRules lent letter) (record { holds = ltb 0 (length (gapsOfLetter lent letter .runs)); refusal = NoGap }) held
 
-  pub off-listed : (i : ℕ) × (segmentOf (lent .list) letter ≡ some i)
-  off-listed = is-some (segmentOf (lent .list) letter) (letter-listed lent letter (both-held .0))
+  pub off-listed : (i : ℕ) × (segmentOf (lent .lists .contracts) letter ≡ some i)
+  off-listed = is-some (segmentOf (lent .lists .contracts) letter) (letter-listed lent letter (both-held .0))
 
-  pub off-answer : (i : ℕ) → segmentOf (lent .list) letter ≡ some i → writeOffAnswer (gapsOf (gapRowOf (lent .rows) i)) ≡ writtenOff first last
+  pub off-answer : (i : ℕ) → segmentOf (lent .lists .contracts) letter ≡ some i → writeOffAnswer (gapsOf (gapRowOf (lent .rows) i)) ≡ writtenOff first last
   unfolding writeOffAnswer
   off-answer i s =
       let low = answers-lowest first last p in
       rw (← gaps-are lent letter (both-held .0) i s)
       (lowest-there (gapsOfLetter lent letter .runs) first last (ltb-true 0 _ (both-held .1)) (low .0) (low .1))
 
-  module _ {starts : List ℕ} {past : List Event} (h : Holds starts lent past) (i : ℕ) (s : segmentOf (lent .list) letter ≡ some i) where
-    off-gaps : (j : ℕ) → j < segmentsOf (lent .list)
+  module _ {starts : List ℕ} {past : List Event} (h : Holds starts lent past) (i : ℕ) (s : segmentOf (lent .lists .contracts) letter ≡ some i) where
+    off-gaps : (j : ℕ) → j < segmentsOf (lent .lists .contracts)
         → Fits (startOf starts j) (takenOf j (startOf starts j) past) (wroteOffIn j (off i (first to last) ∷ past)) (gapsOf (gapRowOf (lent′ .rows) j))
     off-gaps j there =
         ⊎-elim (λ (e : i ≡ j).
@@ -196,17 +198,17 @@ module _ {lent lent′ : Lent} {letter : ℕ} (first last : ℕ) (p : WroteOffRu
     removed-holds : Holds starts lent′ (off i (first to last) ∷ past)
     removed-holds =
         let all = off-all first last p i s in
-        let same-list : lent′ .list ≡ lent .list = ap (λ (l : Lent). l .list) all in
+        let same-lists : lent′ .lists ≡ lent .lists = ap (λ (l : Lent). l .lists) all in
         record {
-          list-sound = rw same-list (h .list-sound);
+          lists-sound = rw same-lists (h .lists-sound);
           state = off-leaves first last p i s;
-          gaps-fit = rw same-list off-gaps;
-          records-fit = rw (same-list, ap (λ (l : Lent). l .records) all) (h .records-fit);
+          gaps-fit = rw same-lists off-gaps;
+          records-fit = rw (same-lists, ap (λ (l : Lent). l .records) all) (h .records-fit);
         }
 
 -- whatever a write-off is answered
 pub off-holds : {lent lent′ : Lent} {starts : List ℕ} {past : List Event} → Holds starts lent past → (letter : ℕ) (a : WrittenOff)
-    → WroteOffRun lent letter a lent′ → Holds starts lent′ (afterWriteOff (lent .list) letter a past)
+    → WroteOffRun lent letter a lent′ → Holds starts lent′ (afterWriteOff (lent .lists) letter a past)
 off-holds {lent} {lent′} {starts} {past} h letter (answer.Removed first last) p =
     let l = off-listed first last p in
     subst (λ (o : Option ℕ). Holds starts lent′ (offIn o (first to last) past)) (sym (l .1)) (removed-holds first last p h (l .0) (l .1))

@@ -12,6 +12,7 @@ use lib.ListN.{length, getD, drop}
 use Rattle.laws.specs.Rules.{Rule, firstBroken, Hold, Broken}
 use Rattle.laws.specs.RulesLaws.{unlike, none-hold, hold-none, some-broken, broken-some}
 use Rattle.contracts.specs.Lookup.{segmentOf}
+use Rattle.pairs.specs.Lists.{Lists}
 use Rattle.sequence.specs.Gaps.{most}
 use Rattle.message.specs.declared.body.What.{What}
 use Rattle.message.specs.declared.body.What.the-variants as what
@@ -63,7 +64,7 @@ few-or-many h l = omega arith
 -- messages that are all good are not refused
 pub good-unrefused : (count letter k : ℕ) (bytes : List ℕ) (m : Machine) (r : Refusal) → AllGood count letter bytes m → FirstRefused count letter k bytes m r → ⊥
 good-unrefused zero letter k bytes m r good refuses = omega (arith, good, refuses .0)
-good-unrefused (suc more) letter k bytes m r good (inl w) = good-unbroken (m .list) letter bytes (good .0) (w .0) (w .1)
+good-unrefused (suc more) letter k bytes m r good (inl w) = good-unbroken (m .lists) letter bytes (good .0) (w .0) (w .1)
 good-unrefused (suc more) letter k bytes m r good (inr (g, inl w)) = few-or-many (good .1) (w .0)
 good-unrefused (suc more) letter k bytes m r good (inr (g, inr w)) =
     good-unrefused more letter (suc k) (drop (lengthOf bytes) bytes) (comesTo letter bytes m) r (good .2) (w .1)
@@ -76,9 +77,9 @@ one-broken rules a b p q = let both : some a ≡ some b = sym (broken-some rules
 pub one-refusal : (count letter k : ℕ) (bytes : List ℕ) (m : Machine) (r s : Refusal) → FirstRefused count letter k bytes m r → FirstRefused count letter k bytes m s → r ≡ s
 one-refusal zero letter k bytes m r s p q = p .1 ∙ sym (q .1)
 one-refusal (suc more) letter k bytes m r s (inl p) (inl q) =
-    p .2 ∙ ap (λ (f : Fault). ofFault f k) (one-broken (messageRules (m .list) letter bytes) (p .0) (q .0) (p .1) (q .1)) ∙ sym (q .2)
-one-refusal (suc more) letter k bytes m r s (inl p) (inr q) = absurd (good-unbroken (m .list) letter bytes (q .0) (p .0) (p .1))
-one-refusal (suc more) letter k bytes m r s (inr p) (inl q) = absurd (good-unbroken (m .list) letter bytes (p .0) (q .0) (q .1))
+    p .2 ∙ ap (λ (f : Fault). ofFault f k) (one-broken (messageRules (m .lists) letter bytes) (p .0) (q .0) (p .1) (q .1)) ∙ sym (q .2)
+one-refusal (suc more) letter k bytes m r s (inl p) (inr q) = absurd (good-unbroken (m .lists) letter bytes (q .0) (p .0) (p .1))
+one-refusal (suc more) letter k bytes m r s (inr p) (inl q) = absurd (good-unbroken (m .lists) letter bytes (p .0) (q .0) (q .1))
 one-refusal (suc more) letter k bytes m r s (inr (g, inl p)) (inr (h, inl q)) = p .1 ∙ sym (q .1)
 one-refusal (suc more) letter k bytes m r s (inr (g, inl p)) (inr (h, inr q)) = absurd (few-or-many (q .0) (p .0))
 one-refusal (suc more) letter k bytes m r s (inr (g, inr p)) (inr (h, inl q)) = absurd (few-or-many (p .0) (q .0))
@@ -91,18 +92,18 @@ some-length : (n : ℕ) → (n ≡ 0 → ⊥) → 0 < n
 some-length zero h = absurd (h refl)
 some-length (suc n) h = omega arith
 
-module _ (list starts : List ℕ) (letter s : ℕ) (listed : segmentOf list letter ≡ some s) where
+module _ (lists : Lists) (starts : List ℕ) (letter s : ℕ) (listed : segmentOf (lists .contracts) letter ≡ some s) where
   -- what the messages do is what the machine says of them
   abbrev Turns : ℕ → ℕ → List ℕ → List Event → Acted → Type 0
-  Turns count k bytes past (acted box) = AllGood count letter bytes (machineOf list starts past)
-  Turns count k bytes past (refused r) = FirstRefused count letter k bytes (machineOf list starts past) r
+  Turns count k bytes past (acted box) = AllGood count letter bytes (machineOf lists starts past)
+  Turns count k bytes past (refused r) = FirstRefused count letter k bytes (machineOf lists starts past) r
 
-  turned : (more k : ℕ) (bytes : List ℕ) (past : List Event) → GoodMessage list letter bytes → runsStanding s (startOf starts s) (cameNext list letter s bytes past) ≤ most
-      → (a : Acted) → Turns more (suc k) (drop (lengthOf bytes) bytes) (cameNext list letter s bytes past) a → Turns (suc more) k bytes past a
-  turned more k bytes past good few (acted box) h = (good, rw (comes-is list starts letter s listed bytes past, standing-is list starts letter s listed (cameNext list letter s bytes past)) few, rw (comes-is list starts letter s listed bytes past) h)
-  turned more k bytes past good few (refused r) h = inr (good, inr (rw (comes-is list starts letter s listed bytes past, standing-is list starts letter s listed (cameNext list letter s bytes past)) few, rw (comes-is list starts letter s listed bytes past) h))
+  turned : (more k : ℕ) (bytes : List ℕ) (past : List Event) → GoodMessage lists letter bytes → runsStanding s (startOf starts s) (cameNext lists letter s bytes past) ≤ most
+      → (a : Acted) → Turns more (suc k) (drop (lengthOf bytes) bytes) (cameNext lists letter s bytes past) a → Turns (suc more) k bytes past a
+  turned more k bytes past good few (acted box) h = (good, rw (comes-is lists starts letter s listed bytes past, standing-is lists starts letter s listed (cameNext lists letter s bytes past)) few, rw (comes-is lists starts letter s listed bytes past) h)
+  turned more k bytes past good few (refused r) h = inr (good, inr (rw (comes-is lists starts letter s listed bytes past, standing-is lists starts letter s listed (cameNext lists letter s bytes past)) few, rw (comes-is lists starts letter s listed bytes past) h))
 
-  turns-as : (count k : ℕ) (past : List Event) (box : Box) (bytes : List ℕ) → BoxFits list starts s past box → Turns count k bytes past (messagesAct count list letter k box bytes)
+  turns-as : (count k : ℕ) (past : List Event) (box : Box) (bytes : List ℕ) → BoxFits lists starts s past box → Turns count k bytes past (messagesAct count lists letter k box bytes)
   unfolding messagesAct
   turns-as zero k past box bytes f = go (eqb (length bytes) 0) refl
     where
@@ -110,36 +111,36 @@ module _ (list starts : List ℕ) (letter s : ℕ) (listed : segmentOf list lett
       go true e = eqb-true (length bytes) 0 e
       go false e = (some-length (length bytes) (eqb-false (length bytes) 0 e), refl)
   turns-as (suc more) k past box bytes f =
-      go (comes list starts letter s listed past box f k bytes) (λ box′ fit. turns-as more (suc k) (cameNext list letter s bytes past) box′ (drop (lengthOf bytes) bytes) fit)
+      go (comes lists starts letter s listed past box f k bytes) (λ box′ fit. turns-as more (suc k) (cameNext lists letter s bytes past) box′ (drop (lengthOf bytes) bytes) fit)
     where
-      go : Comes list starts letter s listed past box f k bytes
-          → ((box′ : Box) → BoxFits list starts s (cameNext list letter s bytes past) box′
-          → Turns more (suc k) (drop (lengthOf bytes) bytes) (cameNext list letter s bytes past) (messagesAct more list letter (suc k) box′ (drop (lengthOf bytes) bytes)))
-          → Turns (suc more) k bytes past (messagesAct (suc more) list letter k box bytes)
+      go : Comes lists starts letter s listed past box f k bytes
+          → ((box′ : Box) → BoxFits lists starts s (cameNext lists letter s bytes past) box′
+          → Turns more (suc k) (drop (lengthOf bytes) bytes) (cameNext lists letter s bytes past) (messagesAct more lists letter (suc k) box′ (drop (lengthOf bytes) bytes)))
+          → Turns (suc more) k bytes past (messagesAct (suc more) lists letter k box bytes)
       go (bad fault acts broken) rest =
-          rw (messages-refused list letter more k box bytes (ofFault fault k) acts) (inl (fault, broken, refl))
+          rw (messages-refused lists letter more k box bytes (ofFault fault k) acts) (inl (fault, broken, refl))
       go (goes box′ acts good fit) rest =
-          rw (messages-next list letter more k box bytes box′ acts)
-          (turned more k bytes past good (box-standing list starts letter s listed (cameNext list letter s bytes past) box′ fit)
-          (messagesAct more list letter (suc k) box′ (drop (lengthOf bytes) bytes)) (rest box′ fit))
+          rw (messages-next lists letter more k box bytes box′ acts)
+          (turned more k bytes past good (box-standing lists starts letter s listed (cameNext lists letter s bytes past) box′ fit)
+          (messagesAct more lists letter (suc k) box′ (drop (lengthOf bytes) bytes)) (rest box′ fit))
       go (over acts good many) rest =
-          rw (messages-refused list letter more k box bytes (Gaps k) acts)
-          (inr (good, inl (rw (comes-is list starts letter s listed bytes past, standing-is list starts letter s listed (cameNext list letter s bytes past)) many, refl)))
+          rw (messages-refused lists letter more k box bytes (Gaps k) acts)
+          (inr (good, inl (rw (comes-is lists starts letter s listed bytes past, standing-is lists starts letter s listed (cameNext lists letter s bytes past)) many, refl)))
 
 -- where no segment has the letter the first message is bad
-unlisted : (list : List ℕ) (letter : ℕ) → segmentOf list letter ≡ none → (m : Machine) → m .list ≡ list → (count : ℕ) → 1 ≤ count → (box : Box) (bytes : List ℕ) (r : Refusal)
-    → messagesAct count list letter 0 box bytes ≡ refused r → FirstRefused count letter 0 bytes m r
-unlisted list letter u m same zero some-messages box bytes r e = absurd (omega arith)
-unlisted list letter u m same (suc more) some-messages box bytes r e = go (messageOf list letter bytes .what) refl
+unlisted : (lists : Lists) (letter : ℕ) → segmentOf (lists .contracts) letter ≡ none → (m : Machine) → m .lists ≡ lists → (count : ℕ) → 1 ≤ count → (box : Box) (bytes : List ℕ) (r : Refusal)
+    → messagesAct count lists letter 0 box bytes ≡ refused r → FirstRefused count letter 0 bytes m r
+unlisted lists letter u m same zero some-messages box bytes r e = absurd (omega arith)
+unlisted lists letter u m same (suc more) some-messages box bytes r e = go (messageOf lists letter bytes .what) refl
   where
-    go : (w : What) → messageOf list letter bytes .what ≡ w → FirstRefused (suc more) letter 0 bytes m r
+    go : (w : What) → messageOf lists letter bytes .what ≡ w → FirstRefused (suc more) letter 0 bytes m r
     go (what.Bad fault) f =
-        let stops = messages-refused list letter more 0 box bytes (ofFault fault 0) (acts-as list letter bytes (messageOf list letter bytes) refl f box 0) in
+        let stops = messages-refused lists letter more 0 box bytes (ofFault fault 0) (acts-as lists letter bytes (messageOf lists letter bytes) refl f box 0) in
         let both : refused (ofFault fault 0) ≡ refused r = sym stops ∙ e in
-        inl (fault, rw same (fault-exact list letter bytes fault .0 f), sym (same-refusal both))
-    go what.Heartbeat f = absurd (never-good list letter u bytes (ap verdictOf f))
-    go (what.PassedOver number) f = absurd (never-good list letter u bytes (ap verdictOf f))
-    go (what.Update number form place) f = absurd (never-good list letter u bytes (ap verdictOf f))
+        inl (fault, rw same (fault-exact lists letter bytes fault .0 f), sym (same-refusal both))
+    go what.Heartbeat f = absurd (never-good lists letter u bytes (ap verdictOf f))
+    go (what.PassedOver number) f = absurd (never-good lists letter u bytes (ap verdictOf f))
+    go (what.Update number form place) f = absurd (never-good lists letter u bytes (ap verdictOf f))
 
 -- ---- a whole batch
 
@@ -171,17 +172,17 @@ module _ {starts : List ℕ} {lent : Lent} {past : List Event} (r : Reached star
   abbrev letter : ℕ
   letter = batchLetter batch
 
-  abbrev list : List ℕ
-  list = lent .list
+  abbrev lists : Lists
+  lists = lent .lists
 
   abbrev now : Machine
-  now = machineOf list starts past
+  now = machineOf lists starts past
 
   state : Hold (stateRules lent)
   state = state-exact lent .1 (reached-holds r .state)
 
   -- 01 "What the proof settles": the counts are those of the history
-  pub counts : (taken old heartbeats : ℕ) → JudgedBatch lent batch (Judged.Accepted taken old heartbeats) → CountsCame list starts past batch taken old heartbeats
+  pub counts : (taken old heartbeats : ℕ) → JudgedBatch lent batch (Judged.Accepted taken old heartbeats) → CountsCame lists starts past batch taken old heartbeats
   counts taken old heartbeats p =
       let did = accepted-box (batchActs lent batch) (p .answers) in
       let l = is-listed lent batch (did .0) (did .1) in
@@ -196,31 +197,31 @@ module _ {starts : List ℕ} {lent : Lent} {past : List Event} (r : Reached star
       }
 
   -- what the machine counts is what the past counts
-  module _ (s : ℕ) (listed : segmentOf list letter ≡ some s) where
+  module _ (s : ℕ) (listed : segmentOf (lists .contracts) letter ≡ some s) where
     abbrev first : ℕ
     first = startOf starts s
 
-    taken-same : (before : List Event) (m : Message) → isTakenFor letter (machineOf list starts before) m ≡ isTaken s first before m
-    taken-same before m = ap (λ (o : Option ℕ). inSegment o false (λ i. takesIn (machineOf list starts before) i m)) listed
+    taken-same : (before : List Event) (m : Message) → isTakenFor letter (machineOf lists starts before) m ≡ isTaken s first before m
+    taken-same before m = ap (λ (o : Option ℕ). inSegment o false (λ i. takesIn (machineOf lists starts before) i m)) listed
 
     abbrev count : (Machine → Message → Bool) → ℕ
     count test = counted test (countOf batch) letter (batchData batch) now
 
-    count-same : (test : Machine → Message → Bool) (tests : List Event → Message → Bool) → ((before : List Event) (m : Message) → test (machineOf list starts before) m ≡ tests before m)
-        → count test ≡ howMany tests s (batchMessages list batch) past
-    count-same test tests same = counts-are list starts letter s listed test tests same (countOf batch) (batchData batch) past
+    count-same : (test : Machine → Message → Bool) (tests : List Event → Message → Bool) → ((before : List Event) (m : Message) → test (machineOf lists starts before) m ≡ tests before m)
+        → count test ≡ howMany tests s (batchMessages lists batch) past
+    count-same test tests same = counts-are lists starts letter s listed test tests same (countOf batch) (batchData batch) past
 
   judges : (answer : Judged) → JudgedBatch lent batch answer → Judges now batch answer
   judges (Judged.Accepted t o h) p =
       let did = accepted-box (batchActs lent batch) (p .answers) in
       let c = counts t o h p in
       let s : ℕ = c .segment in
-      let turns = turns-as list starts letter s (c .listed) (countOf batch) 0 past (boxOf lent letter) (batchData batch) (box-before (reached-holds r) batch s (c .listed)) in
+      let turns = turns-as lists starts letter s (c .listed) (countOf batch) 0 past (boxOf lent letter) (batchData batch) (box-before (reached-holds r) batch s (c .listed)) in
       record {
         good =
             record {
               front = good-front lent batch (did .0) (did .1);
-              messages = subst (Turns list starts letter s (c .listed) (countOf batch) 0 (batchData batch) past) (messages-accepted lent batch (did .0) (did .1)) turns;
+              messages = subst (Turns lists starts letter s (c .listed) (countOf batch) 0 (batchData batch) past) (messages-accepted lent batch (did .0) (did .1)) turns;
             };
         taken-are = c .taken-are ∙ sym (count-same s (c .listed) (isTakenFor letter) (isTaken s (startOf starts s)) (taken-same s (c .listed)));
         old-are =
@@ -236,17 +237,17 @@ module _ {starts : List ℕ} {lent : Lent} {past : List Event} (r : Reached star
           let same : q ≡ did .0 = refusal-told q (did .0) (p .answers ∙ ap actedNumbers (did .1)) in
           did .1 ∙ ap refused (sym same)
 
-      listed : Hold (batchRules batch) → (o : Option ℕ) → segmentOf list letter ≡ o → Judges now batch (Judged.Refused q)
+      listed : Hold (batchRules batch) → (o : Option ℕ) → segmentOf (lists .contracts) letter ≡ o → Judges now batch (Judged.Refused q)
       listed h none u =
           let good = front-exact batch .0 h in
-          in-turn good (unlisted list letter u now refl (countOf batch) (good .some-messages) (boxOf lent letter) (batchData batch) q (sym (messages-decide lent batch state h) ∙ fell))
+          in-turn good (unlisted lists letter u now refl (countOf batch) (good .some-messages) (boxOf lent letter) (batchData batch) q (sym (messages-decide lent batch state h) ∙ fell))
       listed h (some s) l =
           in-turn (front-exact batch .0 h)
-          (subst (Turns list starts letter s l (countOf batch) 0 (batchData batch) past) (sym (messages-decide lent batch state h) ∙ fell)
-          (turns-as list starts letter s l (countOf batch) 0 past (boxOf lent letter) (batchData batch) (box-before (reached-holds r) batch s l)))
+          (subst (Turns lists starts letter s l (countOf batch) 0 (batchData batch) past) (sym (messages-decide lent batch state h) ∙ fell)
+          (turns-as lists starts letter s l (countOf batch) 0 past (boxOf lent letter) (batchData batch) (box-before (reached-holds r) batch s l)))
 
       front : (o : Option Refusal) → firstBroken (batchRules batch) ≡ o → Judges now batch (Judged.Refused q)
-      front none h = listed (none-hold (batchRules batch) h) (segmentOf list letter) refl
+      front none h = listed (none-hold (batchRules batch) h) (segmentOf (lists .contracts) letter) refl
       front (some other) h =
           let same : other ≡ q = same-refusal (sym (front-refuses lent batch state other h) ∙ fell) in
           in-front (rw same at (some-broken (batchRules batch) other h))

@@ -10,41 +10,50 @@ use borrow.Author.Tests.{lt-ltb, eq-eqb, ne-eqb, eqb-true}
 use lib.Dec.{ltb, eqb}
 use lib.ListN.{length, getD, take, drop, replicate}
 use lib.Seq.{sets}
+use Rattle.pairs.specs.Lists.{Lists}
 use Rattle.laws.specs.Choice.{either}
-use Rattle.laws.specs.Tests.{all-three}
+use Rattle.laws.specs.Tests.{all-four}
 use Rattle.forms.specs.declared.rows.Level.{Level}
 use Rattle.forms.specs.declared.rows.Level.the-variants.{One, Two}
-use Rattle.quote.specs.declared.quote.Quote.{Quote}
+use Rattle.forms.specs.declared.forms.Item.{Item}
+use Rattle.forms.specs.declared.forms.Item.the-variants.{Contract, Pair}
 use Rattle.layout.specs.Cells.{zerosBehind}
 use Rattle.quote.specs.Quote.{cellsOf}
+use Rattle.quote.specs.Spread.{spreadCellsOf}
 use Rattle.forms.specs.declared.forms.Subject.{Subject}
-use Rattle.forms.specs.declared.forms.Subject.the-variants.{Nothing, Contract}
-use Rattle.forms.specs.Forms.{namedRows, rowsOf, sameLevel, subjectOf}
-use Rattle.forms.specs.Sizes.{keyRowCount}
+use Rattle.forms.specs.declared.forms.Subject.the-variants.{Nothing, Of}
+use Rattle.pairs.specs.Lists.{Headers}
+use Rattle.forms.specs.Forms.{namedRows, rowsOf, sameLevel, sameItem, subjectOf, keyRowsOf}
 use Rattle.message.specs.declared.body.What.{What}
 use Rattle.message.specs.declared.body.What.the-variants as what
 use Rattle.message.specs.Message.{Message}
 use Rattle.stores.specs.Stored.{stored}
-use Rattle.state.specs.Slots.{Slot, contract, slotFor, SlotListed, recordsWanted}
+use Rattle.state.specs.Slots.{Slot, slot as recordSlot, slotFor, SlotListed, recordsWanted}
 use Rattle.state.specs.Places.{formFor, slotAt, slotCells, recordOf, recordRows}
 use Rattle.state.specs.SlotsLaws.{cells-by-rows, slot-inside, slot-some, slots-apart}
-use Rattle.history.specs.Updates.{sameSlot, slotOf, isSlot, segmentIn, levelIn}
+use Rattle.history.specs.Shown.{QuoteFor, cellsFor}
+use Rattle.history.specs.Updates.{sameSlot, slotOf, isSlot, segmentIn, itemIn, levelIn}
 use Rattle.history.specs.Kept.{RecordHolds, HoldsUpdate}
 use Rattle.history.specs.StoresLaws.{part-first, stored-here, stored-apart}
 use Rattle.history.specs.Machine.{sequenceNumber, higher}
 
 -- ---- the cells of an update
 
-pub quote-long : (slot : Slot) (quote : Quote) → length (recordOf (levelIn slot) (cellsOf (formFor slot) quote)) ≡ recordRows (levelIn slot)
-unfolding recordRows rowsOf namedRows cellsOf
-quote-long (contract i place One) quote = refl
-quote-long (contract i place Two) quote = refl
+pub quote-long : (slot : Slot) (quote : QuoteFor (itemIn slot)) → length (recordOf (itemIn slot) (levelIn slot) (cellsFor (itemIn slot) (formFor slot) quote)) ≡ recordRows (itemIn slot) (levelIn slot)
+unfolding recordRows rowsOf namedRows cellsOf spreadCellsOf
+quote-long (recordSlot Contract i place One) quote = refl
+quote-long (recordSlot Contract i place Two) quote = refl
+quote-long (recordSlot Pair i place One) quote = refl
+quote-long (recordSlot Pair i place Two) quote = refl
 
 -- the key's cells are 0, and so are those behind the last row
-pub quote-cells : (slot : Slot) (quote : Quote) → zerosBehind (replicate keyRowCount 0 ++ recordOf (levelIn slot) (cellsOf (formFor slot) quote)) ≡ cellsOf (formFor slot) quote
-unfolding rowsOf namedRows cellsOf
-quote-cells (contract i place One) quote = refl
-quote-cells (contract i place Two) quote = refl
+pub quote-cells : (slot : Slot) (quote : QuoteFor (itemIn slot))
+    → zerosBehind (replicate (keyRowsOf (itemIn slot)) 0 ++ recordOf (itemIn slot) (levelIn slot) (cellsFor (itemIn slot) (formFor slot) quote)) ≡ cellsFor (itemIn slot) (formFor slot) quote
+unfolding rowsOf namedRows cellsOf spreadCellsOf
+quote-cells (recordSlot Contract i place One) quote = refl
+quote-cells (recordSlot Contract i place Two) quote = refl
+quote-cells (recordSlot Pair i place One) quote = refl
+quote-cells (recordSlot Pair i place Two) quote = refl
 
 -- ---- one slot or another
 
@@ -54,32 +63,41 @@ same-level One Two e = cc
 same-level Two One e = cc
 same-level Two Two e = refl
 
+same-item : (a b : Item) → sameItem a b ≡ true → a ≡ b
+same-item Contract Contract e = refl
+same-item Contract Pair e = cc
+same-item Pair Contract e = cc
+same-item Pair Pair e = refl
+
 pub same-slot : (a b : Slot) → sameSlot a b ≡ true → a ≡ b
-same-slot (contract i p x) (contract j q y) e =
-    let parts = all-three (eqb i j) (eqb p q) (sameLevel x y) e in
+same-slot (recordSlot a i p x) (recordSlot b j q y) e =
+    let parts = all-four (eqb i j) (eqb p q) (sameLevel x y) (sameItem a b) e in
     let segments = eqb-true i j (parts .0) in
     let places = eqb-true p q (parts .1) in
     let levels = same-level x y (parts .2) in
-    λ k. contract (segments k) (places k) (levels k)
+    let items = same-item a b (parts .3) in
+    λ k. recordSlot (items k) (segments k) (places k) (levels k)
 
 pub slot-itself : (a : Slot) → sameSlot a a ≡ true
-slot-itself (contract i p One) = simp (eq-eqb i i refl, eq-eqb p p refl)
-slot-itself (contract i p Two) = simp (eq-eqb i i refl, eq-eqb p p refl)
+slot-itself (recordSlot Contract i p One) = simp (eq-eqb i i refl, eq-eqb p p refl)
+slot-itself (recordSlot Contract i p Two) = simp (eq-eqb i i refl, eq-eqb p p refl)
+slot-itself (recordSlot Pair i p One) = simp (eq-eqb i i refl, eq-eqb p p refl)
+slot-itself (recordSlot Pair i p Two) = simp (eq-eqb i i refl, eq-eqb p p refl)
 
 -- a message of another segment is no update of a slot
 pub not-its : (slot : Slot) (i : ℕ) (w : What) → (i ≡ segmentIn slot → ⊥) → isSlot slot (slotOf i w) ≡ false
-not-its (contract j p x) i what.Heartbeat n = refl
-not-its (contract j p x) i (what.PassedOver number) n = refl
-not-its (contract j p x) i (what.Bad fault) n = refl
-not-its (contract j p x) i (what.Update number form place) n = go (subjectOf form)
+not-its (recordSlot a j p x) i what.Heartbeat n = refl
+not-its (recordSlot a j p x) i (what.PassedOver number) n = refl
+not-its (recordSlot a j p x) i (what.Bad fault) n = refl
+not-its (recordSlot a j p x) i (what.Update number form place) n = go (subjectOf form)
   where
-    go : (s : Subject) → isSlot (contract j p x) (slotFor s i place) ≡ false
+    go : (s : Subject) → isSlot (recordSlot a j p x) (slotFor s i place) ≡ false
     go Nothing = refl
-    go (Contract level) = simp (ne-eqb i j n)
+    go (Of item level) = simp (ne-eqb i j n)
 
 -- a slot's cells: its number, then one a row
-pub slot-rows : (slot : Slot) → slotCells slot ≡ suc (recordRows (levelIn slot))
-slot-rows (contract i p level) = cells-by-rows level
+pub slot-rows : (slot : Slot) → slotCells slot ≡ suc (recordRows (itemIn slot) (levelIn slot))
+slot-rows (recordSlot item i p level) = cells-by-rows item level
 
 -- ---- an update stored
 
@@ -88,22 +106,22 @@ abbrev pub heldNumber : Option Message → ℕ
 heldNumber none = 0
 heldNumber (some m) = sequenceNumber m
 
-module _ (list records : List ℕ) (slot : Slot) where
+module _ (lists : Lists) (records : List ℕ) (slot : Slot) where
   abbrev at : ℕ
-  at = slotAt list slot
+  at = slotAt lists slot
 
-  pub kept-number : (o : Option Message) → RecordHolds list records slot o → getD records at 0 ≡ heldNumber o
+  pub kept-number : (o : Option Message) → RecordHolds lists records slot o → getD records at 0 ≡ heldNumber o
   kept-number none k = k
   kept-number (some m) k = sym (part-first records at (slotCells slot) (slot-some slot)) ∙ ap (λ (l : List ℕ). getD l 0 0) (k .cells-kept)
 
-  module _ (m : Message) (some-number : 0 < sequenceNumber m) (quote : Quote) (of-quote : m .cells ≡ cellsOf (formFor slot) quote) (room : at + slotCells slot ≤ length records) where
+  module _ (m : Message) (some-number : 0 < sequenceNumber m) (quote : QuoteFor (itemIn slot)) (of-quote : m .cells ≡ cellsFor (itemIn slot) (formFor slot) quote) (room : at + slotCells slot ≤ length records) where
     abbrev own : List ℕ
-    own = sequenceNumber m ∷ recordOf (levelIn slot) (m .cells)
+    own = sequenceNumber m ∷ recordOf (itemIn slot) (levelIn slot) (m .cells)
 
     own-long : length own ≡ slotCells slot
-    own-long = ap suc (ap (λ (cells : List ℕ). length (recordOf (levelIn slot) cells)) of-quote ∙ quote-long slot quote) ∙ sym (slot-rows slot)
+    own-long = ap suc (ap (λ (cells : List ℕ). length (recordOf (itemIn slot) (levelIn slot) cells)) of-quote ∙ quote-long slot quote) ∙ sym (slot-rows slot)
 
-    put : HoldsUpdate list (sets records at own) slot m
+    put : HoldsUpdate lists (sets records at own) slot m
     put =
         let long = own-long in
         record {
@@ -114,7 +132,7 @@ module _ (list records : List ℕ) (slot : Slot) where
         }
 
     -- "replaces its contract's record at its level only if its number is greater than the record's"
-    pub kept-stored : (o : Option Message) → RecordHolds list records slot o → RecordHolds list (stored at (sequenceNumber m) (recordOf (levelIn slot) (m .cells)) records) slot (higher m o)
+    pub kept-stored : (o : Option Message) → RecordHolds lists records slot o → RecordHolds lists (stored at (sequenceNumber m) (recordOf (itemIn slot) (levelIn slot) (m .cells)) records) slot (higher m o)
     kept-stored none k = rw (k, lt-ltb 0 (sequenceNumber m) some-number) put
     kept-stored (some other) k =
         rw (kept-number (some other) k)
@@ -123,7 +141,7 @@ module _ (list records : List ℕ) (slot : Slot) where
   -- what is stored apart changes nothing
   kept-apart : (at′ number : ℕ) (cells : List ℕ) → at′ + suc (length cells) ≤ length records
       → (at + slotCells slot ≤ at′) ⊎ (at′ + suc (length cells) ≤ at)
-      → (o : Option Message) → RecordHolds list records slot o → RecordHolds list (stored at′ number cells records) slot o
+      → (o : Option Message) → RecordHolds lists records slot o → RecordHolds lists (stored at′ number cells records) slot o
   kept-apart at′ number cells room apart o k =
       ⊎-elim (λ (e : ltb (getD records at′ 0) number ≡ true). rw e (moved o k)) (λ (e : ltb (getD records at′ 0) number ≡ false). rw e k) (either (ltb (getD records at′ 0) number))
     where
@@ -133,40 +151,40 @@ module _ (list records : List ℕ) (slot : Slot) where
       part : take (slotCells slot) (drop at new) ≡ take (slotCells slot) (drop at records)
       part = stored-apart records (number ∷ cells) at′ room at (slotCells slot) apart
 
-      moved : (o : Option Message) → RecordHolds list records slot o → RecordHolds list new slot o
+      moved : (o : Option Message) → RecordHolds lists records slot o → RecordHolds lists new slot o
       moved none k =
           sym (part-first new at (slotCells slot) (slot-some slot)) ∙ ap (λ (l : List ℕ). getD l 0 0) part
           ∙ part-first records at (slotCells slot) (slot-some slot) ∙ k
       moved (some m) k = record { cells-kept = part ∙ k .cells-kept; some-number = k .some-number; quote = k .quote; of-quote = k .of-quote }
 
 -- an update stored in its slot changes that one's record alone
-module _ (list records : List ℕ) (long : recordsWanted list ≤ length records) (own : Slot) (there : SlotListed list own)
-    (m : Message) (some-number : 0 < sequenceNumber m) (quote : Quote) (of-quote : m .cells ≡ cellsOf (formFor own) quote) where
+module _ (lists : Lists) (headers : Headers lists) (records : List ℕ) (long : recordsWanted lists ≤ length records) (own : Slot) (there : SlotListed lists own)
+    (m : Message) (some-number : 0 < sequenceNumber m) (quote : QuoteFor (itemIn own)) (of-quote : m .cells ≡ cellsFor (itemIn own) (formFor own) quote) where
   abbrev cells : List ℕ
-  cells = recordOf (levelIn own) (m .cells)
+  cells = recordOf (itemIn own) (levelIn own) (m .cells)
 
   abbrev new : List ℕ
-  new = stored (slotAt list own) (sequenceNumber m) cells records
+  new = stored (slotAt lists own) (sequenceNumber m) cells records
 
-  room : slotAt list own + slotCells own ≤ length records
-  room = omega (arith, slot-inside list own there)
+  room : slotAt lists own + slotCells own ≤ length records
+  room = omega (arith, slot-inside lists headers own there)
 
   cells-long : suc (length cells) ≡ slotCells own
-  cells-long = own-long list records own m some-number quote of-quote room
+  cells-long = own-long lists records own m some-number quote of-quote room
 
-  pub update-changes : (slot : Slot) → SlotListed list slot → (o : Option Message) → RecordHolds list records slot o → RecordHolds list new slot (cond (sameSlot own slot) (higher m o) o)
+  pub update-changes : (slot : Slot) → SlotListed lists slot → (o : Option Message) → RecordHolds lists records slot o → RecordHolds lists new slot (cond (sameSlot own slot) (higher m o) o)
   update-changes slot listed o k =
       ⊎-elim (λ (e : sameSlot own slot ≡ true). rw e (here (same-slot own slot e)))
       (λ (e : sameSlot own slot ≡ false).
       rw e
-      (kept-apart list records slot (slotAt list own) (sequenceNumber m) cells (subst (λ (n : ℕ). slotAt list own + n ≤ length records) (sym cells-long) room)
-      (⊎-elim (λ (b : slotAt list own + slotCells own ≤ slotAt list slot). inr (subst (λ (n : ℕ). slotAt list own + n ≤ slotAt list slot) (sym cells-long) b))
-      (λ (b : slotAt list slot + slotCells slot ≤ slotAt list own). inl b)
-      (slots-apart list own slot there listed (λ f. true≢false (sym (slot-itself own) ∙ ap (sameSlot own) f ∙ e))))
+      (kept-apart lists records slot (slotAt lists own) (sequenceNumber m) cells (subst (λ (n : ℕ). slotAt lists own + n ≤ length records) (sym cells-long) room)
+      (⊎-elim (λ (b : slotAt lists own + slotCells own ≤ slotAt lists slot). inr (subst (λ (n : ℕ). slotAt lists own + n ≤ slotAt lists slot) (sym cells-long) b))
+      (λ (b : slotAt lists slot + slotCells slot ≤ slotAt lists own). inl b)
+      (slots-apart lists headers own slot there listed (λ f. true≢false (sym (slot-itself own) ∙ ap (sameSlot own) f ∙ e))))
       o k))
       (either (sameSlot own slot))
     where
-      here : own ≡ slot → RecordHolds list new slot (higher m o)
+      here : own ≡ slot → RecordHolds lists new slot (higher m o)
       here f =
-          subst (λ (s : Slot). RecordHolds list new s (higher m o)) f
-          (kept-stored list records own m some-number quote of-quote room o (subst (λ (s : Slot). RecordHolds list records s o) (sym f) k))
+          subst (λ (s : Slot). RecordHolds lists new s (higher m o)) f
+          (kept-stored lists records own m some-number quote of-quote room o (subst (λ (s : Slot). RecordHolds lists records s o) (sym f) k))

@@ -71,7 +71,7 @@ module _ {g : Gaps} (s : SoundGaps g) where
 
 -- ---- the theorem
 
-module _ {starts : List ℕ} {lent : Lent} {past : List Event} (r : Reached starts lent past) (letter i : ℕ) (s : segmentOf (lent .list) letter ≡ some i) where
+module _ {starts : List ℕ} {lent : Lent} {past : List Event} (r : Reached starts lent past) (letter i : ℕ) (s : segmentOf (lent .lists .contracts) letter ≡ some i) where
   abbrev start : ℕ
   start = startOf starts i
 
@@ -79,7 +79,7 @@ module _ {starts : List ℕ} {lent : Lent} {past : List Event} (r : Reached star
   segment-good = segment-holds lent letter (good-unrefused lent (reached-holds r .state)) i s
 
   pub fits-here : Fits start (takenOf i start past) (wroteOffIn i past) (gapsOfLetter lent letter)
-  fits-here = rw (gaps-are lent letter segment-good i s) (reached-holds r .gaps-fit i (segment-has (lent .list) letter i s .0))
+  fits-here = rw (gaps-are lent letter segment-good i s) (reached-holds r .gaps-fit i (segment-has (lent .lists .contracts) letter i s .0))
 
   -- as many runs stand as the missing numbers make
   pub runs-are : length (gapsOfLetter lent letter .runs) ≡ runsStanding i start past

@@ -1,5 +1,5 @@
 -- The box as an abstract machine: its state as sets and maps, what each call answers in terms of it, and the state that it leaves.
--- The demands read from this page. `MachineLaws` proves that the calls refine it, after every history.
+-- The demands read from this page. `RefinesLaws` proves that the calls refine it, after every history.
 use Prim.Native.Nat.{ℕ, zero, suc, _+_, _-_, _*_, _≤_, _<_, max}
 use mathlib.Core.Path.{_≡_}
 use mathlib.Core.Bool.{Bool, true, false, not, cond, _&&_, _||_}
@@ -10,13 +10,14 @@ use lib.Dec.{leb, ltb, eqb}
 use lib.ListN.{length, take, drop}
 use Rattle.laws.specs.Rules.{Broken}
 use Rattle.contracts.specs.Lookup.{segmentOf}
+use Rattle.pairs.specs.Lists.{Lists}
 use Rattle.sequence.specs.Apart.{Apart}
 use Rattle.sequence.specs.Gaps.{most}
 use Rattle.sequence.specs.Row.{pairs}
 use Rattle.sequence.specs.Runs.{Run, _to_, run, names, missing, runsIn}
 use Rattle.forms.specs.declared.rows.Level.{Level}
+use Rattle.forms.specs.declared.forms.Item.{Item}
 use Rattle.forms.specs.Forms.{recordForm}
-use Rattle.quote.specs.Quote.{quoteOf}
 use Rattle.message.specs.declared.body.What.{What}
 use Rattle.message.specs.declared.body.What.the-variants.{Heartbeat, PassedOver, Update, Bad}
 use Rattle.message.specs.declared.head.Fault.{Fault}
@@ -37,13 +38,13 @@ use Rattle.state.specs.Refusals.{ofFault}
 use Rattle.state.specs.Slots.{Slot, SlotListed}
 use Rattle.batch.specs.Batch.{batchLetter, countOf, batchData, batchRules}
 use Rattle.batch.specs.Good.{GoodFront}
-use Rattle.writer.specs.WriterPromises.{WroteMessage}
-use Rattle.quotebox.specs.declared.record.Reading.{Reading}
-use Rattle.quotebox.specs.Record.{blank}
+use Rattle.writer.specs.WriterPromises.{WroteMessage, WroteSpread}
+use Rattle.quotebox.specs.CallPromises.{PutNoSpreads}
 use Rattle.quotebox.specs.Start.{startOf, startRules, GoodStart}
 use Rattle.history.specs.Calls as calls
 use Rattle.history.specs.Calls.{Call, Answer}
-use Rattle.history.specs.Updates.{segmentIn, levelIn, letterIn, keyIn, isOf}
+use Rattle.history.specs.Shown.{QuoteFor, shown, blankFor}
+use Rattle.history.specs.Updates.{segmentIn, itemIn, levelIn, letterIn, keyIn, isOf}
 
 -- ---- words: what is taken, what is missing
 
@@ -129,18 +130,18 @@ pub record LowestRun (held : ℕ → Bool) (first last : ℕ) : Type 0 where
 
 -- ---- the state
 
--- 01 "Sequence and gaps", "What may be asked": the list in use; of each segment its start number, the messages taken and the numbers
+-- 01 "Sequence and gaps", "What may be asked": the lists in use; of each segment its start number, the messages taken and the numbers
 -- written off; of each slot its highest-numbered update taken, if there is one
 pub record Machine : Type 0 where
-  pub list : List ℕ
+  pub lists : Lists
   pub start : ℕ → ℕ
   pub taken : ℕ → List Message
   pub off : ℕ → ℕ → Bool
   pub newest : Slot → Option Message
 
 -- 01 "Sequence and gaps": at a start nothing was taken, nothing written off, and there is no record
-abbrev pub begun : List ℕ → List ℕ → Machine
-begun list starts = record { list = list; start = startOf starts; taken = λ i. []; off = λ i n. false; newest = λ slot. none }
+abbrev pub begun : Lists → List ℕ → Machine
+begun lists starts = record { lists = lists; start = startOf starts; taken = λ i. []; off = λ i n. false; newest = λ slot. none }
 
 -- 01 "Sequence and gaps": the highest of a segment
 abbrev pub highest : Machine → ℕ → ℕ
@@ -163,7 +164,7 @@ takesIn m i message = comesNew (m .start i) (m .taken i) (m .off i) message
 abbrev pub arrives : ℕ → Message → Machine → Machine
 arrives i message m =
     record {
-      list = m .list;
+      lists = m .lists;
       start = m .start;
       taken = λ j. cond (eqb i j) (taking (m .start j) (m .off j) message (m .taken j)) (m .taken j);
       off = m .off;
@@ -174,7 +175,7 @@ arrives i message m =
 -- 01 "Sequence and gaps": a run is written off of segment i
 abbrev pub writtenOff : ℕ → Run → Machine → Machine
 writtenOff i r m =
-    record { list = m .list; start = m .start; taken = m .taken; off = λ j n. eqb i j && names r n || m .off j n; newest = m .newest }
+    record { lists = m .lists; start = m .start; taken = m .taken; off = λ j n. eqb i j && names r n || m .off j n; newest = m .newest }
 
 -- ---- judging and taking a batch
 
@@ -185,11 +186,11 @@ inSegment (some i) other of = of i
 
 -- 01 "Sequence and gaps": the machine when the message that bytes begin with has come
 abbrev pub comesTo : ℕ → List ℕ → Machine → Machine
-comesTo letter bytes m = inSegment (segmentOf (m .list) letter) m (λ i. arrives i (messageOf (m .list) letter bytes) m)
+comesTo letter bytes m = inSegment (segmentOf (m .lists .contracts) letter) m (λ i. arrives i (messageOf (m .lists) letter bytes) m)
 
 -- 01 "Sequence and gaps": how many runs stand in the segment of a letter
 abbrev pub standingFor : ℕ → Machine → ℕ
-standingFor letter m = inSegment (segmentOf (m .list) letter) 0 (standing m)
+standingFor letter m = inSegment (segmentOf (m .lists .contracts) letter) 0 (standing m)
 
 -- 01 "Sequence and gaps": "Messages of one batch act in turn": the machine when so many messages have come
 abbrev pub allCome : ℕ → ℕ → List ℕ → Machine → Machine
@@ -201,7 +202,7 @@ allCome (suc more) letter bytes m = allCome more letter (drop (lengthOf bytes) b
 abbrev pub AllGood : ℕ → ℕ → List ℕ → Machine → Type 0
 AllGood zero letter bytes m = length bytes ≡ 0
 AllGood (suc more) letter bytes m =
-    GoodMessage (m .list) letter bytes × (standingFor letter (comesTo letter bytes m) ≤ most)
+    GoodMessage (m .lists) letter bytes × (standingFor letter (comesTo letter bytes m) ≤ most)
     × AllGood more letter (drop (lengthOf bytes) bytes) (comesTo letter bytes m)
 
 -- 01, the order of checks: the first that is not is message k, with its first fault of 5 to 13, or with 14; or bytes stand behind the
@@ -209,8 +210,8 @@ AllGood (suc more) letter bytes m =
 abbrev pub FirstRefused : ℕ → ℕ → ℕ → List ℕ → Machine → Refusal → Type 0
 FirstRefused zero letter k bytes m r = (0 < length bytes) × (r ≡ refusal.Count)
 FirstRefused (suc more) letter k bytes m r =
-    ((fault : Fault) × Broken (messageRules (m .list) letter bytes) fault × (r ≡ ofFault fault k))
-    ⊎ (GoodMessage (m .list) letter bytes
+    ((fault : Fault) × Broken (messageRules (m .lists) letter bytes) fault × (r ≡ ofFault fault k))
+    ⊎ (GoodMessage (m .lists) letter bytes
     × ((TooMany (standingFor letter (comesTo letter bytes m)) × (r ≡ refusal.Gaps k))
     ⊎ ((standingFor letter (comesTo letter bytes m) ≤ most) × FirstRefused more letter (suc k) (drop (lengthOf bytes) bytes) (comesTo letter bytes m) r)))
 
@@ -218,11 +219,11 @@ FirstRefused (suc more) letter k bytes m r =
 abbrev pub counted : (Machine → Message → Bool) → ℕ → ℕ → List ℕ → Machine → ℕ
 counted test zero letter bytes m = 0
 counted test (suc more) letter bytes m =
-    cond (test m (messageOf (m .list) letter bytes)) 1 0 + counted test more letter (drop (lengthOf bytes) bytes) (comesTo letter bytes m)
+    cond (test m (messageOf (m .lists) letter bytes)) 1 0 + counted test more letter (drop (lengthOf bytes) bytes) (comesTo letter bytes m)
 
 -- 01 "Sequence and gaps": "A number above highest, or missing, is taken"
 abbrev pub isTakenFor : ℕ → Machine → Message → Bool
-isTakenFor letter m message = inSegment (segmentOf (m .list) letter) false (λ i. takesIn m i message)
+isTakenFor letter m message = inSegment (segmentOf (m .lists .contracts) letter) false (λ i. takesIn m i message)
 
 -- 01 "Sequence and gaps": "All others are old"
 abbrev pub isOldFor : ℕ → Machine → Message → Bool
@@ -263,60 +264,67 @@ tookBatch m batch (Judged.Refused r) = m
 -- ---- the other calls
 
 -- 01 "What may be asked": "List gaps answers highest and the number of runs, and puts the runs in lent cells"; 6, then 15
-pub data Lists (m : Machine) (letter : ℕ) (cells : List ℕ) : Listed → List ℕ → Type 0 where
-  no-letter : (LetterListed (m .list) letter → ⊥) → Lists m letter cells (Listed.Refused (refusal.Code 0)) cells
-  too-few : (i : ℕ) → segmentOf (m .list) letter ≡ some i → length cells < 2 * standing m i
-      → Lists m letter cells (Listed.Refused (refusal.Memory (2 * standing m i))) cells
-  all-runs : (i : ℕ) → segmentOf (m .list) letter ≡ some i → (top runs : ℕ) (cells′ : List ℕ) → 2 * runs ≤ length cells
+pub data ListsGaps (m : Machine) (letter : ℕ) (cells : List ℕ) : Listed → List ℕ → Type 0 where
+  no-letter : (LetterListed (m .lists .contracts) letter → ⊥) → ListsGaps m letter cells (Listed.Refused (refusal.Code 0)) cells
+  too-few : (i : ℕ) → segmentOf (m .lists .contracts) letter ≡ some i → length cells < 2 * standing m i
+      → ListsGaps m letter cells (Listed.Refused (refusal.Memory (2 * standing m i))) cells
+  all-runs : (i : ℕ) → segmentOf (m .lists .contracts) letter ≡ some i → (top runs : ℕ) (cells′ : List ℕ) → 2 * runs ≤ length cells
       → NamesExactly (m .start i) (highest m i) (isMissing m i) top runs cells′ → drop (2 * runs) cells′ ≡ drop (2 * runs) cells
-      → Lists m letter cells (Listed.Runs top runs) cells′
+      → ListsGaps m letter cells (Listed.Runs top runs) cells′
 
 -- 01 "What may be asked": "a write-off answers the run it removed", the lowest; 6, then 17
 pub data WritesOff (m : Machine) (letter : ℕ) : WrittenOff → Machine → Type 0 where
-  no-letter : (LetterListed (m .list) letter → ⊥) → WritesOff m letter (WrittenOff.Refused (refusal.Code 0)) m
-  no-gap : (i : ℕ) → segmentOf (m .list) letter ≡ some i → ((n : ℕ) → isMissing m i n ≡ false) → WritesOff m letter (WrittenOff.Refused refusal.NoGap) m
-  the-lowest : (i : ℕ) → segmentOf (m .list) letter ≡ some i → (first last : ℕ) → LowestRun (isMissing m i) first last
+  no-letter : (LetterListed (m .lists .contracts) letter → ⊥) → WritesOff m letter (WrittenOff.Refused (refusal.Code 0)) m
+  no-gap : (i : ℕ) → segmentOf (m .lists .contracts) letter ≡ some i → ((n : ℕ) → isMissing m i n ≡ false) → WritesOff m letter (WrittenOff.Refused refusal.NoGap) m
+  the-lowest : (i : ℕ) → segmentOf (m .lists .contracts) letter ≡ some i → (first last : ℕ) → LowestRun (isMissing m i) first last
       → WritesOff m letter (WrittenOff.Removed first last) (writtenOff i (first to last) m)
 
--- 01 "What may be asked": the slot that is asked for by a letter, a key and a level
-pub record AsksFor (list : List ℕ) (letter : ℕ) (key : List ℕ) (level : Level) (slot : Slot) : Type 0 where
-  pub listed : SlotListed list slot
-  pub of-letter : letterIn list slot ≡ letter
-  pub of-key : keyIn list slot ≡ key
+-- 01 "What may be asked", M-100: the slot that is asked for, a contract's or a pair's, by a letter, a key and a level
+pub record AsksFor (lists : Lists) (item : Item) (letter : ℕ) (key : List ℕ) (level : Level) (slot : Slot) : Type 0 where
+  pub listed : SlotListed lists slot
+  pub of-item : itemIn slot ≡ item
+  pub of-letter : letterIn lists slot ≡ letter
+  pub of-key : keyIn lists slot ≡ key
   pub of-level : levelIn slot ≡ level
 
--- 01 "What may be asked": a reading's answer and the quote beside it
-abbrev pub noRecord : Recorded → Reading
-noRecord answer = record { answer = answer; quote = blank }
+-- 01 "What may be asked": what is answered of a slot: "A record holds its update's number and rows"
+abbrev pub answerFor : Option Message → Recorded
+answerFor none = Recorded.NoRecord
+answerFor (some message) = Recorded.Record (sequenceNumber message)
 
--- 01 "What may be asked": what is read of a slot: "A record holds its update's number and rows"
-abbrev pub readingOf : Level → Option Message → Reading
-readingOf level none = noRecord Recorded.NoRecord
-readingOf level (some message) = record { answer = Recorded.Record (sequenceNumber message); quote = quoteOf (recordForm level) (message .cells) }
+-- 01 "What may be asked": and the quote beside that answer
+abbrev pub quoteBesideIt : (item : Item) → Level → Option Message → QuoteFor item
+quoteBesideIt item level none = blankFor item
+quoteBesideIt item level (some message) = shown item (recordForm item level) (message .cells)
 
 -- 01 "What may be asked": a record is the newest update of its slot; 6, then 13
-pub data Reads (m : Machine) (letter : ℕ) (key : List ℕ) (level : Level) : Reading → Type 0 where
-  no-letter : (LetterListed (m .list) letter → ⊥) → Reads m letter key level (noRecord (Recorded.Refused (refusal.Code 0)))
-  no-key : LetterListed (m .list) letter → (KeyListed (m .list) letter key → ⊥) → Reads m letter key level (noRecord (Recorded.Refused (refusal.Contract 0)))
-  the-newest : (slot : Slot) → AsksFor (m .list) letter key level slot → Reads m letter key level (readingOf level (m .newest slot))
+pub data Reads (m : Machine) (item : Item) (letter : ℕ) (key : List ℕ) (level : Level) : Recorded → QuoteFor item → Type 0 where
+  no-letter : (LetterListed (m .lists .contracts) letter → ⊥) → Reads m item letter key level (Recorded.Refused (refusal.Code 0)) (blankFor item)
+  no-key : LetterListed (m .lists .contracts) letter → (KeyListed item (m .lists) letter key → ⊥)
+      → Reads m item letter key level (Recorded.Refused (refusal.Contract 0)) (blankFor item)
+  the-newest : (slot : Slot) → AsksFor (m .lists) item letter key level slot
+      → Reads m item letter key level (answerFor (m .newest slot)) (quoteBesideIt item level (m .newest slot))
 
 -- 01 "Sequence and gaps": a start begins anew, with so many cells lent; a refused one changes nothing
-pub data Starts (rows records : ℕ) (m : Machine) (list starts : List ℕ) : Started → Machine → Type 0 where
-  anew : GoodStart list starts rows records → Starts rows records m list starts Started.Started (begun list starts)
-  not-started : (r : Refusal) → Broken (startRules list starts rows records) r → Starts rows records m list starts (Started.Refused r) m
+pub data Starts (rows records : ℕ) (m : Machine) (lists : Lists) (starts : List ℕ) : Started → Machine → Type 0 where
+  anew : GoodStart lists starts rows records → Starts rows records m lists starts Started.Started (begun lists starts)
+  not-started : (r : Refusal) → Broken (startRules lists starts rows records) r → Starts rows records m lists starts (Started.Refused r) m
 
 -- ---- the machine
 
 -- 01 "What may be asked": a call, lent so many cells for gap rows and records, its answer, and the machine that it leaves
 pub data Answers (rows records : ℕ) (m : Machine) : Call → Answer → Machine → Type 0 where
-  starts : {list numbers : List ℕ} {a : Started} {m′ : Machine} → Starts rows records m list numbers a m′
-      → Answers rows records m (calls.start list numbers) (calls.started a) m′
+  starts : {lists : Lists} {numbers : List ℕ} {a : Started} {m′ : Machine} → Starts rows records m lists numbers a m′
+      → Answers rows records m (calls.start lists numbers) (calls.started a) m′
   judges : {batch : List ℕ} {a : Judged} → Judges m batch a → Answers rows records m (calls.judge batch) (calls.judged a) m
   takes : {batch : List ℕ} {a : Judged} → Judges m batch a → Answers rows records m (calls.take batch) (calls.took a) (tookBatch m batch a)
-  lists : {letter : ℕ} {cells cells′ : List ℕ} {a : Listed} → Lists m letter cells a cells′
+  lists-gaps : {letter : ℕ} {cells cells′ : List ℕ} {a : Listed} → ListsGaps m letter cells a cells′
       → Answers rows records m (calls.listGaps letter cells) (calls.listed a cells′) m
   writes-off : {letter : ℕ} {a : WrittenOff} {m′ : Machine} → WritesOff m letter a m′ → Answers rows records m (calls.writeOff letter) (calls.wroteOff a) m′
-  reads : {letter : ℕ} {key : List ℕ} {level : Level} {reading : Reading} → Reads m letter key level reading
-      → Answers rows records m (calls.readRecord letter key level) (calls.read reading) m
+  reads : {item : Item} {letter : ℕ} {key : List ℕ} {level : Level} {a : Recorded} {quote : QuoteFor item} → Reads m item letter key level a quote
+      → Answers rows records m (calls.readRecord item letter key level) (calls.read item a quote) m
   writes : {code : _} {level : Level} {number : ℕ} {key out out′ : List ℕ} {quote : _} {a : _} → WroteMessage code level number key quote out a out′
       → Answers rows records m (calls.writeMessage code level number key quote out) (calls.wrote a out′) m
+  writes-spread : {code : _} {level : Level} {number : ℕ} {key out out′ : List ℕ} {quote : _} {a : _} → WroteSpread code level number key quote out a out′
+      → Answers rows records m (calls.writeSpread code level number key quote out) (calls.wrote a out′) m
+  no-spreads : {list out out′ : List ℕ} {a : _} → PutNoSpreads list out a out′ → Answers rows records m (calls.noSpreads list out) (calls.wrote a out′) m

@@ -7,6 +7,7 @@ use mathlib.Core.Option.{Option, some}
 use lib.Dec.{eqb}
 use lib.ListN.{drop}
 use Rattle.contracts.specs.Lookup.{segmentOf}
+use Rattle.pairs.specs.Lists.{Lists}
 use Rattle.message.specs.Fields.{lengthOf}
 use Rattle.message.specs.Message.{Message}
 use Rattle.message.specs.Reads.{messageOf}
@@ -21,9 +22,9 @@ use Rattle.history.specs.Refines.{machineOf}
 
 -- ---- a message that comes
 
-module _ (list starts : List ℕ) where
+module _ (lists : Lists) (starts : List ℕ) where
   newest-came : (i : ℕ) (m : Message) (past : List Event) (slot : Slot)
-      → newest slot (takenFor starts slot (came i m ∷ past)) ≡ arrives i m (machineOf list starts past) .newest slot
+      → newest slot (takenFor starts slot (came i m ∷ past)) ≡ arrives i m (machineOf lists starts past) .newest slot
   newest-came i m past slot =
       let s : ℕ = segmentIn slot in
       let taken : List Message = takenOf s (startOf starts s) past in
@@ -35,38 +36,38 @@ module _ (list starts : List ℕ) where
       go taken true false = refl
       go taken false u = refl
 
-  came-is : (i : ℕ) (m : Message) (past : List Event) → machineOf list starts (came i m ∷ past) ≡ arrives i m (machineOf list starts past)
+  came-is : (i : ℕ) (m : Message) (past : List Event) → machineOf lists starts (came i m ∷ past) ≡ arrives i m (machineOf lists starts past)
   came-is i m past = λ k.
       record {
-        list = list;
+        lists = lists;
         start = startOf starts;
         taken = λ j. takenOf j (startOf starts j) (came i m ∷ past);
         off = λ j. wroteOffIn j past;
         newest = λ slot. newest-came i m past slot k;
       }
 
-  module _ (letter s : ℕ) (listed : segmentOf list letter ≡ some s) where
-    pub comes-is : (bytes : List ℕ) (past : List Event) → comesTo letter bytes (machineOf list starts past) ≡ machineOf list starts (cameNext list letter s bytes past)
+  module _ (letter s : ℕ) (listed : segmentOf (lists .contracts) letter ≡ some s) where
+    pub comes-is : (bytes : List ℕ) (past : List Event) → comesTo letter bytes (machineOf lists starts past) ≡ machineOf lists starts (cameNext lists letter s bytes past)
     comes-is bytes past =
-        let m : Machine = machineOf list starts past in
-        ap (λ (o : Option ℕ). inSegment o m (λ i. arrives i (messageOf list letter bytes) m)) listed ∙ sym (came-is s (messageOf list letter bytes) past)
+        let m : Machine = machineOf lists starts past in
+        ap (λ (o : Option ℕ). inSegment o m (λ i. arrives i (messageOf lists letter bytes) m)) listed ∙ sym (came-is s (messageOf lists letter bytes) past)
 
-    pub standing-is : (past : List Event) → standingFor letter (machineOf list starts past) ≡ runsStanding s (startOf starts s) past
-    standing-is past = ap (λ (o : Option ℕ). inSegment o 0 (standing (machineOf list starts past))) listed
+    pub standing-is : (past : List Event) → standingFor letter (machineOf lists starts past) ≡ runsStanding s (startOf starts s) past
+    standing-is past = ap (λ (o : Option ℕ). inSegment o 0 (standing (machineOf lists starts past))) listed
 
     pub all-come : (count : ℕ) (bytes : List ℕ) (past : List Event)
-        → allCome count letter bytes (machineOf list starts past) ≡ machineOf list starts (allCame s (messagesOf count list letter bytes) past)
+        → allCome count letter bytes (machineOf lists starts past) ≡ machineOf lists starts (allCame s (messagesOf count lists letter bytes) past)
     all-come zero bytes past = refl
     all-come (suc more) bytes past =
-        ap (allCome more letter (drop (lengthOf bytes) bytes)) (comes-is bytes past) ∙ all-come more (drop (lengthOf bytes) bytes) (cameNext list letter s bytes past)
+        ap (allCome more letter (drop (lengthOf bytes) bytes)) (comes-is bytes past) ∙ all-come more (drop (lengthOf bytes) bytes) (cameNext lists letter s bytes past)
 
-    pub counts-are : (test : Machine → Message → Bool) (tests : List Event → Message → Bool) → ((past : List Event) (m : Message) → test (machineOf list starts past) m ≡ tests past m)
+    pub counts-are : (test : Machine → Message → Bool) (tests : List Event → Message → Bool) → ((past : List Event) (m : Message) → test (machineOf lists starts past) m ≡ tests past m)
         → (count : ℕ) (bytes : List ℕ) (past : List Event)
-        → counted test count letter bytes (machineOf list starts past) ≡ howMany tests s (messagesOf count list letter bytes) past
+        → counted test count letter bytes (machineOf lists starts past) ≡ howMany tests s (messagesOf count lists letter bytes) past
     counts-are test tests same zero bytes past = refl
     counts-are test tests same (suc more) bytes past =
-        let next : List Event = cameNext list letter s bytes past in
+        let next : List Event = cameNext lists letter s bytes past in
         let left : List ℕ = drop (lengthOf bytes) bytes in
-        let here = same past (messageOf list letter bytes) in
+        let here = same past (messageOf lists letter bytes) in
         let rest = ap (counted test more letter left) (comes-is bytes past) ∙ counts-are test tests same more left next in
         rw (here, rest) refl

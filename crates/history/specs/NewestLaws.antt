@@ -27,7 +27,7 @@ module _ (slot : Slot) where
     passes e (some top) before =
         record {
           was-taken = List·Memᴰ·tail (before .was-taken);
-          of-contract = before .of-contract;
+          of-slot = before .of-slot;
           highest = λ k among own.
               ⊎-elim (λ (f : k ≡ m). absurd (true≢false (sym own ∙ ap (λ (j : Message). isOf slot (j .what)) f ∙ e)))
               (λ (later : List·Memᴰ k ms). before .highest k later own)
@@ -39,7 +39,7 @@ module _ (slot : Slot) where
     counts e none before =
         record {
           was-taken = List·Memᴰ·head refl;
-          of-contract = e;
+          of-slot = e;
           highest = λ k among own.
               ⊎-elim (λ (f : k ≡ m). let same = ap sequenceNumber f in omega arith)
               (λ (later : List·Memᴰ k ms). absurd (true≢false (sym own ∙ before k later)))
@@ -51,7 +51,7 @@ module _ (slot : Slot) where
         rw t
         (record {
           was-taken = List·Memᴰ·head refl;
-          of-contract = e;
+          of-slot = e;
           highest = λ k among own.
               ⊎-elim (λ (f : k ≡ m). let same = ap sequenceNumber f in omega arith)
               (λ (later : List·Memᴰ k ms). let under = before .highest k later own in omega arith)
@@ -62,7 +62,7 @@ module _ (slot : Slot) where
         rw t
         (record {
           was-taken = List·Memᴰ·tail (before .was-taken);
-          of-contract = before .of-contract;
+          of-slot = before .of-slot;
           highest = λ k among own.
               ⊎-elim (λ (f : k ≡ m). let same = ap sequenceNumber f in omega arith)
               (λ (later : List·Memᴰ k ms). before .highest k later own)

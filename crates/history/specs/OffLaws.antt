@@ -49,7 +49,7 @@ some-runs : (rs : List Run) → lowest rs ≡ refusedNoGap → ltb 0 (length rs)
 some-runs [] e = refl
 some-runs (r ∷ rs) e = absurd (let z : _≡_ {A = ℕ} 0 1 = cc in omega arith)
 
-module _ {starts : List ℕ} {lent : Lent} {past : List Event} (r : Reached starts lent past) (letter i : ℕ) (s : segmentOf (lent .list) letter ≡ some i) where
+module _ {starts : List ℕ} {lent : Lent} {past : List Event} (r : Reached starts lent past) (letter i : ℕ) (s : segmentOf (lent .lists .contracts) letter ≡ some i) where
   abbrev start : ℕ
   start = startOf starts i
 
@@ -60,7 +60,7 @@ module _ {starts : List ℕ} {lent : Lent} {past : List Event} (r : Reached star
     here = gapsOf (gapRowOf (lent .rows) i)
 
     fits : Fits start (takenOf i start past) (wroteOffIn i past) here
-    fits = reached-holds r .gaps-fit i (segment-has (lent .list) letter i s .0)
+    fits = reached-holds r .gaps-fit i (segment-has (lent .lists .contracts) letter i s .0)
 
     up-to-next : (n : ℕ) → n ≤ last + 1 → missingIn i start past n ≡ names (first to last) n
     up-to-next n h = sym (fits .missing-is n) ∙ wroteOff-lowest here (fits .sound) first last (off-answer first last p i s) n h
@@ -120,5 +120,5 @@ module _ {starts : List ℕ} {lent : Lent} {past : List Event} (r : Reached star
   -- ---- what is written off afterwards
 
   pub off-after : (first last j n : ℕ)
-      → wroteOffIn j (afterWriteOff (lent .list) letter (WrittenOff.Removed first last) past) n ≡ eqb i j && names (first to last) n || wroteOffIn j past n
+      → wroteOffIn j (afterWriteOff (lent .lists) letter (WrittenOff.Removed first last) past) n ≡ eqb i j && names (first to last) n || wroteOffIn j past n
   off-after first last j n = ap (λ (o : Option ℕ). wroteOffIn j (offIn o (first to last) past) n) s

@@ -10,24 +10,34 @@ use lib.ListN.{length, take, drop, length-take, take-append-drop}
 use Rattle.laws.specs.Choice.{clash}
 use Rattle.laws.specs.Order.{order}
 use Rattle.laws.specs.RulesLaws.{unlike, broken-some}
-use Rattle.contracts.specs.Lookup.{segmentOf, placeIn}
+use Rattle.contracts.specs.File.{segmentsOf, countAt, keyBy}
+use Rattle.contracts.specs.Lookup.{segmentOf}
 use Rattle.contracts.specs.LookupLaws.{segment-has, segment-exact, key-exact}
-use Rattle.contracts.specs.Sound.{SoundList}
+use Rattle.pairs.specs.Lists.{Lists, SoundLists}
 use Rattle.sequence.specs.Row.{pairs}
 use Rattle.sequence.specs.Runs.{Run, _to_, runsIn}
 use Rattle.sequence.specs.RunsCountLaws.{runs-counted}
 use Rattle.sequence.specs.RunsLaws.{same-runs}
 use Rattle.forms.specs.declared.rows.Level.{Level}
+use Rattle.forms.specs.declared.forms.Item.{Item}
+use Rattle.forms.specs.declared.forms.Item.the-variants as item
+use Rattle.message.specs.Items.{fileOf, habitOf}
+use Rattle.message.specs.ItemsLaws.{sound-headers, segments-of, sound-of}
+use Rattle.message.specs.Message.{placeIn}
+use Rattle.quote.specs.Quote.{cellsOf}
+use Rattle.quote.specs.Spread.{spreadCellsOf}
+use Rattle.state.specs.declared.answers.Recorded.{Recorded}
 use Rattle.message.specs.Good.{LetterListed, KeyListed}
 use Rattle.state.specs.declared.refusal.Refusal.the-variants.{Memory}
 use Rattle.state.specs.declared.answers.Started.{Started}
 use Rattle.state.specs.declared.answers.Listed.{Listed}
 use Rattle.state.specs.declared.answers.WrittenOff.{WrittenOff}
-use Rattle.state.specs.Slots.{Slot, contract}
+use Rattle.state.specs.Slots.{Slot, slot as recordSlot}
 use Rattle.writer.specs.WriterPromisesLaws.{one-written}
-use Rattle.quotebox.specs.declared.record.Reading.{Reading}
+use Rattle.quotebox.specs.CallPromisesLaws.{one-no-spreads}
 use Rattle.quotebox.specs.Start.{startRules}
 use Rattle.quotebox.specs.StartLaws.{start-exact}
+use Rattle.history.specs.Shown.{QuoteFor}
 use Rattle.history.specs.Calls as calls
 use Rattle.history.specs.Calls.{Call, Answer}
 use Rattle.history.specs.Step.{step}
@@ -39,7 +49,7 @@ use Rattle.history.specs.RefinesLaws.{refines}
 use Rattle.state.specs.Memory.{Lent}
 use Rattle.history.specs.JudgesLaws.{one-broken, one-judges}
 use Rattle.history.specs.Machine as machine
-use Rattle.history.specs.Machine.{Machine, runsThere, NamesExactly, LowestRun, highest, isMissing, standing, writtenOff, tookBatch, AsksFor, readingOf, Lists, WritesOff, Reads, Starts, Answers}
+use Rattle.history.specs.Machine.{Machine, runsThere, NamesExactly, LowestRun, highest, isMissing, standing, writtenOff, tookBatch, AsksFor, answerFor, quoteBesideIt, ListsGaps, WritesOff, Reads, Starts, Answers}
 
 -- ---- runs in cells
 
@@ -98,25 +108,25 @@ one-lowest {held} {a} {b} {c} {d} p q =
 
 module _ (m : Machine) (letter : ℕ) where
   -- a letter has one segment
-  one-segment : {i j : ℕ} → segmentOf (m .list) letter ≡ some i → segmentOf (m .list) letter ≡ some j → i ≡ j
+  one-segment : {i j : ℕ} → segmentOf (m .lists .contracts) letter ≡ some i → segmentOf (m .lists .contracts) letter ≡ some j → i ≡ j
   one-segment {i} {j} s t = let both : some i ≡ some j = sym s ∙ t in cc
 
-  listed-there : {i : ℕ} → segmentOf (m .list) letter ≡ some i → LetterListed (m .list) letter
-  listed-there {i} s = let has = segment-has (m .list) letter i s in (i, has .0, has .1)
+  listed-there : {i : ℕ} → segmentOf (m .lists .contracts) letter ≡ some i → LetterListed (m .lists .contracts) letter
+  listed-there {i} s = let has = segment-has (m .lists .contracts) letter i s in (i, has .0, has .1)
 
-  one-listing : {cells cells′ cells″ : List ℕ} {a b : Listed} → Lists m letter cells a cells′ → Lists m letter cells b cells″ → (a ≡ b) × (cells′ ≡ cells″)
-  one-listing (machine.Lists.no-letter u) (machine.Lists.no-letter v) = (refl, refl)
-  one-listing (machine.Lists.no-letter u) (machine.Lists.too-few j t g) = absurd (u (listed-there t))
-  one-listing (machine.Lists.no-letter u) (machine.Lists.all-runs j t top runs c g n k) = absurd (u (listed-there t))
-  one-listing (machine.Lists.too-few i s h) (machine.Lists.no-letter v) = absurd (v (listed-there s))
-  one-listing (machine.Lists.too-few i s h) (machine.Lists.too-few j t g) =
+  one-listing : {cells cells′ cells″ : List ℕ} {a b : Listed} → ListsGaps m letter cells a cells′ → ListsGaps m letter cells b cells″ → (a ≡ b) × (cells′ ≡ cells″)
+  one-listing (machine.ListsGaps.no-letter u) (machine.ListsGaps.no-letter v) = (refl, refl)
+  one-listing (machine.ListsGaps.no-letter u) (machine.ListsGaps.too-few j t g) = absurd (u (listed-there t))
+  one-listing (machine.ListsGaps.no-letter u) (machine.ListsGaps.all-runs j t top runs c g n k) = absurd (u (listed-there t))
+  one-listing (machine.ListsGaps.too-few i s h) (machine.ListsGaps.no-letter v) = absurd (v (listed-there s))
+  one-listing (machine.ListsGaps.too-few i s h) (machine.ListsGaps.too-few j t g) =
       (ap (λ (n : ℕ). Listed.Refused (Memory (2 * standing m n))) (one-segment s t), refl)
-  one-listing (machine.Lists.too-few i s h) (machine.Lists.all-runs j t top runs c g n k) =
+  one-listing (machine.ListsGaps.too-few i s h) (machine.ListsGaps.all-runs j t top runs c g n k) =
       let same = ap (standing m) (one-segment s t) in absurd (omega (arith, counted-runs n))
-  one-listing (machine.Lists.all-runs i s top runs c h n k) (machine.Lists.no-letter v) = absurd (v (listed-there s))
-  one-listing (machine.Lists.all-runs i s top runs c h n k) (machine.Lists.too-few j t g) =
+  one-listing (machine.ListsGaps.all-runs i s top runs c h n k) (machine.ListsGaps.no-letter v) = absurd (v (listed-there s))
+  one-listing (machine.ListsGaps.all-runs i s top runs c h n k) (machine.ListsGaps.too-few j t g) =
       let same = ap (standing m) (one-segment s t) in absurd (omega (arith, counted-runs n))
-  one-listing {cells} (machine.Lists.all-runs i s top runs c h n k) (machine.Lists.all-runs j t top′ runs′ c′ g o l) =
+  one-listing {cells} (machine.ListsGaps.all-runs i s top runs c h n k) (machine.ListsGaps.all-runs j t top′ runs′ c′ g o l) =
       let here = subst (λ (x : ℕ). NamesExactly (m .start x) (highest m x) (isMissing m x) top′ runs′ c′) (sym (one-segment s t)) o in
       let one = one-naming n here in
       let behind : drop (2 * runs) c ≡ drop (2 * runs′) c′ = k ∙ ap (λ (r : ℕ). drop (2 * r) cells) (one .1) ∙ sym l in
@@ -141,58 +151,71 @@ module _ (m : Machine) (letter : ℕ) where
       let same = one-segment s t in
       (ap₂ WrittenOff.Removed firsts lasts, (λ k. writtenOff (same k) (firsts k to lasts k) m))
 
-  -- of a sound list a key and a level have one slot
-  one-slot : SoundList (m .list) → {key : List ℕ} {level : Level} (a b : Slot) → AsksFor (m .list) letter key level a → AsksFor (m .list) letter key level b → a ≡ b
-  one-slot sound {key} {level} (contract i place k) (contract j spot l) p q =
-      let i-is = segment-exact (m .list) (sound .header) letter i .1 (p .listed .0, p .of-letter) in
-      let j-is = segment-exact (m .list) (sound .header) letter j .1 (q .listed .0, q .of-letter) in
+  -- of sound lists a key has one place
+  key-there : SoundLists (m .lists) → {key : List ℕ} (item : Item) (i place : ℕ) → (i < segmentsOf (m .lists .contracts)) × (place < countAt (fileOf item (m .lists)) i)
+      → keyBy (habitOf item) (fileOf item (m .lists)) i place ≡ key → placeIn item (m .lists) i key ≡ some place
+  key-there sound {key} item i place there is =
+      key-exact (fileOf item (m .lists)) i key (sound-of (m .lists) sound item) (rw (segments-of (m .lists) (sound-headers sound) item) (there .0)) place .1 (there .1, is)
+
+  -- of sound lists a key and a level have one slot
+  one-slot : SoundLists (m .lists) → {item : Item} {key : List ℕ} {level : Level} (a b : Slot) → AsksFor (m .lists) item letter key level a → AsksFor (m .lists) item letter key level b → a ≡ b
+  one-slot sound {item} {key} {level} (recordSlot x i place k) (recordSlot y j spot l) p q =
+      let i-is = segment-exact (m .lists .contracts) (sound .contracts-sound .header) letter i .1 (p .listed .0, p .of-letter) in
+      let j-is = segment-exact (m .lists .contracts) (sound .contracts-sound .header) letter j .1 (q .listed .0, q .of-letter) in
       let same : i ≡ j = one-segment i-is j-is in
-      let at = key-exact (m .list) i key sound (p .listed .0) place .1 (p .listed .1, p .of-key) in
-      let spot-at = key-exact (m .list) j key sound (q .listed .0) spot .1 (q .listed .1, q .of-key) in
-      let both : some place ≡ some spot = sym at ∙ ap (λ (n : ℕ). placeIn (m .list) n key) same ∙ spot-at in
+      let at = key-there sound x i place (p .listed) (p .of-key) in
+      let spot-at = key-there sound y j spot (q .listed) (q .of-key) in
+      let items : x ≡ y = p .of-item ∙ sym (q .of-item) in
+      let here : placeIn x (m .lists) i key ≡ placeIn y (m .lists) j key = λ n. placeIn (items n) (m .lists) (same n) key in
+      let both : some place ≡ some spot = sym at ∙ here ∙ spot-at in
       let places : place ≡ spot = cc in
       let levels : k ≡ l = p .of-level ∙ sym (q .of-level) in
-      λ n. contract (same n) (places n) (levels n)
+      λ n. recordSlot (items n) (same n) (places n) (levels n)
 
-  slot-there : {key : List ℕ} {level : Level} (slot : Slot) → AsksFor (m .list) letter key level slot → LetterListed (m .list) letter × KeyListed (m .list) letter key
-  slot-there (contract i place k) p = ((i, p .listed .0, p .of-letter), (i, place, p .listed .0, p .of-letter, p .listed .1, p .of-key))
+  slot-there : {item : Item} {key : List ℕ} {level : Level} (slot : Slot) → AsksFor (m .lists) item letter key level slot → LetterListed (m .lists .contracts) letter × KeyListed item (m .lists) letter key
+  slot-there {item} {key} (recordSlot x i place k) p =
+      ((i, p .listed .0, p .of-letter), subst (λ (y : Item). KeyListed y (m .lists) letter key) (p .of-item) (i, place, p .listed .0, p .of-letter, p .listed .1, p .of-key))
 
-  one-reading : SoundList (m .list) → {key : List ℕ} {level : Level} {a b : Reading} → Reads m letter key level a → Reads m letter key level b → a ≡ b
-  one-reading sound (machine.Reads.no-letter u) (machine.Reads.no-letter v) = refl
+  one-reading : SoundLists (m .lists) → {item : Item} {key : List ℕ} {level : Level} {a b : Recorded} {p q : QuoteFor item} → Reads m item letter key level a p → Reads m item letter key level b q → (a ≡ b) × (p ≡ q)
+  one-reading sound (machine.Reads.no-letter u) (machine.Reads.no-letter v) = (refl, refl)
   one-reading sound (machine.Reads.no-letter u) (machine.Reads.no-key l v) = absurd (u l)
   one-reading sound (machine.Reads.no-letter u) (machine.Reads.the-newest slot q) = absurd (u (slot-there slot q .0))
   one-reading sound (machine.Reads.no-key l u) (machine.Reads.no-letter v) = absurd (v l)
-  one-reading sound (machine.Reads.no-key l u) (machine.Reads.no-key k v) = refl
+  one-reading sound (machine.Reads.no-key l u) (machine.Reads.no-key k v) = (refl, refl)
   one-reading sound (machine.Reads.no-key l u) (machine.Reads.the-newest slot q) = absurd (u (slot-there slot q .1))
   one-reading sound (machine.Reads.the-newest slot p) (machine.Reads.no-letter v) = absurd (v (slot-there slot p .0))
   one-reading sound (machine.Reads.the-newest slot p) (machine.Reads.no-key l v) = absurd (v (slot-there slot p .1))
-  one-reading sound {level = level} (machine.Reads.the-newest slot p) (machine.Reads.the-newest other q) =
-      ap (λ (s : Slot). readingOf level (m .newest s)) (one-slot sound slot other p q)
+  one-reading sound {item} {level = level} (machine.Reads.the-newest slot p) (machine.Reads.the-newest other q) =
+      let same = one-slot sound slot other p q in
+      (ap (λ (s : Slot). answerFor (m .newest s)) same, ap (λ (s : Slot). quoteBesideIt item level (m .newest s)) same)
 
 module _ (rows records : ℕ) (m : Machine) where
-  one-start : {list starts : List ℕ} {a b : Started} {m′ m″ : Machine} → Starts rows records m list starts a m′ → Starts rows records m list starts b m″ → (a ≡ b) × (m′ ≡ m″)
+  one-start : {lists : Lists} {starts : List ℕ} {a b : Started} {m′ m″ : Machine} → Starts rows records m lists starts a m′ → Starts rows records m lists starts b m″ → (a ≡ b) × (m′ ≡ m″)
   one-start (machine.Starts.anew g) (machine.Starts.anew h) = (refl, refl)
-  one-start {list} {starts} (machine.Starts.anew g) (machine.Starts.not-started r b) =
-      absurd (unlike (sym (broken-some (startRules list starts rows records) r b) ∙ start-exact list starts rows records .1 g))
-  one-start {list} {starts} (machine.Starts.not-started r b) (machine.Starts.anew g) =
-      absurd (unlike (sym (broken-some (startRules list starts rows records) r b) ∙ start-exact list starts rows records .1 g))
-  one-start {list} {starts} (machine.Starts.not-started r b) (machine.Starts.not-started s c) =
-      (ap Started.Refused (one-broken (startRules list starts rows records) r s b c), refl)
+  one-start {lists} {starts} (machine.Starts.anew g) (machine.Starts.not-started r b) =
+      absurd (unlike (sym (broken-some (startRules lists starts rows records) r b) ∙ start-exact lists starts rows records .1 g))
+  one-start {lists} {starts} (machine.Starts.not-started r b) (machine.Starts.anew g) =
+      absurd (unlike (sym (broken-some (startRules lists starts rows records) r b) ∙ start-exact lists starts rows records .1 g))
+  one-start {lists} {starts} (machine.Starts.not-started r b) (machine.Starts.not-started s c) =
+      (ap Started.Refused (one-broken (startRules lists starts rows records) r s b c), refl)
 
-  -- of a sound list
-  pub one-answer : SoundList (m .list) → {c : Call} {a b : Answer} {m′ m″ : Machine} → Answers rows records m c a m′ → Answers rows records m c b m″ → (a ≡ b) × (m′ ≡ m″)
+  -- of sound lists
+  pub one-answer : SoundLists (m .lists) → {c : Call} {a b : Answer} {m′ m″ : Machine} → Answers rows records m c a m′ → Answers rows records m c b m″ → (a ≡ b) × (m′ ≡ m″)
   one-answer sound (machine.Answers.starts p) (machine.Answers.starts q) = let one = one-start p q in (ap calls.started (one .0), one .1)
   one-answer sound (machine.Answers.judges {batch} {a} p) (machine.Answers.judges {a = b} q) = (ap calls.judged (one-judges m batch a b p q), refl)
   one-answer sound (machine.Answers.takes {batch} {a} p) (machine.Answers.takes {a = b} q) =
       let one = one-judges m batch a b p q in (ap calls.took one, ap (tookBatch m batch) one)
-  one-answer sound (machine.Answers.lists {letter} p) (machine.Answers.lists q) = let one = one-listing m letter p q in (ap₂ calls.listed (one .0) (one .1), refl)
+  one-answer sound (machine.Answers.lists-gaps {letter} p) (machine.Answers.lists-gaps q) = let one = one-listing m letter p q in (ap₂ calls.listed (one .0) (one .1), refl)
   one-answer sound (machine.Answers.writes-off {letter} p) (machine.Answers.writes-off q) = let one = one-off m letter p q in (ap calls.wroteOff (one .0), one .1)
-  one-answer sound (machine.Answers.reads {letter} p) (machine.Answers.reads q) = (ap calls.read (one-reading m letter sound p q), refl)
+  one-answer sound (machine.Answers.reads {item} {letter} p) (machine.Answers.reads q) = let one = one-reading m letter sound p q in (ap₂ (calls.read item) (one .0) (one .1), refl)
   one-answer sound (machine.Answers.writes {code} {level} {number} {key} {out} {quote = quote} {a} p) (machine.Answers.writes {a = b} q) =
-      let one = one-written code level number key quote out a b p q in (ap₂ calls.wrote (one .0) (one .1), refl)
+      let one = one-written item.Contract code level number key (λ form. cellsOf form quote) out a b p q in (ap₂ calls.wrote (one .0) (one .1), refl)
+  one-answer sound (machine.Answers.writes-spread {code} {level} {number} {key} {out} {quote = quote} {a} p) (machine.Answers.writes-spread {a = b} q) =
+      let one = one-written item.Pair code level number key (λ form. spreadCellsOf form quote) out a b p q in (ap₂ calls.wrote (one .0) (one .1), refl)
+  one-answer sound (machine.Answers.no-spreads {a = a} p) (machine.Answers.no-spreads {a = b} q) = let one = one-no-spreads a b p q in (ap₂ calls.wrote (one .0) (one .1), refl)
 
 -- after every history a call answers what the machine says, and nothing else is said of it
 pub only-so : {starts : List ℕ} {lent : Lent} {past : List Event} → Reached starts lent past → (c : Call) (a : Answer) (m : Machine)
-    → Answers (length (lent .rows)) (length (lent .records)) (machineOf (lent .list) starts past) c a m → step lent c .answer ≡ a
+    → Answers (length (lent .rows)) (length (lent .records)) (machineOf (lent .lists) starts past) c a m → step lent c .answer ≡ a
 only-so {starts} {lent} {past} r c a m said =
-    one-answer (length (lent .rows)) (length (lent .records)) (machineOf (lent .list) starts past) (reached-holds r .list-sound) (refines r c .answers) said .0
+    one-answer (length (lent .rows)) (length (lent .records)) (machineOf (lent .lists) starts past) (reached-holds r .lists-sound) (refines r c .answers) said .0

@@ -22,6 +22,10 @@ use Rattle.contracts.specs.File.{segmentsOf, letterAt, zeroAt, countAt, offsetA
 use Rattle.contracts.specs.Halving.{halvedIn}
 use Rattle.contracts.specs.Lookup.{segmentOf, lookup}
 use Rattle.contracts.specs.SoundTests.{entrySound, headerSoundBy, keySound, bodySound, soundBy}
+use Rattle.pairs.specs.Lists.{Lists}
+use Rattle.pairs.specs.NoSpreads.{noSpreads}
+use Rattle.pairs.specs.SpreadTests.{pairsListed, spreadHeaderSound, spreadsSound}
+use Rattle.forms.specs.declared.forms.Item.the-variants.{Contract, Pair}
 use Rattle.sequence.specs.Row.{gapsOf}
 use Rattle.sequence.specs.RowLaid.{laid, soundGapRow}
 use Rattle.forms.specs.Forms.{namedRows, rowsOf, formsOf, formOf, sumRule, writtenForm}
@@ -52,8 +56,16 @@ use Rattle.written.specs.WrittenCases as writer
 -- ---- the box that is asked: D and T listed, each started at 1
 
 -- 01 "The contract list": D with one contract, T with two
-abbrev pub list : List ℕ
-list = twoOf 68 84 18 57 threeKeys
+abbrev contracts : List ℕ
+contracts = twoOf 68 84 18 57 threeKeys
+
+-- M-100: beside a contract list, the spread list without pairs
+abbrev withoutPairs : List ℕ → Lists
+withoutPairs list = record { contracts = list; pairs = noSpreads contracts }
+
+-- 01 "The contract list": both lists
+abbrev pub lists : Lists
+lists = withoutPairs contracts
 
 -- 01 "The contract list": the letter T
 abbrev pub T : ℕ
@@ -67,27 +79,27 @@ segmentT = 1
 abbrev starts : List ℕ
 starts = 1 ∷ 1 ∷ []
 
--- lent memory: so many cells for gap rows, and records for three contracts, with no list yet
+-- lent memory: so many cells for gap rows, and records for three contracts, with no lists yet
 abbrev lentFirst : ℕ → Lent
-lentFirst cells = lends [] (replicate cells 0) (replicate 144 0)
+lentFirst cells = lends (record { contracts = []; pairs = [] }) (replicate cells 0) (replicate 144 0)
 
 -- 01 "Cases": the box after its start: 264 cells are gap rows for two segments
 abbrev pub started : BoxNow
-started = afterCall (unstarted (lentFirst 264)) (own (start list starts))
+started = afterCall (unstarted (lentFirst 264)) (own (start lists starts))
 
 -- 01 "Cases": the box after its start and calls
 abbrev pub box : List Call → BoxNow
 box cs = allAfter started (map own cs)
 
 start-accepted : started .since ≡ some (record { starts = starts; past = [] })
-unfolding startRules eachStarts segmentsOf letterAt zeroAt countAt offsetAt keyFrom contractsBefore entrySound headerSoundBy keySound bodySound soundBy
+unfolding startRules eachStarts segmentsOf letterAt zeroAt countAt offsetAt keyFrom contractsBefore entrySound headerSoundBy keySound bodySound soundBy noSpreads pairsListed spreadHeaderSound spreadsSound
 start-accepted = refl
 
 -- whatever calls follow, they are a history
 pub a-history : (cs : List Call) → (since : Since) × (box cs .since ≡ some since) × Reached (since .starts) (box cs .lent) (since .past)
 a-history cs =
     let l = all-since started (record { starts = starts; past = [] }) start-accepted (map own cs) in
-    (l .0, l .1, calls-reach (lentFirst 264) (own (start list starts) ∷ map own cs) (l .0) (l .1))
+    (l .0, l .1, calls-reach (lentFirst 264) (own (start lists starts) ∷ map own cs) (l .0) (l .1))
 
 -- ---- what comes
 
@@ -187,7 +199,7 @@ answerTo (call cs c) = answers (box cs .lent) c
 answerTo (lent memory c) = answers memory c
 answerTo (missing cs) = those (missingIn segmentT 1 (past cs)) (suc (highestIn segmentT 1 (past cs)))
 answerTo (standing cs) = runsStanding segmentT 1 (past cs) ∷ []
-answerTo (next cs n) = cond (isTaken segmentT 1 (past cs) (messageOf list T (messages (n ∷ [])))) 1 0 ∷ runsStanding segmentT 1 (cameNext list T segmentT (messages (n ∷ [])) (past cs)) ∷ []
+answerTo (next cs n) = cond (isTaken segmentT 1 (past cs) (messageOf lists T (messages (n ∷ [])))) 1 0 ∷ runsStanding segmentT 1 (cameNext lists T segmentT (messages (n ∷ [])) (past cs)) ∷ []
 answerTo (write a) = writer.answerTo a
 
 -- 01 "Cases": what is asked, and what the paper says
@@ -240,7 +252,7 @@ unfoldable pub sayings : List Case → List (List ℕ)
 sayings = map (λ (c : Case). c .says)
 
 pub P1-to-P14 : answered cases ≡ sayings cases
-unfolding cases answered sayings bitStep byteStep step walk readAs segmentsOf letterAt zeroAt countAt offsetAt contractsBefore segmentOf entrySound headerSoundBy gapsOf laid soundGapRow formsOf formOf sumRule writtenForm letterOf secondOf lengthOf numberOf dataIn sumSent endByte formIn sumIn rightSum framed coded trailed summed headOf messageKey keyPlace contentsBy messageOf flagOf sizeOf countOf messageActs messagesAct batchActs gapsOfLetter listRules runsPut writeOffRules lentWrittenOff rowsStarted recordsCleared segmentRules writeRules lengthWritten dataWritten rowText quoteOf cellsOf textOf size sizeIn startRules eachStarts keyFrom keySound bodySound soundBy rowsOf namedRows
+unfolding noSpreads pairsListed spreadHeaderSound spreadsSound cases answered sayings bitStep byteStep step walk readAs segmentsOf letterAt zeroAt countAt offsetAt contractsBefore segmentOf entrySound headerSoundBy gapsOf laid soundGapRow formsOf formOf sumRule writtenForm letterOf secondOf lengthOf numberOf dataIn sumSent endByte formIn sumIn rightSum framed coded trailed summed headOf messageKey keyPlace contentsBy messageOf flagOf sizeOf countOf messageActs messagesAct batchActs gapsOfLetter listRules runsPut writeOffRules lentWrittenOff rowsStarted recordsCleared segmentRules writeRules lengthWritten dataWritten rowText quoteOf cellsOf textOf size sizeIn startRules eachStarts keyFrom keySound bodySound soundBy rowsOf namedRows
 P1-to-P14 = refl
 
 -- ---- the table of refusals, where P1 to P14 are silent
@@ -266,11 +278,11 @@ blank = "                 "
 abbrev batch : ℕ → List ℕ → Asked
 batch count bytes = call [] (take (plainBatch count bytes))
 
--- 01 "What may be asked": a batch taken with this list and these gap rows, whatever the start left
-abbrev handed : List ℕ → List ℕ → List ℕ → Asked
-handed list′ rows bytes = lent (lends list′ rows (started .lent .records)) (take bytes)
+-- 01 "What may be asked": a batch taken with these lists and these gap rows, whatever the start left
+abbrev handed : Lists → List ℕ → List ℕ → Asked
+handed lists′ rows bytes = lent (lends lists′ rows (started .lent .records)) (take bytes)
 
--- 01, the table of refusals: P5's batch with one thing wrong, in it or in the list and gap rows that are handed with it; an update
+-- 01, the table of refusals: P5's batch with one thing wrong, in it or in the lists and gap rows that are handed with it; an update
 -- behind its heartbeat with one thing wrong; and a start, a reading, a listing of P11's gaps and a write-off that are refused
 unfoldable pub refusals : List Case
 refusals =
@@ -284,21 +296,24 @@ refusals =
     ∷ record { asked = batch 1 (bare 68 78 11 0 0 13); says = 8 ∷ 0 ∷ 0 ∷ 0 ∷ [] }
     ∷ record { asked = batch 1 (bare 68 72 11 0 1 13); says = 9 ∷ 0 ∷ 0 ∷ 0 ∷ [] }
     ∷ record { asked = batch 1 (bare 68 72 11 1 0 13); says = 10 ∷ 0 ∷ 0 ∷ 0 ∷ [] }
-    ∷ record { asked = lent (lentFirst 264) (start list (1 ∷ 0 ∷ [])); says = 10 ∷ 0 ∷ 0 ∷ 0 ∷ [] }
+    ∷ record { asked = lent (lentFirst 264) (start lists (1 ∷ 0 ∷ [])); says = 10 ∷ 0 ∷ 0 ∷ 0 ∷ [] }
     ∷ record { asked = batch 2 (heartbeat ++ update 65 79 blank); says = 11 ∷ 1 ∷ 5 ∷ 0 ∷ [] }  -- at its market type O
     ∷ record { asked = batch 2 (heartbeat ++ update 65 78 "               -1"); says = 11 ∷ 1 ∷ 6 ∷ 0 ∷ [] }  -- at P10's text
     ∷ record { asked = batch 2 (heartbeat ++ update 65 78 "     100000000000"); says = 12 ∷ 1 ∷ 6 ∷ 0 ∷ [] }  -- at P9's text
     ∷ record { asked = batch 2 (heartbeat ++ update 66 78 blank); says = 13 ∷ 1 ∷ 0 ∷ 0 ∷ [] }
-    ∷ record { asked = call [] (readRecord T (keyOfBytes 65) One); says = 13 ∷ 0 ∷ 0 ∷ 0 ∷ [] }  -- a key of D
+    ∷ record { asked = call [] (readRecord Contract T (keyOfBytes 65) One); says = 13 ∷ 0 ∷ 0 ∷ 0 ∷ [] }  -- a key of D
     ∷ record { asked = call p11 (gapsIn 3); says = 15 ∷ 0 ∷ 0 ∷ 4 ∷ 0 ∷ 0 ∷ 0 ∷ [] }  -- and three cells as before
-    ∷ record { asked = lent (lentFirst 263) (start list starts); says = 15 ∷ 0 ∷ 0 ∷ 264 ∷ [] }
-    ∷ record { asked = handed list (drop 1 (started .lent .rows)) p5; says = 15 ∷ 0 ∷ 0 ∷ 264 ∷ [] }
-    ∷ record { asked = lent (lentFirst 264) (start (twoOf 68 84 18 57 (keyOfBytes 65 ++ keyOfBytes 66 ++ keyOfBytes 66)) starts); says = 16 ∷ 0 ∷ 0 ∷ 0 ∷ [] }  -- a key twice
-    ∷ record { asked = handed (list ++ (65 ∷ [])) (started .lent .rows) p5; says = 16 ∷ 0 ∷ 0 ∷ 0 ∷ [] }  -- a byte too many
+    ∷ record { asked = lent (lentFirst 263) (start lists starts); says = 15 ∷ 0 ∷ 0 ∷ 264 ∷ [] }
+    ∷ record { asked = handed lists (drop 1 (started .lent .rows)) p5; says = 15 ∷ 0 ∷ 0 ∷ 264 ∷ [] }
+    ∷ record { asked = lent (lentFirst 264) (start (withoutPairs (twoOf 68 84 18 57 (keyOfBytes 65 ++ keyOfBytes 66 ++ keyOfBytes 66))) starts); says = 16 ∷ 0 ∷ 0 ∷ 0 ∷ [] }  -- a key twice
+    ∷ record { asked = handed (withoutPairs (contracts ++ (65 ∷ []))) (started .lent .rows) p5; says = 16 ∷ 0 ∷ 0 ∷ 0 ∷ [] }  -- a byte too many
+    ∷ record { asked = lent (lentFirst 264) (start (record { contracts = contracts; pairs = [] }) starts); says = 16 ∷ 0 ∷ 0 ∷ 0 ∷ [] }  -- M-100: no spread list
+    ∷ record { asked = handed (record { contracts = contracts; pairs = [] }) (started .lent .rows) p5; says = 16 ∷ 0 ∷ 0 ∷ 0 ∷ [] }
+    ∷ record { asked = call [] (readRecord Pair T (keyOfBytes 66 ++ keyOfBytes 66) One); says = 13 ∷ 0 ∷ 0 ∷ 0 ∷ [] }  -- M-100: a pair that isn't listed
     ∷ record { asked = call [] (writeOff T); says = 17 ∷ 0 ∷ 0 ∷ 0 ∷ [] }
-    ∷ record { asked = handed list (set (started .lent .rows) 132 0) p5; says = 18 ∷ 0 ∷ 0 ∷ 0 ∷ [] }  -- T's row, start 0
+    ∷ record { asked = handed lists (set (started .lent .rows) 132 0) p5; says = 18 ∷ 0 ∷ 0 ∷ 0 ∷ [] }  -- T's row, start 0
     ∷ []
 
 pub refusals-told : answered refusals ≡ sayings refusals
-unfolding refusals answered sayings bitStep byteStep step walk readAs segmentsOf letterAt zeroAt countAt offsetAt keyFrom contractsBefore segmentOf lookup halvedIn entrySound headerSoundBy keySound bodySound soundBy gapsOf laid soundGapRow formsOf formOf sumRule writtenForm letterOf secondOf lengthOf numberOf dataIn sumSent endByte formIn sumIn rightSum framed coded trailed summed headOf messageKey keyPlace contentsBy messageOf flagOf sizeOf countOf messageActs messagesAct batchActs gapsOfLetter listRules runsPut writeOffRules recordRules startRules eachStarts rowsStarted recordsCleared segmentRules messageBytes readRow rowsOf namedRows
+unfolding noSpreads pairsListed spreadHeaderSound spreadsSound refusals answered sayings bitStep byteStep step walk readAs segmentsOf letterAt zeroAt countAt offsetAt keyFrom contractsBefore segmentOf lookup halvedIn entrySound headerSoundBy keySound bodySound soundBy gapsOf laid soundGapRow formsOf formOf sumRule writtenForm letterOf secondOf lengthOf numberOf dataIn sumSent endByte formIn sumIn rightSum framed coded trailed summed headOf messageKey keyPlace contentsBy messageOf flagOf sizeOf countOf messageActs messagesAct batchActs gapsOfLetter listRules runsPut writeOffRules recordRules startRules eachStarts rowsStarted recordsCleared segmentRules messageBytes readRow rowsOf namedRows
 refusals-told = refl

@@ -7,6 +7,7 @@ use mathlib.Core.Option.{Option, none, some}
 use lib.Dec.{eqb}
 use lib.ListN.{drop}
 use Rattle.contracts.specs.Lookup.{segmentOf}
+use Rattle.pairs.specs.Lists.{Lists}
 use Rattle.sequence.specs.Runs.{Run, _to_, names}
 use Rattle.message.specs.Fields.{lengthOf}
 use Rattle.message.specs.Message.{Message}
@@ -30,13 +31,13 @@ pub data Event : Type 0 where
   off : ℕ → Run → Event
 
 -- 01 "The batch": so many messages, each where the one before it ends, as their bytes say
-abbrev pub messagesOf : ℕ → List ℕ → ℕ → List ℕ → List Message
-messagesOf zero list letter bytes = []
-messagesOf (suc more) list letter bytes = messageOf list letter bytes ∷ messagesOf more list letter (drop (lengthOf bytes) bytes)
+abbrev pub messagesOf : ℕ → Lists → ℕ → List ℕ → List Message
+messagesOf zero lists letter bytes = []
+messagesOf (suc more) lists letter bytes = messageOf lists letter bytes ∷ messagesOf more lists letter (drop (lengthOf bytes) bytes)
 
 -- 01 "The batch": the messages of a batch, as many as it counts
-abbrev pub batchMessages : List ℕ → List ℕ → List Message
-batchMessages list batch = messagesOf (countOf batch) list (batchLetter batch) (batchData batch)
+abbrev pub batchMessages : Lists → List ℕ → List Message
+batchMessages lists batch = messagesOf (countOf batch) lists (batchLetter batch) (batchData batch)
 
 -- 01 "Sequence and gaps": "Messages of one batch act in turn": the past, its latest event first, with messages that came in
 -- turn
@@ -50,9 +51,9 @@ cameIn none ms past = past
 cameIn (some i) ms past = allCame i ms past
 
 -- 01 "What may be asked": what taking a batch adds to the past, by its input and its answer: a refused call adds nothing
-abbrev pub afterTake : List ℕ → List ℕ → Judged → List Event → List Event
-afterTake list batch (judged.Accepted taken old heartbeats) past = cameIn (segmentOf list (batchLetter batch)) (batchMessages list batch) past
-afterTake list batch (judged.Refused refusal) past = past
+abbrev pub afterTake : Lists → List ℕ → Judged → List Event → List Event
+afterTake lists batch (judged.Accepted taken old heartbeats) past = cameIn (segmentOf (lists .contracts) (batchLetter batch)) (batchMessages lists batch) past
+afterTake lists batch (judged.Refused refusal) past = past
 
 -- 01 "Sequence and gaps": a run was written off of the segment that is listed for a letter
 abbrev pub offIn : Option ℕ → Run → List Event → List Event
@@ -60,9 +61,9 @@ offIn none run past = past
 offIn (some i) run past = off i run ∷ past
 
 -- 01 "What may be asked": a write-off adds the run it removed; a refused one nothing
-abbrev pub afterWriteOff : List ℕ → ℕ → WrittenOff → List Event → List Event
-afterWriteOff list letter (answer.Removed first last) past = offIn (segmentOf list letter) (first to last) past
-afterWriteOff list letter (answer.Refused refusal) past = past
+abbrev pub afterWriteOff : Lists → ℕ → WrittenOff → List Event → List Event
+afterWriteOff lists letter (answer.Removed first last) past = offIn (segmentOf (lists .contracts) letter) (first to last) past
+afterWriteOff lists letter (answer.Refused refusal) past = past
 
 -- ---- what was written off, and what was taken
 

@@ -4,6 +4,7 @@ use mathlib.Core.Path.{_≡_}
 use mathlib.Core.List.{List}
 use mathlib.Core.Option.{some}
 use lib.ListN.{length}
+use Rattle.pairs.specs.Lists.{Lists}
 use Rattle.state.specs.Memory.{Lent}
 use Rattle.quotebox.specs.Start.{startOf}
 use Rattle.history.specs.Machine.{Machine, Answers}
@@ -14,10 +15,10 @@ use Rattle.history.specs.Step.{step}
 use Rattle.history.specs.Histories.{Since, sinceAfter}
 
 -- demand 3: the machine of a past: the messages taken, the numbers written off, and the newest update of each slot
-abbrev pub machineOf : List ℕ → List ℕ → List Event → Machine
-machineOf list starts past =
+abbrev pub machineOf : Lists → List ℕ → List Event → Machine
+machineOf lists starts past =
     record {
-      list = list;
+      lists = lists;
       start = startOf starts;
       taken = λ i. takenOf i (startOf starts i) past;
       off = λ i. wroteOffIn i past;
@@ -28,5 +29,5 @@ machineOf list starts past =
 pub record NextCall (starts : List ℕ) (lent : Lent) (past : List Event) (c : Call) : Type 0 where
   pub later : Since
   pub then : sinceAfter lent c (some (record { starts = starts; past = past })) ≡ some later
-  pub answers : Answers (length (lent .rows)) (length (lent .records)) (machineOf (lent .list) starts past) c (step lent c .answer)
-      (machineOf (step lent c .left .list) (later .starts) (later .past))
+  pub answers : Answers (length (lent .rows)) (length (lent .records)) (machineOf (lent .lists) starts past) c (step lent c .answer)
+      (machineOf (step lent c .left .lists) (later .starts) (later .past))

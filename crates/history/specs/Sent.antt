@@ -7,13 +7,15 @@ use lib.ListN.{drop}
 use Rattle.forms.specs.declared.rows.Level.{Level}
 use Rattle.forms.specs.Forms.{namedRows, rowsOf, recordForm}
 use Rattle.forms.specs.Rows.{messageLength}
-use Rattle.quote.specs.declared.quote.Quote.{Quote}
-use Rattle.quote.specs.Shows.{fieldNamed, ShowsFields}
+use Rattle.forms.specs.declared.forms.Item.{Item}
+use Rattle.quote.specs.Shows.{fieldNamed}
 use Rattle.message.specs.Fields.{lengthOf, numberOf, dataOf}
 use Rattle.contracts.specs.Lookup.{segmentOf}
+use Rattle.pairs.specs.Lists.{Lists}
 use Rattle.message.specs.Message.{Message, messageKey}
 use Rattle.message.specs.Reads.{messageOf}
 use Rattle.batch.specs.Batch.{batchLetter, countOf, batchData}
+use Rattle.history.specs.Shown.{QuoteFor, ShowsEach}
 
 -- 01 "The batch": "Each message is a part of the batch that begins where the one before it ends": the bytes from each one's start
 abbrev pub messageStarts : ℕ → List ℕ → List (List ℕ)
@@ -21,23 +23,23 @@ messageStarts zero bytes = []
 messageStarts (suc more) bytes = bytes ∷ messageStarts more (drop (lengthOf bytes) bytes)
 
 -- 01 "The batch": a message that came in segment i is one of an accepted batch, by its bytes
-pub record Source (list : List ℕ) (batches : List (List ℕ)) (i : ℕ) (m : Message) : Type 0 where
+pub record Source (lists : Lists) (batches : List (List ℕ)) (i : ℕ) (m : Message) : Type 0 where
   pub batch : List ℕ
   pub accepted : List·Memᴰ batch batches
-  pub listed : segmentOf list (batchLetter batch) ≡ some i
+  pub listed : segmentOf (lists .contracts) (batchLetter batch) ≡ some i
   pub bytes : List ℕ
   pub in-batch : List·Memᴰ bytes (messageStarts (countOf batch) (batchData batch))
-  pub is : m ≡ messageOf list (batchLetter batch) bytes
+  pub is : m ≡ messageOf lists (batchLetter batch) bytes
 
--- demands 2 and 3: a record of a letter's key and level shows what a message of an accepted batch says: its number, and each number
+-- demands 2 and 3: a record of a letter's key and level, of a contract or of a pair, shows what a message of an accepted batch says: its number, and each number
 -- the exact decimal in the field of its name
-pub record ShownAsSent (batches : List (List ℕ)) (letter : ℕ) (key : List ℕ) (level : Level) (number : ℕ) (quote : Quote) : Type 0 where
+pub record ShownAsSent (batches : List (List ℕ)) (item : Item) (letter : ℕ) (key : List ℕ) (level : Level) (number : ℕ) (quote : QuoteFor item) : Type 0 where
   pub batch : List ℕ
   pub accepted : List·Memᴰ batch batches
   pub of-letter : batchLetter batch ≡ letter
   pub bytes : List ℕ
   pub in-batch : List·Memᴰ bytes (messageStarts (countOf batch) (batchData batch))
   pub number-is : numberOf bytes ≡ number
-  pub key-is : messageKey bytes ≡ key
-  pub level-is : lengthOf bytes ≡ messageLength (rowsOf (recordForm level))
-  pub shows : ShowsFields (fieldNamed (namedRows (recordForm level)) (dataOf bytes)) quote
+  pub key-is : messageKey item bytes ≡ key
+  pub level-is : lengthOf bytes ≡ messageLength (rowsOf (recordForm item level))
+  pub shows : ShowsEach item (fieldNamed (namedRows (recordForm item level)) (dataOf bytes)) quote

@@ -11,16 +11,17 @@ use Rattle.laws.specs.Choice.{clash}
 use Rattle.laws.specs.Tests.{eqb-is}
 use Rattle.laws.specs.Rules.{firstBroken}
 use Rattle.laws.specs.RulesLaws.{last-held}
-use Rattle.contracts.specs.File.{listedKey}
-use Rattle.contracts.specs.Habits.{contracts}
-use Rattle.contracts.specs.Lookup.{segmentOf, placeIn}
+use Rattle.contracts.specs.File.{keyBy}
+use Rattle.contracts.specs.Lookup.{segmentOf}
 use Rattle.contracts.specs.LookupLaws.{segment-has, key-at-place}
+use Rattle.pairs.specs.Lists.{Lists}
 use Rattle.forms.specs.declared.rows.Level.{Level}
 use Rattle.forms.specs.Forms.{recordForm}
-use Rattle.quote.specs.Quote.{quoteOf}
+use Rattle.forms.specs.declared.forms.Item.{Item}
+use Rattle.message.specs.Items.{fileOf, habitOf}
 use Rattle.message.specs.declared.body.What.{What}
 use Rattle.message.specs.Fields.{lengthOf}
-use Rattle.message.specs.Message.{Message, keyPlace}
+use Rattle.message.specs.Message.{Message, keyPlace, placeIn}
 use Rattle.message.specs.Reads.{messageOf}
 use Rattle.message.specs.MessageLaws.{key-found}
 use Rattle.state.specs.declared.refusal.Refusal.{Refusal}
@@ -32,19 +33,18 @@ use Rattle.state.specs.declared.answers.Recorded.{Recorded}
 use Rattle.state.specs.Answers.{recordedNumbers, leftBy}
 use Rattle.state.specs.AnswersLaws.{accepted-by}
 use Rattle.state.specs.Memory.{Lent}
-use Rattle.state.specs.Slots.{Slot, contract}
+use Rattle.state.specs.Slots.{Slot, slot as recordSlot}
 use Rattle.state.specs.State.{segmentRules}
 use Rattle.state.specs.StateLaws.{is-some}
 use Rattle.batch.specs.Batch.{batchLetter, countOf, batchData}
 use Rattle.batch.specs.Acts.{batchActs}
-use Rattle.quotebox.specs.declared.record.Reading.{Reading}
-use Rattle.quotebox.specs.CallPromises.{ReadRecord}
 use Rattle.quotebox.specs.CallRules.{recordRules}
 use Rattle.quotebox.specs.Start.{startOf}
 use Rattle.quotebox.specs.StartActs.{lentStarted}
 use Rattle.sequence.specs.Runs.{Run}
 use Rattle.history.specs.Past.{Event, came, off, messagesOf, batchMessages, allCame, cameIn, afterTake, offIn, afterWriteOff, wroteOffIn, takenOf}
-use Rattle.history.specs.Calls.{start, judge, take, listGaps, writeOff, readRecord, writeMessage, withList}
+use Rattle.history.specs.Shown.{QuoteFor, shown, ReadsItem}
+use Rattle.history.specs.Calls.{start, judge, take, listGaps, writeOff, readRecord, writeMessage, writeSpread, noSpreads, withLists}
 use Rattle.history.specs.Step.{startRefusal, batchAnswer, offRefusal, offAnswer}
 use Rattle.history.specs.CallsLaws.{took-list, off-list}
 use Rattle.history.specs.Histories.{Made, own, elsewhere, Since, pastIn, BoxNow, unstarted, comes, afterCall, allAfter, accepting, batchesAfter, allBatches, Reached, batchesOf}
@@ -58,25 +58,25 @@ use Rattle.history.specs.Machine.{comesNew, taking, sequenceNumber}
 -- ---- where a message that came is from
 
 -- every message of the past is one
-abbrev Sourced : List ℕ → List (List ℕ) → List Event → Type 0
-Sourced list batches past = (i : ℕ) (m : Message) → List·Memᴰ (came i m) past → Source list batches i m
+abbrev Sourced : Lists → List (List ℕ) → List Event → Type 0
+Sourced lists batches past = (i : ℕ) (m : Message) → List·Memᴰ (came i m) past → Source lists batches i m
 
-none-came : (list : List ℕ) (batches : List (List ℕ)) → Sourced list batches []
-none-came list batches i m among = absurd (List·Memᴰ·not-nil among)
+none-came : (lists : Lists) (batches : List (List ℕ)) → Sourced lists batches []
+none-came lists batches i m among = absurd (List·Memᴰ·not-nil among)
 
-module _ (list : List ℕ) where
+module _ (lists : Lists) where
   -- more batches are accepted
-  more-accepted : (batch : List ℕ) (batches : List (List ℕ)) (past : List Event) → Sourced list batches past → Sourced list (batch ∷ batches) past
+  more-accepted : (batch : List ℕ) (batches : List (List ℕ)) (past : List Event) → Sourced lists batches past → Sourced lists (batch ∷ batches) past
   more-accepted batch batches past h i m among =
       let s = h i m among in
       record { batch = s .batch; accepted = List·Memᴰ·tail (s .accepted); listed = s .listed; bytes = s .bytes; in-batch = s .in-batch; is = s .is }
 
-  by-bytes : (letter : ℕ) (m : Message) (count : ℕ) (bytes : List ℕ) → List·Memᴰ m (messagesOf count list letter bytes)
-      → (b : List ℕ) × List·Memᴰ b (messageStarts count bytes) × (m ≡ messageOf list letter b)
+  by-bytes : (letter : ℕ) (m : Message) (count : ℕ) (bytes : List ℕ) → List·Memᴰ m (messagesOf count lists letter bytes)
+      → (b : List ℕ) × List·Memᴰ b (messageStarts count bytes) × (m ≡ messageOf lists letter b)
   by-bytes letter m zero bytes among = absurd (List·Memᴰ·not-nil among)
   by-bytes letter m (suc more) bytes among =
-      ⊎-elim (λ (e : m ≡ messageOf list letter bytes). (bytes, List·Memᴰ·head refl, e))
-      (λ (later : List·Memᴰ m (messagesOf more list letter (drop (lengthOf bytes) bytes))).
+      ⊎-elim (λ (e : m ≡ messageOf lists letter bytes). (bytes, List·Memᴰ·head refl, e))
+      (λ (later : List·Memᴰ m (messagesOf more lists letter (drop (lengthOf bytes) bytes))).
       let s = by-bytes letter m more (drop (lengthOf bytes) bytes) later in
       (s .0, List·Memᴰ·tail (s .1), s .2))
       (List·Memᴰ·cases-cons among)
@@ -95,62 +95,64 @@ module _ (list : List ℕ) where
       go (inl h) = inl (h .0, List·Memᴰ·tail (h .1))
       go (inr later) = first (List·Memᴰ·cases-cons later)
 
-  batch-sourced : (batch : List ℕ) (batches : List (List ℕ)) (past : List Event) → Sourced list batches past
-      → (o : Option ℕ) → segmentOf list (batchLetter batch) ≡ o → Sourced list (batch ∷ batches) (cameIn o (batchMessages list batch) past)
+  batch-sourced : (batch : List ℕ) (batches : List (List ℕ)) (past : List Event) → Sourced lists batches past
+      → (o : Option ℕ) → segmentOf (lists .contracts) (batchLetter batch) ≡ o → Sourced lists (batch ∷ batches) (cameIn o (batchMessages lists batch) past)
   batch-sourced batch batches past h none e j m among = more-accepted batch batches past h j m among
   batch-sourced batch batches past h (some i) e j m among =
-      ⊎-elim (λ (here : (j ≡ i) × List·Memᴰ m (batchMessages list batch)).
+      ⊎-elim (λ (here : (j ≡ i) × List·Memᴰ m (batchMessages lists batch)).
       let s = by-bytes (batchLetter batch) m (countOf batch) (batchData batch) (here .1) in
       record { batch = batch; accepted = List·Memᴰ·head refl; listed = e ∙ ap some (sym (here .0)); bytes = s .0; in-batch = s .1; is = s .2 })
       (λ (before : List·Memᴰ (came j m) past). more-accepted batch batches past h j m before)
-      (came-from i j m (batchMessages list batch) past among)
+      (came-from i j m (batchMessages lists batch) past among)
 
-  take-sourced : (batch : List ℕ) (batches : List (List ℕ)) (past : List Event) → Sourced list batches past
-      → (a : Judged) → Sourced list (accepting a batch batches) (afterTake list batch a past)
-  take-sourced batch batches past h (judged.Accepted taken old heartbeats) = batch-sourced batch batches past h (segmentOf list (batchLetter batch)) refl
+  take-sourced : (batch : List ℕ) (batches : List (List ℕ)) (past : List Event) → Sourced lists batches past
+      → (a : Judged) → Sourced lists (accepting a batch batches) (afterTake lists batch a past)
+  take-sourced batch batches past h (judged.Accepted taken old heartbeats) = batch-sourced batch batches past h (segmentOf (lists .contracts) (batchLetter batch)) refl
   take-sourced batch batches past h (judged.Refused refusal) = h
 
-  off-sourced : (batches : List (List ℕ)) (past : List Event) → Sourced list batches past → (o : Option ℕ) (r : Run) → Sourced list batches (offIn o r past)
+  off-sourced : (batches : List (List ℕ)) (past : List Event) → Sourced lists batches past → (o : Option ℕ) (r : Run) → Sourced lists batches (offIn o r past)
   off-sourced batches past h none r j m among = h j m among
   off-sourced batches past h (some i) r j m among =
       ⊎-elim (λ (e : came j m ≡ off i r). absurd (clash (cc))) (λ (before : List·Memᴰ (came j m) past). h j m before) (List·Memᴰ·cases-cons among)
 
-  write-off-sourced : (letter : ℕ) (batches : List (List ℕ)) (past : List Event) → Sourced list batches past
-      → (a : WrittenOff) → Sourced list batches (afterWriteOff list letter a past)
-  write-off-sourced letter batches past h (answer.Removed first last) = off-sourced batches past h (segmentOf list letter) _
+  write-off-sourced : (letter : ℕ) (batches : List (List ℕ)) (past : List Event) → Sourced lists batches past
+      → (a : WrittenOff) → Sourced lists batches (afterWriteOff lists letter a past)
+  write-off-sourced letter batches past h (answer.Removed first last) = off-sourced batches past h (segmentOf (lists .contracts) letter) _
   write-off-sourced letter batches past h (answer.Refused refusal) = h
 
 -- ---- every history
 
 abbrev Told : BoxNow → List (List ℕ) → Type 0
-Told now batches = Sourced (now .lent .list) batches (pastIn (now .since))
+Told now batches = Sourced (now .lent .lists) batches (pastIn (now .since))
 
 call-told : (now : BoxNow) (batches : List (List ℕ)) (c : Made) → Told now batches → Told (afterCall now c) (batchesAfter now c batches)
-call-told now batches (own (start list starts)) h = go (startRefusal (now .lent) list starts) refl
+call-told now batches (own (start lists starts)) h = go (startRefusal (now .lent) lists starts) refl
   where
-    go : (o : Option Refusal) → startRefusal (now .lent) list starts ≡ o
-        → Sourced (leftBy (startRefusal (now .lent) list starts) (now .lent) (lentStarted (withList list (now .lent)) starts) .list)
-        (leftBy (startRefusal (now .lent) list starts) batches [])
-        (pastIn (leftBy (startRefusal (now .lent) list starts) (now .since) (some (record { starts = starts; past = [] }))))
-    go none e = rw e (none-came list [])
+    go : (o : Option Refusal) → startRefusal (now .lent) lists starts ≡ o
+        → Sourced (leftBy (startRefusal (now .lent) lists starts) (now .lent) (lentStarted (withLists lists (now .lent)) starts) .lists)
+        (leftBy (startRefusal (now .lent) lists starts) batches [])
+        (pastIn (leftBy (startRefusal (now .lent) lists starts) (now .since) (some (record { starts = starts; past = [] }))))
+    go none e = rw e (none-came lists [])
     go (some refusal) e = rw e h
 call-told now batches (own (judge batch)) h = h
 call-told now batches (own (take batch)) h =
     rw (took-list (now .lent) (batchLetter batch) (batchActs (now .lent) batch)) (go (now .since) h)
   where
-    go : (since : Option Since) → Sourced (now .lent .list) batches (pastIn since)
-        → Sourced (now .lent .list) (accepting (batchAnswer (now .lent) batch) batch batches) (pastIn (comes (afterTake (now .lent .list) batch (batchAnswer (now .lent) batch)) since))
-    go none h = none-came (now .lent .list) (accepting (batchAnswer (now .lent) batch) batch batches)
-    go (some since) h = take-sourced (now .lent .list) batch batches (since .past) h (batchAnswer (now .lent) batch)
+    go : (since : Option Since) → Sourced (now .lent .lists) batches (pastIn since)
+        → Sourced (now .lent .lists) (accepting (batchAnswer (now .lent) batch) batch batches) (pastIn (comes (afterTake (now .lent .lists) batch (batchAnswer (now .lent) batch)) since))
+    go none h = none-came (now .lent .lists) (accepting (batchAnswer (now .lent) batch) batch batches)
+    go (some since) h = take-sourced (now .lent .lists) batch batches (since .past) h (batchAnswer (now .lent) batch)
 call-told now batches (own (listGaps letter cells)) h = h
 call-told now batches (own (writeOff letter)) h = rw (off-list (now .lent) letter (offRefusal (now .lent) letter)) (go (now .since) h)
   where
-    go : (since : Option Since) → Sourced (now .lent .list) batches (pastIn since)
-        → Sourced (now .lent .list) batches (pastIn (comes (afterWriteOff (now .lent .list) letter (offAnswer (now .lent) letter)) since))
-    go none h = none-came (now .lent .list) batches
-    go (some since) h = write-off-sourced (now .lent .list) letter batches (since .past) h (offAnswer (now .lent) letter)
-call-told now batches (own (readRecord letter key level)) h = h
+    go : (since : Option Since) → Sourced (now .lent .lists) batches (pastIn since)
+        → Sourced (now .lent .lists) batches (pastIn (comes (afterWriteOff (now .lent .lists) letter (offAnswer (now .lent) letter)) since))
+    go none h = none-came (now .lent .lists) batches
+    go (some since) h = write-off-sourced (now .lent .lists) letter batches (since .past) h (offAnswer (now .lent) letter)
+call-told now batches (own (readRecord item letter key level)) h = h
 call-told now batches (own (writeMessage code level number key quote out)) h = h
+call-told now batches (own (writeSpread code level number key quote out)) h = h
+call-told now batches (own (noSpreads list out)) h = h
 call-told now batches (elsewhere lent c) h = h
 
 all-told : (now : BoxNow) (batches : List (List ℕ)) (calls : List Made) → Told now batches → Told (allAfter now calls) (allBatches now calls batches)
@@ -176,14 +178,14 @@ taken-came i first (came j k ∷ past) m among = go (eqb j i) refl among (λ bef
 -- ---- the theorem
 
 -- a record that is answered is that of a listed key
-record-listed : {lent : Lent} {letter number : ℕ} {key : List ℕ} {level : Level} {reading : Reading} → ReadRecord lent letter key level reading
-    → reading .answer ≡ Recorded.Record number
-    → (i : ℕ) × (place : ℕ) × (segmentOf (lent .list) letter ≡ some i) × (placeIn (lent .list) i key ≡ some place)
+record-listed : {item : Item} {lent : Lent} {letter number : ℕ} {key : List ℕ} {level : Level} {answer : Recorded} {quote : QuoteFor item} → ReadsItem item lent letter key level answer quote
+    → answer ≡ Recorded.Record number
+    → (i : ℕ) × (place : ℕ) × (segmentOf (lent .lists .contracts) letter ≡ some i) × (placeIn item (lent .lists) i key ≡ some place)
 unfolding recordRules
-record-listed {lent} {letter} {number} {key} {level} p e =
-    let held : firstBroken (recordRules lent letter key) ≡ none = accepted-by (firstBroken (recordRules lent letter key)) _ (1 ∷ number ∷ []) (ap recordedNumbers (sym e) ∙ p .answers) .0 in
-    let there = is-some (keyPlace (lent .list) letter key) (last-held (segmentRules lent letter) _ held .1) in
-    let found = key-found (lent .list) letter key (there .0) (there .1) in
+record-listed {item} {lent} {letter} {number} {key} {level} p e =
+    let held : firstBroken (recordRules item lent letter key) ≡ none = accepted-by (firstBroken (recordRules item lent letter key)) _ (1 ∷ number ∷ []) (ap recordedNumbers (sym e) ∙ p .answers) .0 in
+    let there = is-some (keyPlace item (lent .lists) letter key) (last-held (segmentRules lent letter) _ held .1) in
+    let found = key-found item (lent .lists) letter key (there .0) (there .1) in
     (found .0, there .0, found .1, found .2)
 
 -- an update of a slot has that slot
@@ -195,36 +197,36 @@ own-slot slot what is = go (slotOf (segmentIn slot) what) refl is
     go (some other) e h = e ∙ ap some (same-slot other slot h)
 
 module _ {starts : List ℕ} {lent : Lent} {past : List Event} (r : Reached starts lent past) where
-  abbrev list : List ℕ
-  list = lent .list
+  abbrev lists : Lists
+  lists = lent .lists
 
-  reached-told : Sourced list (batchesOf r) past
+  reached-told : Sourced lists (batchesOf r) past
   reached-told =
-      subst (λ (now : BoxNow). Told now (batchesOf r)) (r .reaches) (all-told (unstarted (r .memory)) [] (r .calls) (none-came (r .memory .list) []))
+      subst (λ (now : BoxNow). Told now (batchesOf r)) (r .reaches) (all-told (unstarted (r .memory)) [] (r .calls) (none-came (r .memory .lists) []))
 
   -- a message that was taken is one of an accepted batch
-  pub taken-from : (i : ℕ) (m : Message) → List·Memᴰ m (takenOf i (startOf starts i) past) → Source list (batchesOf r) i m
+  pub taken-from : (i : ℕ) (m : Message) → List·Memᴰ m (takenOf i (startOf starts i) past) → Source lists (batchesOf r) i m
   taken-from i m taken = reached-told i m (taken-came i (startOf starts i) past m taken)
 
-  module _ (letter i : ℕ) (s : segmentOf list letter ≡ some i) (place : ℕ) (level : Level) where
+  module _ (letter i : ℕ) (s : segmentOf (lists .contracts) letter ≡ some i) (item : Item) (place : ℕ) (level : Level) where
     abbrev slot : Slot
-    slot = contract i place level
+    slot = recordSlot item i place level
 
-    sent : (key : List ℕ) → listedKey list i place ≡ key → (m : Message) → List·Memᴰ m (takenOf i (startOf starts i) past) → isOf slot (m .what) ≡ true
-        → ShownAsSent (batchesOf r) letter key level (sequenceNumber m) (quoteOf (recordForm level) (m .cells))
+    sent : (key : List ℕ) → keyBy (habitOf item) (fileOf item lists) i place ≡ key → (m : Message) → List·Memᴰ m (takenOf i (startOf starts i) past) → isOf slot (m .what) ≡ true
+        → ShownAsSent (batchesOf r) item letter key level (sequenceNumber m) (shown item (recordForm item level) (m .cells))
     sent key key-is m taken of-slot =
         let source = taken-from i m taken in
         let from : ℕ = batchLetter (source .batch) in
         let bytes : List ℕ = source .bytes in
-        let is : m ≡ messageOf list from bytes = source .is in
-        let says : UpdateSays list bytes m slot =
-        subst (λ (k : Message). UpdateSays list bytes k slot) (sym is)
-        (update-says list from i (source .listed) bytes slot (ap (λ (k : Message). slotOf i (k .what)) (sym is) ∙ own-slot slot (m .what) of-slot))
+        let is : m ≡ messageOf lists from bytes = source .is in
+        let says : UpdateSays lists bytes m slot =
+        subst (λ (k : Message). UpdateSays lists bytes k slot) (sym is)
+        (update-says lists from i (source .listed) bytes slot (ap (λ (k : Message). slotOf i (k .what)) (sym is) ∙ own-slot slot (m .what) of-slot))
         in
         record {
           batch = source .batch;
           accepted = source .accepted;
-          of-letter = sym (segment-has list from i (source .listed) .1) ∙ segment-has list letter i s .1;
+          of-letter = sym (segment-has (lists .contracts) from i (source .listed) .1) ∙ segment-has (lists .contracts) letter i s .1;
           bytes = bytes;
           in-batch = source .in-batch;
           number-is = says .number-is;
@@ -234,18 +236,18 @@ module _ {starts : List ℕ} {lent : Lent} {past : List Event} (r : Reached star
         }
 
   -- what is answered of a record is what was sent
-  pub shown-as-sent : (letter : ℕ) (key : List ℕ) (level : Level) (reading : Reading) (number : ℕ) → ReadRecord lent letter key level reading
-      → reading .answer ≡ Recorded.Record number → ShownAsSent (batchesOf r) letter key level number (reading .quote)
-  shown-as-sent letter key level reading number p e =
-      let found = record-listed p e in
+  pub shown-as-sent : (item : Item) (letter : ℕ) (key : List ℕ) (level : Level) (answer : Recorded) (quote : QuoteFor item) (number : ℕ) → ReadsItem item lent letter key level answer quote
+      → answer ≡ Recorded.Record number → ShownAsSent (batchesOf r) item letter key level number quote
+  shown-as-sent item letter key level answer quote number p e =
+      let found = record-listed {item = item} {lent = lent} {key = key} {level = level} {quote = quote} p e in
       let i : ℕ = found .0 in
       let place : ℕ = found .1 in
-      go i (found .2) place (key-at-place contracts list i key place (found .3) .1) (reads-key r letter i (found .2) key place (found .3) level reading p)
+      go i (found .2) place (key-at-place (habitOf item) (fileOf item lists) i key place (found .3) .1) (reads-key r item letter i (found .2) key place (found .3) level answer quote p)
     where
-      go : (i : ℕ) → segmentOf list letter ≡ some i → (place : ℕ) → listedKey list i place ≡ key
-          → ReadsNewest (contract i place level) (takenOf i (startOf starts i) past) reading → ShownAsSent (batchesOf r) letter key level number (reading .quote)
-      go i s place key-is (no-record none-taken answer quote) = let both : Recorded.NoRecord ≡ Recorded.Record number = sym answer ∙ e in absurd (clash (cc))
-      go i s place key-is (a-record m newest answer quote) =
-          let both : Recorded.Record (sequenceNumber m) ≡ Recorded.Record number = sym answer ∙ e in
+      go : (i : ℕ) → segmentOf (lists .contracts) letter ≡ some i → (place : ℕ) → keyBy (habitOf item) (fileOf item lists) i place ≡ key
+          → ReadsNewest (recordSlot item i place level) (takenOf i (startOf starts i) past) answer quote → ShownAsSent (batchesOf r) item letter key level number quote
+      go i s place key-is (no-record none-taken says shows) = let both : Recorded.NoRecord ≡ Recorded.Record number = sym says ∙ e in absurd (clash (cc))
+      go i s place key-is (a-record m newest says shows) =
+          let both : Recorded.Record (sequenceNumber m) ≡ Recorded.Record number = sym says ∙ e in
           let same : sequenceNumber m ≡ number = cc in
-          rw (← same, quote) (sent letter i s place level key key-is m (newest .was-taken) (newest .of-contract))
+          rw (← same, shows) (sent letter i s item place level key key-is m (newest .was-taken) (newest .of-slot))

@@ -6,9 +6,16 @@ use mathlib.Core.List.{List, _++_}
 use mathlib.Core.Option.{Option, none, some}
 use lib.Dec.{eqb}
 use lib.ListN.{length}
+use lib.Seq.{sets}
+use Rattle.pairs.specs.Lists.{Lists}
 use Rattle.laws.specs.Rules.{firstBroken}
 use Rattle.forms.specs.declared.rows.Level.{Level}
-use Rattle.quote.specs.declared.quote.Quote.{Quote}
+use Rattle.forms.specs.declared.forms.Form.{Form}
+use Rattle.forms.specs.declared.forms.Item.{Item}
+use Rattle.forms.specs.declared.forms.Item.the-variants.{Contract, Pair}
+use Rattle.pairs.specs.NoSpreads.{noSpreads}
+use Rattle.quote.specs.Quote.{cellsOf}
+use Rattle.quote.specs.Spread.{spreadCellsOf}
 use Rattle.sequence.specs.Gaps.{Gaps}
 use Rattle.sequence.specs.Runs.{Run}
 use Rattle.state.specs.declared.refusal.Refusal.{Refusal}
@@ -17,20 +24,21 @@ use Rattle.state.specs.declared.answers.Judged.{Judged}
 use Rattle.state.specs.declared.answers.Listed.{Listed}
 use Rattle.state.specs.declared.answers.WrittenOff.{WrittenOff}
 use Rattle.state.specs.declared.answers.Recorded.{Recorded}
-use Rattle.quotebox.specs.declared.record.Reading.{Reading}
 use Rattle.state.specs.declared.answers.Written.{Written}
-use Rattle.state.specs.Answers.{startedNumbers, judgedNumbers, listedNumbers, writtenOffNumbers, writtenNumbers, leftBy}
+use Rattle.state.specs.Answers.{startedNumbers, judgedNumbers, listedNumbers, writtenOffNumbers, recordedNumbers, writtenNumbers, leftBy}
 use Rattle.state.specs.Memory.{Lent}
 use Rattle.batch.specs.Batch.{batchLetter}
 use Rattle.batch.specs.Acts.{batchActs, answerOf, lentAfter}
 use Rattle.writer.specs.declared.writing.Code.{Code}
-use Rattle.writer.specs.Writer.{dataWritten, lengthWritten, writeRules, messagePut}
+use Rattle.writer.specs.Writer.{cellsWritten, dataWritten, lengthWritten, writeRules, messagePut}
 use Rattle.writer.specs.Chosen.{formWritten}
 use Rattle.quotebox.specs.StartActs.{startBroken, lentStarted}
 use Rattle.quotebox.specs.Calls.{runsPut, lowestRun, lentWrittenOff}
-use Rattle.quotebox.specs.CallRules.{gapsOfLetter, listRules, writeOffRules, recordRules}
-use Rattle.quotebox.specs.Record.{readingNumbers, recordOfKey, recordNumber, quoteAt, quoteBeside}
-use Rattle.history.specs.Calls.{Answer, Call, judge, judged, listGaps, listed, read, readRecord, start, started, take, took, withList, writeMessage, writeOff, wrote, wroteOff}
+use Rattle.quotebox.specs.CallRules.{gapsOfLetter, listRules, writeOffRules, recordRules, noSpreadsRules}
+use Rattle.quotebox.specs.Record.{recordOfKey, recordNumber, quoteAt, quoteBeside}
+use Rattle.history.specs.Shown.{QuoteFor, shown, blankFor}
+use Rattle.history.specs.Calls as calls
+use Rattle.history.specs.Calls.{Answer, Call, judge, judged, listGaps, listed, read, readRecord, start, started, take, took, withLists, writeMessage, writeSpread, writeOff, wrote, wroteOff}
 
 -- 01 "What may be asked": the answer of a call, and the lent memory that it leaves
 pub record Outcome : Type 0 where
@@ -38,8 +46,8 @@ pub record Outcome : Type 0 where
   pub left : Lent
 
 -- 01, the order of checks: the first broken rule of a start
-abbrev pub startRefusal : Lent → List ℕ → List ℕ → Option Refusal
-startRefusal lent list starts = startBroken (withList list lent) starts
+abbrev pub startRefusal : Lent → Lists → List ℕ → Option Refusal
+startRefusal lent lists starts = startBroken (withLists lists lent) starts
 
 -- 01 "What may be asked": start answers nothing more
 abbrev pub startAnswer : Option Refusal → Started
@@ -73,38 +81,55 @@ abbrev pub offAnswer : Lent → ℕ → WrittenOff
 offAnswer lent letter = removed (offRefusal lent letter) (lowestRun (gapsOfLetter lent letter))
 
 -- 01, the order of checks: the first broken rule of a reading
-abbrev pub readRefusal : Lent → ℕ → List ℕ → Option Refusal
-readRefusal lent letter key = firstBroken (recordRules lent letter key)
+abbrev pub readRefusal : Item → Lent → ℕ → List ℕ → Option Refusal
+readRefusal item lent letter key = firstBroken (recordRules item lent letter key)
 
 -- 01 "What may be asked": a record by its number, and "no record" where that is 0
 abbrev pub recordAnswer : Option Refusal → ℕ → Recorded
 recordAnswer (some refusal) number = Recorded.Refused refusal
 recordAnswer none number = cond (eqb number 0) Recorded.NoRecord (Recorded.Record number)
 
--- 01 "What may be asked": "A record holds its update's number and rows"
-abbrev pub readAnswer : Lent → ℕ → List ℕ → Level → Reading
-readAnswer lent letter key level =
-    record {
-      answer = recordAnswer (readRefusal lent letter key) (recordNumber (lent .records) (recordOfKey (lent .list) letter key level));
-      quote = quoteBeside (readRefusal lent letter key) (quoteAt (lent .records) (recordOfKey (lent .list) letter key level) level);
-    }
+-- 01 "What may be asked": "A record holds its update's number and rows": its number
+abbrev pub readAnswer : Item → Lent → ℕ → List ℕ → Level → Recorded
+readAnswer item lent letter key level = recordAnswer (readRefusal item lent letter key) (recordNumber (lent .records) (recordOfKey item (lent .lists) letter key level))
 
--- 01, the order of checks: the first broken rule of the writer
-abbrev pub writeRefusal : Code → Level → ℕ → List ℕ → Quote → List ℕ → Option Refusal
-writeRefusal code level number key quote out = firstBroken (writeRules (formWritten code level) number key quote (length out))
+-- 01 "What may be asked": and its rows
+abbrev pub readQuote : (item : Item) → Lent → ℕ → List ℕ → Level → QuoteFor item
+readQuote item lent letter key level =
+    quoteBeside (blankFor item) (readRefusal item lent letter key) (quoteAt (shown item) (blankFor item) item (lent .records) (recordOfKey item (lent .lists) letter key level) level)
+
+-- 01, the order of checks: the first broken rule of the writer, of a contract or of a pair, with the cells of its quote
+abbrev pub writeRefusal : Item → Code → Level → ℕ → List ℕ → (Form → List ℕ) → List ℕ → Option Refusal
+writeRefusal item code level number key cells out =
+    firstBroken (writeRules (formWritten item code level) number key (cellsWritten (formWritten item code level) cells) (length out))
 
 -- 01 "What may be asked": "the writer its length"
 abbrev pub writeAnswer : Option Refusal → ℕ → Written
 writeAnswer (some refusal) long = Written.Refused refusal
 writeAnswer none long = Written.Message long
 
--- 01 "What may be asked": what a call answers and leaves. A start that is refused leaves all lent memory, and the list of the
--- latest accepted one stays in use; the writer is handed no memory of the box
+-- 01 "What may be asked": what the writer leaves in the bytes lent
+abbrev pub writeLeaves : Item → Code → Level → ℕ → List ℕ → (Form → List ℕ) → List ℕ → List ℕ
+writeLeaves item code level number key cells out =
+    leftBy (writeRefusal item code level number key cells out) out
+    (messagePut code number (dataWritten (formWritten item code level) key (cellsWritten (formWritten item code level) cells) .bytes) out)
+
+-- 01 "What may be asked": the answer of the writer, with the bytes lent
+abbrev pub written : Item → Code → Level → ℕ → List ℕ → (Form → List ℕ) → List ℕ → Answer
+written item code level number key cells out =
+    wrote (writeAnswer (writeRefusal item code level number key cells out) (lengthWritten (formWritten item code level))) (writeLeaves item code level number key cells out)
+
+-- 01, the order of checks, M-100: the first broken rule of the spread list without pairs
+abbrev pub noSpreadsRefusal : List ℕ → List ℕ → Option Refusal
+noSpreadsRefusal list out = firstBroken (noSpreadsRules list (length out))
+
+-- 01 "What may be asked": what a call answers and leaves. A start that is refused leaves all lent memory, and the lists of the
+-- latest accepted one stay in use; the writer and the spread list without pairs are handed no memory of the box
 abbrev pub step : Lent → Call → Outcome
-step lent (start list starts) =
+step lent (start lists starts) =
     record {
-      answer = started (startAnswer (startRefusal lent list starts));
-      left = leftBy (startRefusal lent list starts) lent (lentStarted (withList list lent) starts);
+      answer = started (startAnswer (startRefusal lent lists starts));
+      left = leftBy (startRefusal lent lists starts) lent (lentStarted (withLists lists lent) starts);
     }
 step lent (judge batch) = record { answer = judged (batchAnswer lent batch); left = lent }
 step lent (take batch) =
@@ -118,12 +143,12 @@ step lent (listGaps letter cells) =
     }
 step lent (writeOff letter) =
     record { answer = wroteOff (offAnswer lent letter); left = leftBy (offRefusal lent letter) lent (lentWrittenOff lent letter) }
-step lent (readRecord letter key level) = record { answer = read (readAnswer lent letter key level); left = lent }
-step lent (writeMessage code level number key quote out) =
+step lent (readRecord item letter key level) = record { answer = read item (readAnswer item lent letter key level) (readQuote item lent letter key level); left = lent }
+step lent (writeMessage code level number key quote out) = record { answer = written Contract code level number key (λ form. cellsOf form quote) out; left = lent }
+step lent (writeSpread code level number key quote out) = record { answer = written Pair code level number key (λ form. spreadCellsOf form quote) out; left = lent }
+step lent (calls.noSpreads list out) =
     record {
-      answer =
-          wrote (writeAnswer (writeRefusal code level number key quote out) (lengthWritten (formWritten code level)))
-          (leftBy (writeRefusal code level number key quote out) out (messagePut code number (dataWritten (formWritten code level) key quote .bytes) out));
+      answer = wrote (writeAnswer (noSpreadsRefusal list out) (length (noSpreads list))) (leftBy (noSpreadsRefusal list out) out (sets out 0 (noSpreads list)));
       left = lent;
     }
 
@@ -134,5 +159,5 @@ answerNumbers (judged answer) = judgedNumbers answer
 answerNumbers (took answer) = judgedNumbers answer
 answerNumbers (listed answer cells) = listedNumbers answer ++ cells
 answerNumbers (wroteOff answer) = writtenOffNumbers answer
-answerNumbers (read reading) = readingNumbers reading
+answerNumbers (read item answer quote) = recordedNumbers answer
 answerNumbers (wrote answer out) = writtenNumbers answer ++ out

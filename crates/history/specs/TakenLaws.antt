@@ -127,8 +127,8 @@ module _ (ms ks : List Message) (same : (m : Message) → List·Memᴰ m ms ↔ 
   pub same-newest : ((m k : Message) → List·Memᴰ m ms → List·Memᴰ k ms → sequenceNumber m ≡ sequenceNumber k → m ≡ k) → (slot : Slot) (a b : Option Message)
       → FoundNewest slot ms a → FoundNewest slot ks b → a ≡ b
   same-newest apart slot none none p q = refl
-  same-newest apart slot none (some k) p q = absurd (true≢false (sym (q .of-contract) ∙ p k (same k .1 (q .was-taken))))
-  same-newest apart slot (some m) none p q = absurd (true≢false (sym (p .of-contract) ∙ q m (same m .0 (p .was-taken))))
+  same-newest apart slot none (some k) p q = absurd (true≢false (sym (q .of-slot) ∙ p k (same k .1 (q .was-taken))))
+  same-newest apart slot (some m) none p q = absurd (true≢false (sym (p .of-slot) ∙ q m (same m .0 (p .was-taken))))
   same-newest apart slot (some m) (some k) p q =
       let there = same k .1 (q .was-taken) in
-      ap some (apart m k (p .was-taken) there (le-antisymm (q .highest m (same m .0 (p .was-taken)) (p .of-contract)) (p .highest k there (q .of-contract))))
+      ap some (apart m k (p .was-taken) there (le-antisymm (q .highest m (same m .0 (p .was-taken)) (p .of-slot)) (p .highest k there (q .of-slot))))

@@ -13,6 +13,7 @@ use lib.Seq.{sets, length-sets}
 use Rattle.laws.specs.Choice.{either}
 use Rattle.laws.specs.Order.{same}
 use Rattle.contracts.specs.Lookup.{segmentOf}
+use Rattle.pairs.specs.Lists.{Lists}
 use Rattle.sequence.specs.Gaps.{Gaps, takes}
 use Rattle.sequence.specs.Changes.{full, after}
 use Rattle.sequence.specs.GapsLaws.{after-sound}
@@ -33,7 +34,7 @@ use Rattle.batch.specs.LeftLaws.{last-box}
 use Rattle.turns.specs.MessagesLaws.{not-both, messages-next, messages-refused}
 use Rattle.quotebox.specs.Start.{startOf}
 use Rattle.history.specs.Past.{Event, came, wroteOffIn, takenOf, messagesOf, takenFor}
-use Rattle.history.specs.Updates.{slotOf, isSlot, segmentIn, levelIn}
+use Rattle.history.specs.Updates.{slotOf, isSlot, segmentIn, itemIn, levelIn}
 use Rattle.history.specs.SegmentLaws.{takes-new, fits-taken}
 use Rattle.history.specs.Kept.{newest, RecordsFit, RecordHolds}
 use Rattle.history.specs.KeptLaws.{not-its, update-changes}
@@ -85,7 +86,7 @@ number-went box i number changed box′ e =
 -- ---- the records
 
 -- a message that isn't taken changes no record
-module _ (list starts records : List ℕ) (i : ℕ) (past : List Event) (m : Message) (fit : RecordsFit list starts records past) where
+module _ (lists : Lists) (starts records : List ℕ) (i : ℕ) (past : List Event) (m : Message) (fit : RecordsFit lists starts records past) where
   abbrev start : ℕ
   start = startOf starts i
 
@@ -93,11 +94,11 @@ module _ (list starts records : List ℕ) (i : ℕ) (past : List Event) (m : Mes
   before = takenOf i start past
 
   abbrev Here : List ℕ → List Event → Slot → Type 0
-  Here records then slot = RecordHolds list records slot (newest slot (takenFor starts slot then))
+  Here records then slot = RecordHolds lists records slot (newest slot (takenFor starts slot then))
 
-  pub records-kept : comesNew start before (wroteOffIn i past) m ≡ false → RecordsFit list starts records (came i m ∷ past)
+  pub records-kept : comesNew start before (wroteOffIn i past) m ≡ false → RecordsFit lists starts records (came i m ∷ past)
   records-kept not-new slot there =
-      ⊎-elim (λ (e : i ≡ segmentIn slot). subst (λ (ms : List Message). RecordHolds list records slot (newest slot ms)) (sym (still e)) (fit slot there))
+      ⊎-elim (λ (e : i ≡ segmentIn slot). subst (λ (ms : List Message). RecordHolds lists records slot (newest slot ms)) (sym (still e)) (fit slot there))
       (λ (n : i ≡ segmentIn slot → ⊥). rw (taken-elsewhere (segmentIn slot) (startOf starts (segmentIn slot)) i m past n) (fit slot there))
       (same i (segmentIn slot))
     where
@@ -108,18 +109,18 @@ module _ (list starts records : List ℕ) (i : ℕ) (past : List Event) (m : Mes
 
   -- one that is taken changes its slot's alone
   pub records-changed : (records′ : List ℕ) → comesNew start before (wroteOffIn i past) m ≡ true
-      → ((slot : Slot) → SlotListed list slot → (o : Option Message) → RecordHolds list records slot o
-      → RecordHolds list records′ slot (cond (isSlot slot (slotOf i (m .what))) (higher m o) o))
-      → RecordsFit list starts records′ (came i m ∷ past)
+      → ((slot : Slot) → SlotListed lists slot → (o : Option Message) → RecordHolds lists records slot o
+      → RecordHolds lists records′ slot (cond (isSlot slot (slotOf i (m .what))) (higher m o) o))
+      → RecordsFit lists starts records′ (came i m ∷ past)
   records-changed records′ new change slot there =
       let o : Option Message = newest slot (takenFor starts slot past) in
       let now = change slot there o (fit slot there) in
       ⊎-elim (λ (e : i ≡ segmentIn slot).
-      subst (λ (ms : List Message). RecordHolds list records′ slot (newest slot ms)) (sym (more e))
-      (subst (λ (j : ℕ). RecordHolds list records′ slot (cond (isSlot slot (slotOf j (m .what))) (higher m o) o)) e now))
+      subst (λ (ms : List Message). RecordHolds lists records′ slot (newest slot ms)) (sym (more e))
+      (subst (λ (j : ℕ). RecordHolds lists records′ slot (cond (isSlot slot (slotOf j (m .what))) (higher m o) o)) e now))
       (λ (n : i ≡ segmentIn slot → ⊥).
       rw (taken-elsewhere (segmentIn slot) (startOf starts (segmentIn slot)) i m past n)
-      (subst (λ (t : Bool). RecordHolds list records′ slot (cond t (higher m o) o)) (not-its slot i (m .what) n) now))
+      (subst (λ (t : Bool). RecordHolds lists records′ slot (cond t (higher m o) o)) (not-its slot i (m .what) n) now))
       (same i (segmentIn slot))
     where
       more : i ≡ segmentIn slot → takenFor starts slot (came i m ∷ past) ≡ m ∷ takenFor starts slot past
@@ -142,7 +143,7 @@ no-beat (what.PassedOver number) e = refl
 no-beat (what.Update number level place) e = refl
 no-beat (what.Bad fault) e = refl
 
-module _ (list starts : List ℕ) (letter i : ℕ) (listed : segmentOf list letter ≡ some i) (past : List Event) (box : Box) (f : BoxFits list starts i past box) where
+module _ (lists : Lists) (starts : List ℕ) (letter i : ℕ) (listed : segmentOf (lists .contracts) letter ≡ some i) (past : List Event) (box : Box) (f : BoxFits lists starts i past box) where
   abbrev begin : ℕ
   begin = startOf starts i
 
@@ -154,17 +155,18 @@ module _ (list starts : List ℕ) (letter i : ℕ) (listed : segmentOf list lett
 
   -- where a message is not taken the box stays, its counts apart
   stays : (m : Message) → comesNew begin earlier (wroteOffIn i past) m ≡ false → (taken old heartbeats : ℕ)
-      → BoxFits list starts i (came i m ∷ past) (record { row = box .row; records = box .records; taken = taken; old = old; heartbeats = heartbeats })
+      → BoxFits lists starts i (came i m ∷ past) (record { row = box .row; records = box .records; taken = taken; old = old; heartbeats = heartbeats })
   stays m none-new taken old heartbeats =
       record {
+        headers = f .headers;
         row-sound = f .row-sound;
         gaps-fit = rw (taken-here i begin m past, none-new) (f .gaps-fit);
-        records-fit = records-kept list starts (box .records) i past m (f .records-fit) none-new;
+        records-fit = records-kept lists starts (box .records) i past m (f .records-fit) none-new;
         records-long = f .records-long;
       }
 
   -- a heartbeat
-  beat-turns : (m : Message) → m .what ≡ what.Heartbeat → Turned list starts i past box (m ∷ []) (beatBox box)
+  beat-turns : (m : Message) → m .what ≡ what.Heartbeat → Turned lists starts i past box (m ∷ []) (beatBox box)
   beat-turns m e =
       let none-new : comesNew begin earlier (wroteOffIn i past) m ≡ false = simp e in
       record {
@@ -176,20 +178,21 @@ module _ (list starts : List ℕ) (letter i : ℕ) (listed : segmentOf list lett
 
   -- a message that is numbered
   module _ (m : Message) (numbered : isNumbered (m .what) ≡ true) (changed : List ℕ → List ℕ) (keeps : length (changed (box .records)) ≡ length (box .records))
-      (changes : comesNew begin earlier (wroteOffIn i past) m ≡ true → RecordsFit list starts (changed (box .records)) (came i m ∷ past)) where
+      (changes : comesNew begin earlier (wroteOffIn i past) m ≡ true → RecordsFit lists starts (changed (box .records)) (came i m ∷ past)) where
     abbrev n : ℕ
     n = sequenceNumber m
 
     new-is : takes g n ≡ comesNew begin earlier (wroteOffIn i past) m
     new-is = rw numbered (takes-new begin earlier (wroteOffIn i past) g (f .gaps-fit) n)
 
-    taken-turns : takes g n ≡ true → full g n ≡ false → Turned list starts i past box (m ∷ []) (tookBox box n changed)
+    taken-turns : takes g n ≡ true → full g n ≡ false → Turned lists starts i past box (m ∷ []) (tookBox box n changed)
     taken-turns t few =
         let new : comesNew begin earlier (wroteOffIn i past) m ≡ true = sym new-is ∙ t in
         let all = sound-row-exactly (box .row) .0 (f .row-sound) in
         let long = f .records-long in
         record {
           fits = record {
+            headers = f .headers;
             row-sound = laid-sound (box .row) (after g n) (all .0) (after-sound g (all .2) n few);
             gaps-fit = rw (taken-here i begin m past, new, laid-gaps (box .row) (after g n)) (fits-taken begin earlier (wroteOffIn i past) g (f .gaps-fit) m few);
             records-fit = changes new;
@@ -200,7 +203,7 @@ module _ (list starts : List ℕ) (letter i : ℕ) (listed : segmentOf list lett
           heartbeats-are = rw (no-beat (m .what) numbered) (omega arith);
         }
 
-    old-turns : takes g n ≡ false → Turned list starts i past box (m ∷ []) (oldBox box)
+    old-turns : takes g n ≡ false → Turned lists starts i past box (m ∷ []) (oldBox box)
     old-turns t =
         let not-new : comesNew begin earlier (wroteOffIn i past) m ≡ false = sym new-is ∙ t in
         record {
@@ -210,50 +213,50 @@ module _ (list starts : List ℕ) (letter i : ℕ) (listed : segmentOf list lett
           heartbeats-are = rw (no-beat (m .what) numbered) (omega arith);
         }
 
-    number-turns : (k : ℕ) (box′ : Box) → numberActs box k n changed ≡ acted box′ → Turned list starts i past box (m ∷ []) box′
+    number-turns : (k : ℕ) (box′ : Box) → numberActs box k n changed ≡ acted box′ → Turned lists starts i past box (m ∷ []) box′
     number-turns k box′ e =
         ⊎-elim (λ (w : (takes g n ≡ true) × (full g n ≡ false) × (box′ ≡ tookBox box n changed)). rw (w .2) (taken-turns (w .0) (w .1)))
         (λ (w : (takes g n ≡ false) × (box′ ≡ oldBox box)). rw (w .1) (old-turns (w .0)))
         (number-went box k n changed box′ e)
 
   -- message k has acted
-  module _ (k : ℕ) (bytes : List ℕ) (box′ : Box) (acts : messageActs list letter box k bytes ≡ acted box′) where
+  module _ (k : ℕ) (bytes : List ℕ) (box′ : Box) (acts : messageActs lists letter box k bytes ≡ acted box′) where
     abbrev m : Message
-    m = messageOf list letter bytes
+    m = messageOf lists letter bytes
 
     abbrev Turns : Type 0
-    Turns = Turned list starts i past box (m ∷ []) box′
+    Turns = Turned lists starts i past box (m ∷ []) box′
 
     pub message-turns : Turns
-    message-turns = go (does list letter i bytes listed)
+    message-turns = go (does lists letter i bytes listed)
       where
-        go : Does list letter i bytes → Turns
-        go (is-bad fault e) = absurd (not-both (sym (acts-as list letter bytes m refl e box k) ∙ acts))
-        go (beats e) = rw (same-box (sym (acts-as list letter bytes m refl e box k) ∙ acts)) (beat-turns m e)
+        go : Does lists letter i bytes → Turns
+        go (is-bad fault e) = absurd (not-both (sym (acts-as lists letter bytes m refl e box k) ∙ acts))
+        go (beats e) = rw (same-box (sym (acts-as lists letter bytes m refl e box k) ∙ acts)) (beat-turns m e)
         go (passes numbered none-of is) =
             number-turns m (numbered .0) (λ records. records) refl
             (λ new.
-            records-changed list starts (box .records) i past m (f .records-fit) (box .records) new
-            (λ slot there o kept. subst (λ (s : Option Slot). RecordHolds list (box .records) slot (cond (isSlot slot s) (higher m o) o)) (sym none-of) kept))
+            records-changed lists starts (box .records) i past m (f .records-fit) (box .records) new
+            (λ slot there o kept. subst (λ (s : Option Slot). RecordHolds lists (box .records) slot (cond (isSlot slot s) (higher m o) o)) (sym none-of) kept))
             k box′ (sym (is box k) ∙ acts)
         go (updates own numbered of-own is u) =
-            number-turns m (numbered .0) (storedIn list own m) (stored-long (slotAt list own) (sequenceNumber m) (recordOf (levelIn own) (m .cells)) (box .records))
+            number-turns m (numbered .0) (storedIn lists own m) (stored-long (slotAt lists own) (sequenceNumber m) (recordOf (itemIn own) (levelIn own) (m .cells)) (box .records))
             (λ new.
-            records-changed list starts (box .records) i past m (f .records-fit) (storedIn list own m (box .records)) new
+            records-changed lists starts (box .records) i past m (f .records-fit) (storedIn lists own m (box .records)) new
             (λ slot there o kept.
-            subst (λ (s : Option Slot). RecordHolds list (storedIn list own m (box .records)) slot (cond (isSlot slot s) (higher m o) o)) (sym of-own)
-            (update-changes list (box .records) (f .records-long) own (u .listed) m (u .some-number) (u .quote) (u .of-quote) slot there o kept)))
+            subst (λ (s : Option Slot). RecordHolds lists (storedIn lists own m (box .records)) slot (cond (isSlot slot s) (higher m o) o)) (sym of-own)
+            (update-changes lists (f .headers) (box .records) (f .records-long) own (u .listed) m (u .some-number) (u .quote) (u .of-quote) slot there o kept)))
             k box′ (sym (is box k) ∙ acts)
 
 -- ---- messages in turn
 
-module _ (list starts : List ℕ) (letter i : ℕ) (listed : segmentOf list letter ≡ some i) where
-  none-turned : (past : List Event) (box : Box) → BoxFits list starts i past box → Turned list starts i past box [] box
+module _ (lists : Lists) (starts : List ℕ) (letter i : ℕ) (listed : segmentOf (lists .contracts) letter ≡ some i) where
+  none-turned : (past : List Event) (box : Box) → BoxFits lists starts i past box → Turned lists starts i past box [] box
   none-turned past box f = record { fits = f; taken-are = omega arith; old-are = omega arith; heartbeats-are = omega arith }
 
   next-turned : (past : List Event) (box : Box) (m : Message) (box′ : Box) (ms : List Message) (box″ : Box)
-      → Turned list starts i past box (m ∷ []) box′ → Turned list starts i (came i m ∷ past) box′ ms box″
-      → Turned list starts i past box (m ∷ ms) box″
+      → Turned lists starts i past box (m ∷ []) box′ → Turned lists starts i (came i m ∷ past) box′ ms box″
+      → Turned lists starts i past box (m ∷ ms) box″
   next-turned past box m box′ ms box″ t u =
       record {
         fits = u .fits;
@@ -262,19 +265,19 @@ module _ (list starts : List ℕ) (letter i : ℕ) (listed : segmentOf list lett
         heartbeats-are = omega (arith, t .heartbeats-are, u .heartbeats-are);
       }
 
-  pub messages-turn : (count k : ℕ) (past : List Event) (box : Box) (bytes : List ℕ) (box′ : Box) → BoxFits list starts i past box
-      → messagesAct count list letter k box bytes ≡ acted box′ → Turned list starts i past box (messagesOf count list letter bytes) box′
-  messages-turn zero k past box bytes box′ f e = rw (← last-box list letter k box bytes box′ e) (none-turned past box f)
+  pub messages-turn : (count k : ℕ) (past : List Event) (box : Box) (bytes : List ℕ) (box′ : Box) → BoxFits lists starts i past box
+      → messagesAct count lists letter k box bytes ≡ acted box′ → Turned lists starts i past box (messagesOf count lists letter bytes) box′
+  messages-turn zero k past box bytes box′ f e = rw (← last-box lists letter k box bytes box′ e) (none-turned past box f)
   messages-turn (suc more) k past box bytes box′ f e =
-      let m : Message = messageOf list letter bytes in
-      go (messageActs list letter box k bytes) refl (λ b fit acts. messages-turn more (suc k) (came i m ∷ past) b (drop (lengthOf bytes) bytes) box′ fit acts)
+      let m : Message = messageOf lists letter bytes in
+      go (messageActs lists letter box k bytes) refl (λ b fit acts. messages-turn more (suc k) (came i m ∷ past) b (drop (lengthOf bytes) bytes) box′ fit acts)
     where
-      go : (a : Acted) → messageActs list letter box k bytes ≡ a
-          → ((b : Box) → BoxFits list starts i (came i (messageOf list letter bytes) ∷ past) b → messagesAct more list letter (suc k) b (drop (lengthOf bytes) bytes) ≡ acted box′
-          → Turned list starts i (came i (messageOf list letter bytes) ∷ past) b (messagesOf more list letter (drop (lengthOf bytes) bytes)) box′)
-          → Turned list starts i past box (messagesOf (suc more) list letter bytes) box′
-      go (refused refusal) h rest = absurd (not-both (sym (messages-refused list letter more k box bytes refusal h) ∙ e))
+      go : (a : Acted) → messageActs lists letter box k bytes ≡ a
+          → ((b : Box) → BoxFits lists starts i (came i (messageOf lists letter bytes) ∷ past) b → messagesAct more lists letter (suc k) b (drop (lengthOf bytes) bytes) ≡ acted box′
+          → Turned lists starts i (came i (messageOf lists letter bytes) ∷ past) b (messagesOf more lists letter (drop (lengthOf bytes) bytes)) box′)
+          → Turned lists starts i past box (messagesOf (suc more) lists letter bytes) box′
+      go (refused refusal) h rest = absurd (not-both (sym (messages-refused lists letter more k box bytes refusal h) ∙ e))
       go (acted b) h rest =
-          let t = message-turns list starts letter i listed past box f k bytes b h in
-          next-turned past box (messageOf list letter bytes) b (messagesOf more list letter (drop (lengthOf bytes) bytes)) box′ t
-          (rest b (t .fits) (sym (messages-next list letter more k box bytes b h) ∙ e))
+          let t = message-turns lists starts letter i listed past box f k bytes b h in
+          next-turned past box (messageOf lists letter bytes) b (messagesOf more lists letter (drop (lengthOf bytes) bytes)) box′ t
+          (rest b (t .fits) (sym (messages-next lists letter more k box bytes b h) ∙ e))

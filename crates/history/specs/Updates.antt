@@ -5,17 +5,20 @@ use mathlib.Core.List.{List}
 use mathlib.Core.Option.{Option, none, some}
 use lib.Dec.{eqb}
 use Rattle.forms.specs.declared.rows.Level.{Level}
-use Rattle.forms.specs.Forms.{sameLevel, subjectOf}
-use Rattle.contracts.specs.File.{letterAt, listedKey}
+use Rattle.forms.specs.declared.forms.Item.{Item}
+use Rattle.forms.specs.Forms.{sameLevel, sameItem, subjectOf}
+use Rattle.contracts.specs.File.{letterAt, keyBy}
+use Rattle.pairs.specs.Lists.{Lists}
 use Rattle.message.specs.declared.body.What.{What}
 use Rattle.message.specs.declared.body.What.the-variants.{Heartbeat, PassedOver, Update, Bad}
-use Rattle.state.specs.Slots.{Slot, contract, slotFor}
+use Rattle.message.specs.Items.{fileOf, habitOf}
+use Rattle.state.specs.Slots.{Slot, slot as recordSlot, slotFor}
 
 -- 01 "What may be asked": one record's slot
 abbrev pub sameSlot : Slot → Slot → Bool
-sameSlot (contract i place level) (contract j p l) = eqb i j && eqb place p && sameLevel level l
+sameSlot (recordSlot item i place level) (recordSlot other j p l) = eqb i j && eqb place p && sameLevel level l && sameItem item other
 
--- 01 "Sequence and gaps": an update of segment i replaces "its contract's record at its level": that one's slot
+-- 01 "Sequence and gaps": an update of segment i replaces "its contract's record at its level": that one's slot, M-100: or its pair's
 abbrev pub slotOf : ℕ → What → Option Slot
 slotOf i Heartbeat = none
 slotOf i (PassedOver number) = none
@@ -24,25 +27,29 @@ slotOf i (Bad fault) = none
 
 -- lent memory: the segment of a slot
 abbrev pub segmentIn : Slot → ℕ
-segmentIn (contract i place level) = i
+segmentIn (recordSlot item i place level) = i
 
 -- lent memory: the level of the updates that a slot holds
 abbrev pub levelIn : Slot → Level
-levelIn (contract i place level) = level
+levelIn (recordSlot item i place level) = level
+
+-- lent memory, M-100: whether a slot's record is a contract's or a pair's
+abbrev pub itemIn : Slot → Item
+itemIn (recordSlot item i place level) = item
 
 -- 01 "What may be asked": the letter that a slot's record is asked for by
-abbrev pub letterIn : List ℕ → Slot → ℕ
-letterIn list slot = letterAt list (segmentIn slot)
+abbrev pub letterIn : Lists → Slot → ℕ
+letterIn lists slot = letterAt (lists .contracts) (segmentIn slot)
 
 -- 01 "What may be asked": the key that a slot's record is asked for by
-abbrev pub keyIn : List ℕ → Slot → List ℕ
-keyIn list (contract i place level) = listedKey list i place
+abbrev pub keyIn : Lists → Slot → List ℕ
+keyIn lists (recordSlot item i place level) = keyBy (habitOf item) (fileOf item lists) i place
 
 -- 01 "Sequence and gaps": the slot, where there is one, is this one
 abbrev pub isSlot : Slot → Option Slot → Bool
 isSlot slot none = false
 isSlot slot (some other) = sameSlot other slot
 
--- 01 "Sequence and gaps": an update of the slot's contract and level, among messages of the slot's segment
+-- 01 "Sequence and gaps": an update of the slot's contract or pair and level, among messages of the slot's segment
 abbrev pub isOf : Slot → What → Bool
 isOf slot what = isSlot slot (slotOf (segmentIn slot) what)

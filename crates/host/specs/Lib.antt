@@ -1,6 +1,2 @@
 pub mod Promises
 pub mod PromisesLaws
-pub mod Shown
-pub mod ShownLaws
-pub mod Told
-pub mod ToldLaws

@@ -3,22 +3,28 @@ use Prim.Native.Nat.{ℕ}
 use mathlib.Core.Path.{_≡_}
 use mathlib.Core.List.{List}
 use lib.ListN.{getD}
+use Rattle.forms.specs.declared.forms.Form.{Form}
+use Rattle.forms.specs.declared.forms.Item.{Item}
+use Rattle.forms.specs.declared.forms.Item.the-variants.{Contract, Pair}
 use Rattle.forms.specs.declared.rows.Level.{Level}
+use Rattle.quote.specs.Quote.{quoteOf, cellsOf}
+use Rattle.quote.specs.Spread.{spreadQuoteOf, spreadCellsOf}
 use Rattle.state.specs.declared.answers.Started.{Started}
 use Rattle.state.specs.declared.answers.Judged.{Judged}
 use Rattle.state.specs.declared.answers.Listed.{Listed}
 use Rattle.state.specs.declared.answers.WrittenOff.{WrittenOff}
-use Rattle.quotebox.specs.declared.record.Reading.{Reading}
+use Rattle.state.specs.declared.answers.Recorded.{Recorded}
 use Rattle.state.specs.declared.answers.Written.{Written}
 use Rattle.writer.specs.declared.writing.Code.{Code}
 use Rattle.state.specs.Answers.{startedNumbers, judgedNumbers, listedNumbers, writtenOffNumbers, writtenNumbers}
 use Rattle.state.specs.Memory.{Lent}
 use Rattle.batch.specs.Promises.{JudgedBatch, TookBatch}
-use Rattle.quotebox.specs.CallPromises.{StartedBox, ListedRuns, WroteOffRun, ReadRecord}
-use Rattle.writer.specs.WriterPromises.{WroteMessage}
-use Rattle.host.specs.Told.{Tells, recordNumbers}
-use Rattle.values.specs.Values.{quoteIn}
-use Rattle.host.specs.Shown.{valuesAfter}
+use Rattle.quotebox.specs.Record.{blank, blankSpread}
+use Rattle.quotebox.specs.CallPromises.{StartedBox, ListedRuns, WroteOffRun, ReadsFor, PutNoSpreads}
+use Rattle.writer.specs.WriterPromises.{WroteCells}
+use Rattle.told.specs.Told.{Tells, recordNumbers}
+use Rattle.values.specs.Values.{rowValues, quoteIn, spreadValues, spreadIn}
+use Rattle.told.specs.Shown.{valuesAfter}
 
 -- 01 "What may be asked": start, told to a host
 pub record HostStarted (lent : Lent) (starts : List ℕ) (returned : ℕ) (lent′ : Lent) (answer′ : List ℕ) : Type 0 where
@@ -50,19 +56,42 @@ pub record HostWroteOff (lent : Lent) (letter : ℕ) (returned : ℕ) (lent′ :
   pub promised : WroteOffRun lent letter written-off lent′
   pub tells : Tells (writtenOffNumbers written-off) returned answer′
 
--- 01 "What may be asked": read a record, told to a host, its rows as values
-pub record HostRead (lent : Lent) (letter : ℕ) (key : List ℕ) (level : Level) (values : List ℕ) (returned : ℕ) (values′ answer′ : List ℕ) : Type 0 where
-  pub reading : Reading
-  pub promised : ReadRecord lent letter key level reading
-  pub tells : Tells (recordNumbers (reading .answer)) returned answer′
-  pub shows : values′ ≡ valuesAfter (reading .answer) level (reading .quote) values
+-- 01 "What may be asked", M-100: read a record, of a contract or of a pair, told to a host, its rows as values
+pub record HostReads {A : Type 0} (show : Form → List ℕ → A) (blank : A) (valuesOf : Level → A → List ℕ) (item : Item) (lent : Lent) (letter : ℕ) (key : List ℕ) (level : Level) (values : List ℕ) (returned : ℕ) (values′ answer′ : List ℕ) : Type 0 where
+  pub recorded : Recorded
+  pub quote : A
+  pub promised : ReadsFor show blank item lent letter key level recorded quote
+  pub tells : Tells (recordNumbers recorded) returned answer′
+  pub shows : values′ ≡ valuesAfter recorded (valuesOf level quote) values
+
+-- 01 "What may be asked": a contract's record
+abbrev pub HostRead : Lent → ℕ → List ℕ → Level → List ℕ → ℕ → List ℕ → List ℕ → Type 0
+HostRead lent letter key level values returned values′ answer′ = HostReads quoteOf blank rowValues Contract lent letter key level values returned values′ answer′
+
+-- M-100: a pair's record
+abbrev pub HostReadSpread : Lent → ℕ → List ℕ → Level → List ℕ → ℕ → List ℕ → List ℕ → Type 0
+HostReadSpread lent letter pair level values returned values′ answer′ = HostReads spreadQuoteOf blankSpread spreadValues Pair lent letter pair level values returned values′ answer′
 
 -- the host's header: a code is lent as its two bytes
 abbrev pub codeOf : List ℕ → Code
 codeOf bytes = record { 0 = getD bytes 0 0; 1 = getD bytes 1 0 }
 
--- 01 "What may be asked": write a message, told to a host, its rows handed as values
-pub record HostWrote (code : List ℕ) (level : Level) (number : ℕ) (key values out : List ℕ) (returned : ℕ) (out′ answer′ : List ℕ) : Type 0 where
+-- 01 "What may be asked", M-100: write a message, of a contract or of a pair, told to a host, from the cells of its quote
+pub record HostWrites (item : Item) (code : List ℕ) (level : Level) (number : ℕ) (key : List ℕ) (cells : Form → List ℕ) (out : List ℕ) (returned : ℕ) (out′ answer′ : List ℕ) : Type 0 where
   pub written : Written
-  pub promised : WroteMessage (codeOf code) level number key (quoteIn level values) out written out′
+  pub promised : WroteCells item (codeOf code) level number key cells out written out′
+  pub tells : Tells (writtenNumbers written) returned answer′
+
+-- 01 "What may be asked": a heartbeat, or an update of a contract, its rows handed as values
+abbrev pub HostWrote : List ℕ → Level → ℕ → List ℕ → List ℕ → List ℕ → ℕ → List ℕ → List ℕ → Type 0
+HostWrote code level number key values out returned out′ answer′ = HostWrites Contract code level number key (λ form. cellsOf form (quoteIn level values)) out returned out′ answer′
+
+-- M-100: an update of a pair, its rows handed as values
+abbrev pub HostWroteSpread : List ℕ → Level → ℕ → List ℕ → List ℕ → List ℕ → ℕ → List ℕ → List ℕ → Type 0
+HostWroteSpread code level number pair values out returned out′ answer′ = HostWrites Pair code level number pair (λ form. spreadCellsOf form (spreadIn level values)) out returned out′ answer′
+
+-- M-100: the spread list without pairs, told to a host
+pub record HostPutNoSpreads (list out : List ℕ) (returned : ℕ) (out′ answer′ : List ℕ) : Type 0 where
+  pub written : Written
+  pub promised : PutNoSpreads list out written out′
   pub tells : Tells (writtenNumbers written) returned answer′

@@ -1,19 +1,21 @@
 -- Two outcomes that a promise allows are equal: the number returned, the answer, and every lent cell.
 use Prim.Native.Nat.{ℕ}
-use mathlib.Core.Path.{_≡_, sym, ap, _∙_}
+use mathlib.Core.Path.{_≡_, sym, ap₂, _∙_}
 use mathlib.Core.List.{List}
+use Rattle.forms.specs.declared.forms.Form.{Form}
+use Rattle.forms.specs.declared.forms.Item.{Item}
 use Rattle.forms.specs.declared.rows.Level.{Level}
-use Rattle.quotebox.specs.declared.record.Reading.{Reading}
+use Rattle.state.specs.declared.answers.Recorded.{Recorded}
 use Rattle.state.specs.Answers.{startedNumbers, judgedNumbers, listedNumbers, writtenOffNumbers, writtenNumbers}
 use Rattle.state.specs.Memory.{Lent}
-use Rattle.quotebox.specs.CallPromisesLaws.{one-started, one-listed, one-written-off, one-reading}
+use Rattle.state.specs.AnswersLaws.{recorded-told, written-told}
+use Rattle.quotebox.specs.CallPromisesLaws.{one-started, one-listed, one-written-off}
 use Rattle.batch.specs.TookLaws.{one-judged, one-took}
 use Rattle.writer.specs.WriterPromisesLaws.{one-written}
-use Rattle.host.specs.Told.{recordNumbers}
-use Rattle.host.specs.ToldLaws.{told-once}
-use Rattle.values.specs.Values.{quoteIn}
-use Rattle.host.specs.Shown.{valuesAfter}
-use Rattle.host.specs.Promises.{HostStarted, HostJudged, HostTook, HostListed, HostWroteOff, HostRead, codeOf, HostWrote}
+use Rattle.told.specs.Told.{recordNumbers}
+use Rattle.told.specs.ToldLaws.{told-once}
+use Rattle.told.specs.Shown.{valuesAfter}
+use Rattle.host.specs.Promises.{HostStarted, HostJudged, HostTook, HostListed, HostWroteOff, HostReads, codeOf, HostWrites, HostPutNoSpreads}
 
 pub start-once : {lent lent′ lent″ : Lent} {starts answer′ answer″ : List ℕ} {r s : ℕ}
     → HostStarted lent starts r lent′ answer′ → HostStarted lent starts s lent″ answer″ → ((r ≡ s) × (answer′ ≡ answer″)) × (lent′ ≡ lent″)
@@ -45,18 +47,26 @@ write-off-once p q =
     let one = one-written-off (p .written-off) (q .written-off) (p .promised) (q .promised) in
     (told-once writtenOffNumbers (one .0) (p .tells) (q .tells), one .1)
 
-pub read-once : {lent : Lent} {key values values′ values″ answer′ answer″ : List ℕ} {letter r s : ℕ} {level : Level}
-    → HostRead lent letter key level values r values′ answer′ → HostRead lent letter key level values s values″ answer″
+pub read-once : {A : Type 0} {show : Form → List ℕ → A} {blank : A} {valuesOf : Level → A → List ℕ} {item : Item} {lent : Lent}
+    {key values values′ values″ answer′ answer″ : List ℕ} {letter r s : ℕ} {level : Level}
+    → HostReads show blank valuesOf item lent letter key level values r values′ answer′ → HostReads show blank valuesOf item lent letter key level values s values″ answer″
     → ((r ≡ s) × (answer′ ≡ answer″)) × (values′ ≡ values″)
-read-once {values = values} {level = level} p q =
-    let one : p .reading ≡ q .reading = one-reading (p .reading) (q .reading) (p .promised) (q .promised) in (
-      told-once (λ (r : Reading). recordNumbers (r .answer)) one (p .tells) (q .tells),
-      p .shows ∙ ap (λ (r : Reading). valuesAfter (r .answer) level (r .quote) values) one ∙ sym (q .shows),
+read-once {A} {valuesOf = valuesOf} {values = values} {level = level} p q =
+    let same : p .recorded ≡ q .recorded = recorded-told (p .recorded) (q .recorded) (p .promised .answers ∙ sym (q .promised .answers)) in
+    let quotes : p .quote ≡ q .quote = p .promised .quotes ∙ sym (q .promised .quotes) in (
+      told-once recordNumbers same (p .tells) (q .tells),
+      p .shows ∙ ap₂ (λ (r : Recorded) (x : A). valuesAfter r (valuesOf level x) values) same quotes ∙ sym (q .shows),
     )
 
-pub write-once : {code key values out out′ out″ answer′ answer″ : List ℕ} {level : Level} {number r s : ℕ}
-    → HostWrote code level number key values out r out′ answer′ → HostWrote code level number key values out s out″ answer″
+pub write-once : {item : Item} {cells : Form → List ℕ} {code key out out′ out″ answer′ answer″ : List ℕ} {level : Level} {number r s : ℕ}
+    → HostWrites item code level number key cells out r out′ answer′ → HostWrites item code level number key cells out s out″ answer″
     → ((r ≡ s) × (answer′ ≡ answer″)) × (out′ ≡ out″)
-write-once {code} {key} {values} {out} {level = level} {number = number} p q =
-    let one = one-written (codeOf code) level number key (quoteIn level values) out (p .written) (q .written) (p .promised) (q .promised) in
+write-once {item} {cells} {code} {key} {out} {level = level} {number = number} p q =
+    let one = one-written item (codeOf code) level number key cells out (p .written) (q .written) (p .promised) (q .promised) in
     (told-once writtenNumbers (one .0) (p .tells) (q .tells), one .1)
+
+pub no-spreads-once : {list out out′ out″ answer′ answer″ : List ℕ} {r s : ℕ} → HostPutNoSpreads list out r out′ answer′
+    → HostPutNoSpreads list out s out″ answer″ → ((r ≡ s) × (answer′ ≡ answer″)) × (out′ ≡ out″)
+no-spreads-once p q =
+    let same : p .written ≡ q .written = written-told (p .written) (q .written) (p .promised .answers ∙ sym (q .promised .answers)) in
+    (told-once writtenNumbers same (p .tells) (q .tells), p .promised .left ∙ sym (q .promised .left))

@@ -1,7 +1,6 @@
 // The public calls for hosts in C, C++ and Rust: `include/quotebox.h`.
 mod calls;
-mod shown;
-mod told;
+mod spreads;
 
 pub use calls::quotebox_judge;
 pub use calls::quotebox_list_gaps;
@@ -12,3 +11,8 @@ pub use calls::quotebox_take;
 pub use calls::quotebox_write_level1;
 pub use calls::quotebox_write_level2;
 pub use calls::quotebox_write_off;
+pub use spreads::quotebox_no_spreads;
+pub use spreads::quotebox_read_spread1;
+pub use spreads::quotebox_read_spread2;
+pub use spreads::quotebox_write_spread1;
+pub use spreads::quotebox_write_spread2;

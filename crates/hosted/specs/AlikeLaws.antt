@@ -8,6 +8,7 @@ use lib.Dec.{eqb}
 use lib.ListN.{length, drop}
 use Rattle.laws.specs.Rules.{firstBroken}
 use Rattle.laws.specs.RulesLaws.{front-holds}
+use Rattle.pairs.specs.Lists.{Lists}
 use Rattle.contracts.specs.Lookup.{segmentOf}
 use Rattle.forms.specs.Forms.{subjectOf}
 use Rattle.sequence.specs.Gaps.{Gaps, takes}
@@ -76,19 +77,19 @@ module _ (a b : Box) (same : Alike a b) where
 
   -- ---- a message
 
-  message-alike : (list : List ℕ) (letter i : ℕ) (bytes : List ℕ) → BothAct (messageActs list letter a i bytes) (messageActs list letter b i bytes)
+  message-alike : (lists : Lists) (letter i : ℕ) (bytes : List ℕ) → BothAct (messageActs lists letter a i bytes) (messageActs lists letter b i bytes)
   unfolding messageActs
-  message-alike list letter i bytes = go (messageOf list letter bytes .what)
+  message-alike lists letter i bytes = go (messageOf lists letter bytes .what)
     where
       cells : List ℕ
-      cells = messageOf list letter bytes .cells
+      cells = messageOf lists letter bytes .cells
 
-      go : (w : What) → BothAct (whatActs list letter a i w cells) (whatActs list letter b i w cells)
+      go : (w : What) → BothAct (whatActs lists letter a i w cells) (whatActs lists letter b i w cells)
       go (what.Bad fault) = refl
       go what.Heartbeat = record { gaps = same .gaps; taken = same .taken; old = same .old; heartbeats = ap suc (same .heartbeats) }
       go (what.PassedOver number) = number-alike i number (λ records. records) (λ records. records)
       go (what.Update number form place) =
-          number-alike i number (updated list (segmentOf list letter) place (subjectOf form) number cells) (updated list (segmentOf list letter) place (subjectOf form) number cells)
+          number-alike i number (updated lists (segmentOf (lists .contracts) letter) place (subjectOf form) number cells) (updated lists (segmentOf (lists .contracts) letter) place (subjectOf form) number cells)
 
 -- ---- the messages of a batch
 
@@ -98,16 +99,16 @@ next-alike (acted a) (refused s) more same then = absurd same
 next-alike (refused r) (acted b) more same then = absurd same
 next-alike (refused r) (refused s) more same then = same
 
-messages-alike : (n : ℕ) (list : List ℕ) (letter i : ℕ) (bytes : List ℕ) (a b : Box) → Alike a b → BothAct (messagesAct n list letter i a bytes) (messagesAct n list letter i b bytes)
+messages-alike : (n : ℕ) (lists : Lists) (letter i : ℕ) (bytes : List ℕ) (a b : Box) → Alike a b → BothAct (messagesAct n lists letter i a bytes) (messagesAct n lists letter i b bytes)
 unfolding messagesAct
-messages-alike zero list letter i bytes a b same = go (eqb (length bytes) 0)
+messages-alike zero lists letter i bytes a b same = go (eqb (length bytes) 0)
   where
     go : (none-left : Bool) → BothAct (cond none-left (acted a) (refused Count)) (cond none-left (acted b) (refused Count))
     go true = same
     go false = refl
-messages-alike (suc n) list letter i bytes a b same =
-    next-alike (messageActs list letter a i bytes) (messageActs list letter b i bytes) (λ box. messagesAct n list letter (suc i) box (drop (lengthOf bytes) bytes))
-    (message-alike a b same list letter i bytes) (messages-alike n list letter (suc i) (drop (lengthOf bytes) bytes))
+messages-alike (suc n) lists letter i bytes a b same =
+    next-alike (messageActs lists letter a i bytes) (messageActs lists letter b i bytes) (λ box. messagesAct n lists letter (suc i) box (drop (lengthOf bytes) bytes))
+    (message-alike a b same lists letter i bytes) (messages-alike n lists letter (suc i) (drop (lengthOf bytes) bytes))
 
 numbers-alike : (x y : Acted) → BothAct x y → actedNumbers x ≡ actedNumbers y
 numbers-alike (acted a) (acted b) same = λ k. 0 ∷ same .taken k ∷ same .old k ∷ same .heartbeats k ∷ []
@@ -117,13 +118,13 @@ numbers-alike (refused r) (refused s) same = ap refusalNumbers same
 
 -- ---- a batch
 
--- two good states of one list
-module _ (list rows records rows′ records′ : List ℕ) (good : GoodState (lends list rows records)) (good′ : GoodState (lends list rows′ records′)) (batch : List ℕ) where
+-- two good states of one contract list and spread list
+module _ (lists : Lists) (rows records rows′ records′ : List ℕ) (good : GoodState (lends lists rows records)) (good′ : GoodState (lends lists rows′ records′)) (batch : List ℕ) where
   abbrev lent : Lent
-  lent = lends list rows records
+  lent = lends lists rows records
 
   abbrev lent′ : Lent
-  lent′ = lends list rows′ records′
+  lent′ = lends lists rows′ records′
 
   abbrev letter : ℕ
   letter = batchLetter batch
@@ -140,10 +141,10 @@ module _ (list rows records rows′ records′ : List ℕ) (good : GoodState (le
       ∙ sym (ap (λ (o : Option Refusal). actedNumbers (unlessBroken o (turns lent′))) (rules-hold lent′ good′))
     where
       turns : Lent → Acted
-      turns l = messagesAct (countOf batch) list letter 0 (boxOf l letter) (batchData batch)
+      turns l = messagesAct (countOf batch) lists letter 0 (boxOf l letter) (batchData batch)
 
       go : (o : Option Refusal) → actedNumbers (unlessBroken o (turns lent)) ≡ actedNumbers (unlessBroken o (turns lent′))
       go (some refusal) = refl
       go none =
           numbers-alike (turns lent) (turns lent′)
-          (messages-alike (countOf batch) list letter 0 (batchData batch) (boxOf lent letter) (boxOf lent′ letter) (record { gaps = gaps; taken = refl; old = refl; heartbeats = refl }))
+          (messages-alike (countOf batch) lists letter 0 (batchData batch) (boxOf lent letter) (boxOf lent′ letter) (record { gaps = gaps; taken = refl; old = refl; heartbeats = refl }))

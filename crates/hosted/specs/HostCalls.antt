@@ -4,11 +4,15 @@ use Prim.Native.Nat.{ℕ}
 use mathlib.Core.Path.{_≡_}
 use mathlib.Core.List.{List, [], map}
 use mathlib.Core.Option.{some}
+use Rattle.pairs.specs.Lists.{Lists}
+use Rattle.forms.specs.declared.forms.Item.{Item}
+use Rattle.forms.specs.declared.forms.Item.the-variants.{Contract, Pair}
 use Rattle.forms.specs.declared.rows.Level.{Level}
-use Rattle.quotebox.specs.declared.record.Reading.{Reading}
+use Rattle.state.specs.declared.answers.Recorded.{Recorded}
 use Rattle.state.specs.Answers.{startedNumbers, judgedNumbers, listedNumbers, writtenOffNumbers, writtenNumbers}
 use Rattle.state.specs.Memory.{Lent}
-use Rattle.values.specs.Values.{quoteIn}
+use Rattle.values.specs.Values.{quoteIn, spreadIn}
+use Rattle.history.specs.Shown.{QuoteFor}
 use Rattle.history.specs.Calls as calls
 use Rattle.history.specs.Calls.{Call, Answer}
 use Rattle.history.specs.Step.{Outcome, step}
@@ -16,29 +20,34 @@ use Rattle.history.specs.Histories as histories
 use Rattle.history.specs.Histories.{Made, unstarted, allAfter}
 use Rattle.history.specs.Past.{Event}
 use Rattle.host.specs.Promises.{codeOf}
-use Rattle.host.specs.Shown.{valuesAfter}
-use Rattle.host.specs.Told.{toldOf, recordNumbers}
+use Rattle.told.specs.Shown.{valuesAfter}
+use Rattle.told.specs.Told.{toldOf, recordNumbers}
+use Rattle.hosted.specs.HostItems.{valuesFor}
 
--- the host's header, its functions, list, rows, records and `answer` apart: start with a list and start numbers; judge a batch; take one;
--- list a letter's gaps with cells lent; write off of a letter; read, at a level, of a letter, a key, with values lent; write, at a
--- level, a code's two bytes, a number, a key, values, with bytes lent
+-- the host's header, its functions, lists, rows, records and `answer` apart: start with lists and start numbers; judge a batch; take one;
+-- list a letter's gaps with cells lent; write off of a letter; read, of a contract or of a pair, at a level, of a letter, a key, with
+-- values lent; write, of a contract or of a pair, at a level, a code's two bytes, a number, a key, values, with bytes lent; the spread
+-- list without pairs for a contract list, with bytes lent
 pub data HostCall : Type 0 where
-  start : List ℕ → List ℕ → HostCall
+  start : Lists → List ℕ → HostCall
   judge take : List ℕ → HostCall
   listGaps : ℕ → List ℕ → HostCall
   writeOff : ℕ → HostCall
-  read : Level → ℕ → List ℕ → List ℕ → HostCall
-  write : Level → List ℕ → ℕ → List ℕ → List ℕ → List ℕ → HostCall
+  read : Item → Level → ℕ → List ℕ → List ℕ → HostCall
+  write : Item → Level → List ℕ → ℕ → List ℕ → List ℕ → List ℕ → HostCall
+  noSpreads : List ℕ → List ℕ → HostCall
 
 -- the host's header: the quotebox call that a function makes
 abbrev pub callOf : HostCall → Call
-callOf (start list starts) = calls.start list starts
+callOf (start lists starts) = calls.start lists starts
 callOf (judge batch) = calls.judge batch
 callOf (take batch) = calls.take batch
 callOf (listGaps letter cells) = calls.listGaps letter cells
 callOf (writeOff letter) = calls.writeOff letter
-callOf (read level letter key values) = calls.readRecord letter key level
-callOf (write level code number key values out) = calls.writeMessage (codeOf code) level number key (quoteIn level values) out
+callOf (read item level letter key values) = calls.readRecord item letter key level
+callOf (write Contract level code number key values out) = calls.writeMessage (codeOf code) level number key (quoteIn level values) out
+callOf (write Pair level code number key values out) = calls.writeSpread (codeOf code) level number key (spreadIn level values) out
+callOf (noSpreads list out) = calls.noSpreads list out
 
 -- the host's header: what a function returns, the four numbers of `answer`, the cells, values or bytes lent for its answer and the
 -- lent memory, afterwards
@@ -55,18 +64,19 @@ numbersTold (calls.judged answer) = judgedNumbers answer
 numbersTold (calls.took answer) = judgedNumbers answer
 numbersTold (calls.listed answer cells) = listedNumbers answer
 numbersTold (calls.wroteOff answer) = writtenOffNumbers answer
-numbersTold (calls.read reading) = recordNumbers (reading .answer)
+numbersTold (calls.read item answer quote) = recordNumbers answer
 numbersTold (calls.wrote answer out) = writtenNumbers answer
 
 -- the host's header: the values lent to a reading, afterwards; no other function is lent values to write
-abbrev pub valuesLeft : HostCall → Reading → List ℕ
-valuesLeft (start list starts) reading = []
-valuesLeft (judge batch) reading = []
-valuesLeft (take batch) reading = []
-valuesLeft (listGaps letter cells) reading = []
-valuesLeft (writeOff letter) reading = []
-valuesLeft (read level letter key values) reading = valuesAfter (reading .answer) level (reading .quote) values
-valuesLeft (write level code number key values out) reading = []
+abbrev pub valuesLeft : HostCall → (item : Item) → Recorded → QuoteFor item → List ℕ
+valuesLeft (start lists starts) item answer quote = []
+valuesLeft (judge batch) item answer quote = []
+valuesLeft (take batch) item answer quote = []
+valuesLeft (listGaps letter cells) item answer quote = []
+valuesLeft (writeOff letter) item answer quote = []
+valuesLeft (read asked level letter key values) item answer quote = valuesAfter answer (valuesFor item level quote) values
+valuesLeft (write asked level code number key values out) item answer quote = []
+valuesLeft (noSpreads list out) item answer quote = []
 
 -- the host's header: the cells, values or bytes lent for an answer, afterwards
 abbrev pub besideOf : HostCall → Answer → List ℕ
@@ -75,7 +85,7 @@ besideOf call (calls.judged answer) = []
 besideOf call (calls.took answer) = []
 besideOf call (calls.listed answer cells) = cells
 besideOf call (calls.wroteOff answer) = []
-besideOf call (calls.read reading) = valuesLeft call reading
+besideOf call (calls.read item answer quote) = valuesLeft call item answer quote
 besideOf call (calls.wrote answer out) = out
 
 -- the host's header: a quotebox call's outcome, told to a host
@@ -94,7 +104,7 @@ hostStep lent call = toldBy call (step lent (callOf call))
 
 -- ---- histories
 
--- 01 "What may be asked": a function handed the box's own memory (a start with any list), or one lent other memory
+-- 01 "What may be asked": a function handed the box's own memory (a start with any lists), or one lent other memory
 pub data HostMade : Type 0 where
   own : HostCall → HostMade
   elsewhere : Lent → HostCall → HostMade

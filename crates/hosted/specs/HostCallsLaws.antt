@@ -3,30 +3,34 @@ use Prim.Native.Nat.{ℕ}
 use mathlib.Core.Path.{_≡_, refl, sym, ap, ap₂, _∙_}
 use mathlib.Core.List.{List, []}
 use mathlib.Core.Logic.{_↔_}
+use lib.ListN.{length}
+use Rattle.pairs.specs.Lists.{Lists}
+use Rattle.pairs.specs.NoSpreads as none
+use Rattle.forms.specs.declared.forms.Item.{Item}
+use Rattle.forms.specs.declared.forms.Item.the-variants.{Contract, Pair}
 use Rattle.forms.specs.declared.rows.Level.{Level}
-use Rattle.quote.specs.declared.quote.Quote.{Quote}
 use Rattle.state.specs.declared.answers.Listed.{Listed}
 use Rattle.state.specs.declared.answers.Written.{Written}
 use Rattle.state.specs.Memory.{Lent}
 use Rattle.quotebox.specs.CallRules.{gapsOfLetter}
 use Rattle.writer.specs.Writer.{lengthWritten}
 use Rattle.writer.specs.Chosen.{formWritten}
-use Rattle.values.specs.Values.{quoteIn}
 use Rattle.history.specs.Calls as calls
-use Rattle.history.specs.Calls.{Answer, withList}
-use Rattle.history.specs.Step.{step, startRefusal, startAnswer, batchAnswer, listRefusal, listAnswer, offAnswer, readAnswer, writeRefusal, writeAnswer}
+use Rattle.history.specs.Calls.{Answer, withLists}
+use Rattle.history.specs.Step.{Outcome, step, startRefusal, startAnswer, batchAnswer, listRefusal, listAnswer, offAnswer, readAnswer, readQuote, writeRefusal, writeAnswer, written, noSpreadsRefusal}
 use Rattle.history.specs.CallsLaws as exactly
-use Rattle.host.specs.Promises.{HostStarted, HostJudged, HostTook, HostListed, HostWroteOff, HostRead, HostWrote, codeOf}
-use Rattle.host.specs.Told.{Tells}
-use Rattle.hosted.specs.HostCalls.{HostCall, HostOutcome, start, judge, take, listGaps, writeOff, read, write, callOf, numbersTold, besideOf, toldBy, hostStep}
+use Rattle.host.specs.Promises.{HostStarted, HostJudged, HostTook, HostListed, HostWroteOff, HostPutNoSpreads, codeOf}
+use Rattle.told.specs.Told.{Tells}
+use Rattle.hosted.specs.HostItems.{cellsIn, HostReadItem, HostWroteItem}
+use Rattle.hosted.specs.HostCalls.{HostCall, HostOutcome, start, judge, take, listGaps, writeOff, read, write, noSpreads, callOf, numbersTold, besideOf, toldBy, hostStep}
 
 -- what is returned, answered and left, as one
 abbrev pub gives : ℕ → List ℕ → List ℕ → Lent → HostOutcome
 gives returned answer beside left = record { returned = returned; answer = answer; beside = beside; left = left }
 
--- the list that a start is handed stands with what it leaves
-abbrev pub inList : List ℕ → HostOutcome → HostOutcome
-inList list outcome = gives (outcome .returned) (outcome .answer) (outcome .beside) (withList list (outcome .left))
+-- the lists that a start is handed stand with what it leaves
+abbrev pub inLists : Lists → HostOutcome → HostOutcome
+inLists lists outcome = gives (outcome .returned) (outcome .answer) (outcome .beside) (withLists lists (outcome .left))
 
 -- an answer that is told is what is returned and what `answer` holds
 told-is : (call : HostCall) (a : Answer) (left : Lent) {returned : ℕ} {answer′ : List ℕ} → Tells (numbersTold a) returned answer′
@@ -46,18 +50,18 @@ module _ (lent : Lent) where
 
   -- ---- each function
 
-  -- a start is handed a list of its own
-  pub start-says : (list starts : List ℕ) (returned : ℕ) (lent′ : Lent) (answer′ : List ℕ)
-      → HostStarted (withList list lent) starts returned lent′ answer′
-      ↔ inList list (hostStep lent (start list starts)) ≡ gives returned answer′ [] lent′
-  start-says list starts returned lent′ answer′ = (
+  -- a start is handed lists of its own
+  pub start-says : (lists : Lists) (starts : List ℕ) (returned : ℕ) (lent′ : Lent) (answer′ : List ℕ)
+      → HostStarted (withLists lists lent) starts returned lent′ answer′
+      ↔ inLists lists (hostStep lent (start lists starts)) ≡ gives returned answer′ [] lent′
+  start-says lists starts returned lent′ answer′ = (
     (λ p.
-        let w = exactly.start-exactly lent list starts (p .started) lent′ .0 (p .promised) in
-        ap (inList list) (step-is (start list starts) (w .0) refl (p .tells)) ∙ ap (gives returned answer′ []) (w .1)),
+        let w = exactly.start-exactly lent lists starts (p .started) lent′ .0 (p .promised) in
+        ap (inLists lists) (step-is (start lists starts) (w .0) refl (p .tells)) ∙ ap (gives returned answer′ []) (w .1)),
     (λ e.
         record {
-          started = startAnswer (startRefusal lent list starts);
-          promised = exactly.start-exactly lent list starts (startAnswer (startRefusal lent list starts)) lent′ .1 (refl, ap (λ (o : HostOutcome). o .left) e);
+          started = startAnswer (startRefusal lent lists starts);
+          promised = exactly.start-exactly lent lists starts (startAnswer (startRefusal lent lists starts)) lent′ .1 (refl, ap (λ (o : HostOutcome). o .left) e);
           tells = record { number = sym (ap (λ (o : HostOutcome). o .returned) e); values = sym (ap (λ (o : HostOutcome). o .answer) e) };
         }),
   )
@@ -106,34 +110,62 @@ module _ (lent : Lent) where
         }),
   )
 
-  pub read-says : (level : Level) (letter : ℕ) (key values : List ℕ) (returned : ℕ) (values′ answer′ : List ℕ)
-      → HostRead lent letter key level values returned values′ answer′ ↔ hostStep lent (read level letter key values) ≡ gives returned answer′ values′ lent
-  read-says level letter key values returned values′ answer′ = (
+  pub read-says : (item : Item) (level : Level) (letter : ℕ) (key values : List ℕ) (returned : ℕ) (values′ answer′ : List ℕ)
+      → HostReadItem item lent letter key level values returned values′ answer′
+      ↔ hostStep lent (read item level letter key values) ≡ gives returned answer′ values′ lent
+  read-says item level letter key values returned values′ answer′ = (
     (λ p.
-        step-is (read level letter key values) (exactly.read-exactly lent letter key level (p .reading) .0 (p .promised)) refl (p .tells)
+        step-is (read item level letter key values) (exactly.read-exactly lent item letter key level (p .recorded) (p .quote) .0 (p .promised)) refl (p .tells)
         ∙ ap (λ (vs : List ℕ). gives returned answer′ vs lent) (sym (p .shows))),
     (λ e.
         record {
-          reading = readAnswer lent letter key level;
-          promised = exactly.read-exactly lent letter key level (readAnswer lent letter key level) .1 refl;
-          tells = tells-is (read level letter key values) e;
+          recorded = readAnswer item lent letter key level;
+          quote = readQuote item lent letter key level;
+          promised = exactly.read-exactly lent item letter key level (readAnswer item lent letter key level) (readQuote item lent letter key level) .1 refl;
+          tells = tells-is (read item level letter key values) e;
           shows = sym (ap (λ (o : HostOutcome). o .beside) e);
         }),
   )
 
   -- the writer is handed no memory of the box
-  pub write-says : (level : Level) (code : List ℕ) (number : ℕ) (key values out : List ℕ) (returned : ℕ) (out′ answer′ : List ℕ)
-      → HostWrote code level number key values out returned out′ answer′ ↔ hostStep lent (write level code number key values out) ≡ gives returned answer′ out′ lent
-  write-says level code number key values out returned out′ answer′ =
-      let quote : Quote = quoteIn level values in
-      let said : Written = writeAnswer (writeRefusal (codeOf code) level number key quote out) (lengthWritten (formWritten (codeOf code) level)) in (
+  write-steps : (item : Item) (level : Level) (code : List ℕ) (number : ℕ) (key values out : List ℕ)
+      → step lent (callOf (write item level code number key values out)) ≡ record { answer = written item (codeOf code) level number key (cellsIn item level values) out; left = lent }
+  write-steps Contract level code number key values out = refl
+  write-steps Pair level code number key values out = refl
+
+  pub write-says : (item : Item) (level : Level) (code : List ℕ) (number : ℕ) (key values out : List ℕ) (returned : ℕ) (out′ answer′ : List ℕ)
+      → HostWroteItem item code level number key values out returned out′ answer′
+      ↔ hostStep lent (write item level code number key values out) ≡ gives returned answer′ out′ lent
+  write-says item level code number key values out returned out′ answer′ =
+      let said : Written =
+      writeAnswer (writeRefusal item (codeOf code) level number key (cellsIn item level values) out) (lengthWritten (formWritten item (codeOf code) level)) in
+      let call : HostCall = write item level code number key values out in
+      let does = write-steps item level code number key values out in (
         (λ p.
-            step-is (write level code number key values out) (exactly.write-exactly lent (codeOf code) level number key quote out (p .written) out′ .0 (p .promised))
-            refl (p .tells)),
+            step-is call
+            (ap (λ (o : Outcome). o .answer) does ∙ exactly.write-exactly lent item (codeOf code) level number key (cellsIn item level values) out (p .written) out′ .0 (p .promised))
+            (ap (λ (o : Outcome). o .left) does) (p .tells)),
+        (λ e.
+            let told = sym (ap (toldBy call) does) ∙ e in
+            record {
+              written = said;
+              promised =
+                  exactly.write-exactly lent item (codeOf code) level number key (cellsIn item level values) out said out′ .1
+                  (ap (λ (o : HostOutcome). calls.wrote said (o .beside)) told);
+              tells = record { number = sym (ap (λ (o : HostOutcome). o .returned) told); values = sym (ap (λ (o : HostOutcome). o .answer) told) };
+            }),
+      )
+
+  -- nor is the function that puts the spread list without pairs
+  pub no-spreads-says : (list out : List ℕ) (returned : ℕ) (out′ answer′ : List ℕ)
+      → HostPutNoSpreads list out returned out′ answer′ ↔ hostStep lent (noSpreads list out) ≡ gives returned answer′ out′ lent
+  no-spreads-says list out returned out′ answer′ =
+      let said : Written = writeAnswer (noSpreadsRefusal list out) (length (none.noSpreads list)) in (
+        (λ p. step-is (noSpreads list out) (exactly.no-spreads-exactly lent list out (p .written) out′ .0 (p .promised)) refl (p .tells)),
         (λ e.
             record {
               written = said;
-              promised = exactly.write-exactly lent (codeOf code) level number key quote out said out′ .1 (ap (λ (o : HostOutcome). calls.wrote said (o .beside)) e);
-              tells = tells-is (write level code number key values out) e;
+              promised = exactly.no-spreads-exactly lent list out said out′ .1 (ap (λ (o : HostOutcome). calls.wrote said (o .beside)) e);
+              tells = tells-is (noSpreads list out) e;
             }),
       )

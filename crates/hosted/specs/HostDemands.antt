@@ -8,9 +8,10 @@ use mathlib.Core.Logic.{_↔_}
 use mathlib.Core.Option.{some}
 use lib.ListN.{length, drop}
 use Rattle.contracts.specs.Lookup.{segmentOf}
+use Rattle.pairs.specs.Lists.{Lists}
+use Rattle.forms.specs.declared.forms.Item.{Item}
 use Rattle.forms.specs.declared.rows.Level.{Level}
 use Rattle.message.specs.Message.{Message}
-use Rattle.quote.specs.Quote.{quoteOf}
 use Rattle.state.specs.GoodState.{GoodState}
 use Rattle.state.specs.Memory.{Lent}
 use Rattle.state.specs.Slots.{Slot, SlotListed}
@@ -18,10 +19,12 @@ use Rattle.state.specs.Places.{formFor}
 use Rattle.quotebox.specs.Start.{startOf}
 use Rattle.values.specs.Values.{most}
 use Rattle.history.specs.Past.{Event, highestIn, missingIn, runsStanding, takenFor}
-use Rattle.history.specs.Updates.{letterIn, keyIn, levelIn}
+use Rattle.history.specs.Shown.{shown}
+use Rattle.history.specs.Updates.{itemIn, letterIn, keyIn, levelIn}
 use Rattle.history.specs.Exactly.{NamesMissing, IsNewest, NoUpdate, CountsCame, OverInBatch}
-use Rattle.host.specs.Promises.{HostStarted, HostJudged, HostTook, HostListed, HostWroteOff, HostRead, HostWrote}
-use Rattle.host.specs.Shown.{valuesOf, valueCount}
+use Rattle.host.specs.Promises.{HostStarted, HostJudged, HostTook, HostListed, HostWroteOff, HostPutNoSpreads}
+use Rattle.told.specs.Shown.{valueCount}
+use Rattle.hosted.specs.HostItems.{valuesFor, HostReadItem, HostWroteItem}
 use Rattle.history.specs.Machine.{sequenceNumber, LowestRun}
 
 -- the host's header: the number that a function returns, and the four of `answer`, of which the last is 0
@@ -46,39 +49,39 @@ pub data TellsLowest (missing : ℕ → Bool) (lent : Lent) (returned : ℕ) (le
 pub data TellsNewest (slot : Slot) (taken : List Message) (values : List ℕ) (returned : ℕ) (values′ answer′ : List ℕ) : Type 0 where
   no-record : NoUpdate slot taken → Gives returned answer′ 0 0 0 0 → values′ ≡ values → TellsNewest slot taken values returned values′ answer′
   a-record : (m : Message) → IsNewest slot taken m → Gives returned answer′ 0 1 0 0
-      → values′ ≡ valuesOf (sequenceNumber m) (levelIn slot) (quoteOf (formFor slot) (m .cells)) ++ drop (valueCount (levelIn slot)) values
+      → values′ ≡ (sequenceNumber m ∷ valuesFor (itemIn slot) (levelIn slot) (shown (itemIn slot) (formFor slot) (m .cells))) ++ drop (valueCount (itemIn slot) (levelIn slot)) values
       → TellsNewest slot taken values returned values′ answer′
 
 -- 01 "What may be asked", "An accepted batch answers how many messages were taken, old and heartbeats": as counted from the history
-pub record TellsCounts (list starts : List ℕ) (past : List Event) (batch answer′ : List ℕ) : Type 0 where
+pub record TellsCounts (lists : Lists) (starts : List ℕ) (past : List Event) (batch answer′ : List ℕ) : Type 0 where
   pub taken : ℕ
   pub old : ℕ
   pub heartbeats : ℕ
   pub gives : answer′ ≡ taken ∷ old ∷ heartbeats ∷ 0 ∷ []
-  pub came : CountsCame list starts past batch taken old heartbeats
+  pub came : CountsCame lists starts past batch taken old heartbeats
 
--- demand 3: "After any sequence of calls from a fresh start", made by a host, for each listed segment and each listed contract:
+-- demand 3: "After any sequence of calls from a fresh start", made by a host, for each listed segment, and each listed contract and pair:
 pub record AfterHostCalls (starts : List ℕ) (lent : Lent) (past : List Event) : Type 0 where
   -- "the gap list names exactly the missing numbers", where two cells are lent for each run that they make; else 15 and the cells wanted
-  pub lists : (letter i : ℕ) → segmentOf (lent .list) letter ≡ some i → (cells : List ℕ) (returned : ℕ) (cells′ answer′ : List ℕ)
+  pub lists : (letter i : ℕ) → segmentOf (lent .lists .contracts) letter ≡ some i → (cells : List ℕ) (returned : ℕ) (cells′ answer′ : List ℕ)
       → HostListed lent letter cells returned cells′ answer′ → 2 * runsStanding i (startOf starts i) past ≤ length cells
       → ListsMissing i (startOf starts i) past cells returned cells′ answer′
-  pub lists-short : (letter i : ℕ) → segmentOf (lent .list) letter ≡ some i → (cells : List ℕ) (returned : ℕ) (cells′ answer′ : List ℕ)
+  pub lists-short : (letter i : ℕ) → segmentOf (lent .lists .contracts) letter ≡ some i → (cells : List ℕ) (returned : ℕ) (cells′ answer′ : List ℕ)
       → HostListed lent letter cells returned cells′ answer′ → length cells < 2 * runsStanding i (startOf starts i) past
       → Gives returned answer′ 15 0 0 (2 * runsStanding i (startOf starts i) past) × (cells′ ≡ cells)
   -- "A write-off removes the lowest run"
-  pub writes-off : (letter i : ℕ) → segmentOf (lent .list) letter ≡ some i → (returned : ℕ) (lent′ : Lent) (answer′ : List ℕ)
+  pub writes-off : (letter i : ℕ) → segmentOf (lent .lists .contracts) letter ≡ some i → (returned : ℕ) (lent′ : Lent) (answer′ : List ℕ)
       → HostWroteOff lent letter returned lent′ answer′ → TellsLowest (missingIn i (startOf starts i) past) lent returned lent′ answer′
   -- "and each record is its contract's highest-numbered update taken"
-  pub reads : (slot : Slot) → SlotListed (lent .list) slot → (values : List ℕ) → length values ≡ most → (returned : ℕ) (values′ answer′ : List ℕ)
-      → HostRead lent (letterIn (lent .list) slot) (keyIn (lent .list) slot) (levelIn slot) values returned values′ answer′
+  pub reads : (slot : Slot) → SlotListed (lent .lists) slot → (values : List ℕ) → length values ≡ most → (returned : ℕ) (values′ answer′ : List ℕ)
+      → HostReadItem (itemIn slot) lent (letterIn (lent .lists) slot) (keyIn (lent .lists) slot) (levelIn slot) values returned values′ answer′
       → TellsNewest slot (takenFor starts slot past) values returned values′ answer′
   -- "An accepted batch answers how many messages were taken, old and heartbeats; judging answers what taking would"
-  pub counts : (batch answer′ : List ℕ) → HostJudged lent batch 0 answer′ → TellsCounts (lent .list) starts past batch answer′
+  pub counts : (batch answer′ : List ℕ) → HostJudged lent batch 0 answer′ → TellsCounts (lent .lists) starts past batch answer′
   pub takes-as-judged : (batch : List ℕ) (returned : ℕ) (lent′ : Lent) (answer′ : List ℕ) → HostTook lent batch returned lent′ answer′ → HostJudged lent batch returned answer′
   -- "A call is refused for gaps exactly when no earlier rule refuses it and over 64 runs would stand"
   pub refused-for-gaps : (batch : List ℕ) (returned : ℕ) (answer′ : List ℕ) → HostJudged lent batch returned answer′
-      → (i : ℕ) → Gives returned answer′ 14 i 0 0 ↔ OverInBatch (lent .list) starts past batch i
+      → (i : ℕ) → Gives returned answer′ 14 i 0 0 ↔ OverInBatch (lent .lists) starts past batch i
   -- 16, 15 for state too short, and 18 are not given
   pub state-passes : GoodState lent
 
@@ -87,8 +90,8 @@ pub record AfterHostCalls (starts : List ℕ) (lent : Lent) (past : List Event) 
 pub record HostAgree (lent lent′ : Lent) : Type 0 where
   pub same-gaps : (letter : ℕ) (cells : List ℕ) (r s : ℕ) (cells′ cells″ answer′ answer″ : List ℕ)
       → HostListed lent letter cells r cells′ answer′ → HostListed lent′ letter cells s cells″ answer″ → ((r ≡ s) × (answer′ ≡ answer″)) × (cells′ ≡ cells″)
-  pub same-records : (letter : ℕ) (key : List ℕ) (level : Level) (values : List ℕ) (r s : ℕ) (values′ values″ answer′ answer″ : List ℕ)
-      → HostRead lent letter key level values r values′ answer′ → HostRead lent′ letter key level values s values″ answer″
+  pub same-records : (item : Item) (letter : ℕ) (key : List ℕ) (level : Level) (values : List ℕ) (r s : ℕ) (values′ values″ answer′ answer″ : List ℕ)
+      → HostReadItem item lent letter key level values r values′ answer′ → HostReadItem item lent′ letter key level values s values″ answer″
       → ((r ≡ s) × (answer′ ≡ answer″)) × (values′ ≡ values″)
   -- of taking a batch too: `takes-as-judged`
   pub same-verdicts : (batch : List ℕ) (r s : ℕ) (answer′ answer″ : List ℕ)
@@ -107,10 +110,11 @@ pub record HostRefusalsKeep (lent : Lent) : Type 0 where
   pub list-keeps : (letter : ℕ) (cells : List ℕ) (returned : ℕ) (cells′ answer′ : List ℕ)
       → HostListed lent letter cells returned cells′ answer′ → IsRefused returned → cells′ ≡ cells
   pub write-off-keeps : (letter returned : ℕ) (lent′ : Lent) (answer′ : List ℕ) → HostWroteOff lent letter returned lent′ answer′ → IsRefused returned → lent′ ≡ lent
-  pub read-keeps : (letter : ℕ) (key : List ℕ) (level : Level) (values : List ℕ) (returned : ℕ) (values′ answer′ : List ℕ)
-      → HostRead lent letter key level values returned values′ answer′ → IsRefused returned → values′ ≡ values
-  pub write-keeps : (code : List ℕ) (level : Level) (number : ℕ) (key values out : List ℕ) (returned : ℕ) (out′ answer′ : List ℕ)
-      → HostWrote code level number key values out returned out′ answer′ → IsRefused returned → out′ ≡ out
+  pub read-keeps : (item : Item) (letter : ℕ) (key : List ℕ) (level : Level) (values : List ℕ) (returned : ℕ) (values′ answer′ : List ℕ)
+      → HostReadItem item lent letter key level values returned values′ answer′ → IsRefused returned → values′ ≡ values
+  pub write-keeps : (item : Item) (code : List ℕ) (level : Level) (number : ℕ) (key values out : List ℕ) (returned : ℕ) (out′ answer′ : List ℕ)
+      → HostWroteItem item code level number key values out returned out′ answer′ → IsRefused returned → out′ ≡ out
+  pub no-spreads-keeps : (list out : List ℕ) (returned : ℕ) (out′ answer′ : List ℕ) → HostPutNoSpreads list out returned out′ answer′ → IsRefused returned → out′ ≡ out
 
 -- demand 1, and 01, the table's rows 15, 16 and 18: a call that returns 0 leaves gap rows and records that pass 16, 15 and 18, whatever
 -- was handed to it

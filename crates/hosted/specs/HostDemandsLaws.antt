@@ -8,9 +8,9 @@ use native.Mathlib.Omega.{arith}
 use lib.ListN.{length}
 use Rattle.laws.specs.Rules.{firstBroken}
 use Rattle.contracts.specs.Lookup.{segmentOf}
+use Rattle.pairs.specs.NoSpreads.{noSpreads}
+use Rattle.forms.specs.declared.forms.Item.{Item}
 use Rattle.forms.specs.declared.rows.Level.{Level}
-use Rattle.quote.specs.declared.quote.Quote.{Quote}
-use Rattle.quote.specs.Quote.{quoteOf}
 use Rattle.state.specs.declared.refusal.Refusal.{Refusal}
 use Rattle.state.specs.declared.refusal.Refusal.the-variants.{Gaps, Memory, NoGap}
 use Rattle.state.specs.declared.answers.Started.{Started}
@@ -34,22 +34,24 @@ use Rattle.quotebox.specs.Start.{startOf}
 use Rattle.quotebox.specs.StartActs.{startBroken}
 use Rattle.writer.specs.Writer.{lengthWritten}
 use Rattle.writer.specs.Chosen.{formWritten}
-use Rattle.values.specs.Values.{most, quoteIn}
-use Rattle.history.specs.Step.{writeRefusal}
+use Rattle.values.specs.Values.{most}
+use Rattle.history.specs.Step.{writeRefusal, noSpreadsRefusal}
 use Rattle.history.specs.Past.{Event, highestIn, missingIn, runsStanding, takenFor}
-use Rattle.history.specs.Updates.{letterIn, keyIn, levelIn}
+use Rattle.history.specs.Shown.{QuoteFor, shown}
+use Rattle.history.specs.Updates.{itemIn, letterIn, keyIn, levelIn}
 use Rattle.history.specs.Exactly.{ReadsNewest, OverInBatch}
 use Rattle.history.specs.Exactly as exactly
 use Rattle.history.specs.Demands.{AfterCalls}
 use Rattle.history.specs.DemandsLaws.{after-calls, took-judged, refusals-keep, accepted-leave}
 use Rattle.history.specs.Histories.{Reached}
 use Rattle.history.specs.OffLaws.{only-none}
-use Rattle.host.specs.Promises.{HostJudged, HostTook, HostListed, HostWroteOff, HostRead, codeOf}
-use Rattle.host.specs.Shown.{valuesAfter}
-use Rattle.host.specs.ShownLaws.{values-put}
-use Rattle.host.specs.Told.{toldOf, Tells, recordNumbers}
+use Rattle.host.specs.Promises.{HostJudged, HostTook, HostListed, HostWroteOff, codeOf}
+use Rattle.told.specs.Shown.{valuesAfter}
+use Rattle.told.specs.Told.{toldOf, Tells, recordNumbers}
 use Rattle.hosted.specs.HostCalls.{HostReached}
 use Rattle.hosted.specs.HostHistoriesLaws.{host-reached}
+use Rattle.hosted.specs.HostItems.{valuesFor, cellsIn, HostReadItem}
+use Rattle.hosted.specs.HostItemsLaws.{item-put}
 use Rattle.hosted.specs.HostToldLaws.{which-refusal, is-refused}
 use Rattle.hosted.specs.HostDemands.{Gives, ListsMissing, TellsLowest, a-run, no-run, TellsNewest, no-record, a-record, TellsCounts, AfterHostCalls, IsRefused, HostRefusalsKeep, HostAcceptedLeave}
 use Rattle.history.specs.Machine.{sequenceNumber}
@@ -67,7 +69,7 @@ module _ {starts : List ℕ} {lent : Lent} {past : List Event} (reached : HostRe
   after : AfterCalls starts lent past
   after = after-calls r
 
-  module _ (letter i : ℕ) (s : segmentOf (lent .list) letter ≡ some i) where
+  module _ (letter i : ℕ) (s : segmentOf (lent .lists .contracts) letter ≡ some i) where
     abbrev highest : ℕ
     highest = highestIn i (startOf starts i) past
 
@@ -107,34 +109,38 @@ module _ {starts : List ℕ} {lent : Lent} {past : List Event} (reached : HostRe
             let told : Tells (refusalNumbers NoGap) returned answer′ = rw e at t in
             no-run (after .off-none letter i s (WrittenOff.Refused refusal) lent′ w .0 (ap WrittenOff.Refused e)) (record { returns = told .number; answers = told .values }) (refused .1)
 
-  reads : (slot : Slot) → SlotListed (lent .list) slot → (values : List ℕ) → length values ≡ most → (returned : ℕ) (values′ answer′ : List ℕ)
-      → HostRead lent (letterIn (lent .list) slot) (keyIn (lent .list) slot) (levelIn slot) values returned values′ answer′
+  reads : (slot : Slot) → SlotListed (lent .lists) slot → (values : List ℕ) → length values ≡ most → (returned : ℕ) (values′ answer′ : List ℕ)
+      → HostReadItem (itemIn slot) lent (letterIn (lent .lists) slot) (keyIn (lent .lists) slot) (levelIn slot) values returned values′ answer′
       → TellsNewest slot (takenFor starts slot past) values returned values′ answer′
-  reads slot there values long returned values′ answer′ p = go (after .reads-newest slot there (p .reading) (p .promised))
+  reads kept-at there values long returned values′ answer′ p = go (after .reads-newest kept-at there (p .recorded) (p .quote) (p .promised))
     where
-      level : Level
-      level = levelIn slot
+      item : Item
+      item = itemIn kept-at
 
-      go : ReadsNewest slot (takenFor starts slot past) (p .reading) → TellsNewest slot (takenFor starts slot past) values returned values′ answer′
+      level : Level
+      level = levelIn kept-at
+
+      go : ReadsNewest kept-at (takenFor starts kept-at past) (p .recorded) (p .quote) → TellsNewest kept-at (takenFor starts kept-at past) values returned values′ answer′
       go (exactly.no-record none-taken a q) =
           let told : Tells (recordNumbers Recorded.NoRecord) returned answer′ = rw a at (p .tells) in
           no-record none-taken (record { returns = told .number; answers = told .values })
-          (p .shows ∙ ap (λ (x : Recorded). valuesAfter x level (p .reading .quote) values) a)
+          (p .shows ∙ ap (λ (x : Recorded). valuesAfter x (valuesFor item level (p .quote)) values) a)
       go (exactly.a-record m is a q) =
           let told : Tells (recordNumbers (Recorded.Record (sequenceNumber m))) returned answer′ = rw a at (p .tells) in
           a-record m is (record { returns = told .number; answers = told .values })
-          (p .shows ∙ ap₂ (λ (x : Recorded) (y : Quote). valuesAfter x level y values) a q ∙ values-put (sequenceNumber m) level (quoteOf (formFor slot) (m .cells)) values long)
+          (p .shows ∙ ap₂ (λ (x : Recorded) (y : QuoteFor item). valuesAfter x (valuesFor item level y) values) a q
+          ∙ item-put item (sequenceNumber m) level (shown item (formFor kept-at) (m .cells)) values long)
 
-  counts : (batch answer′ : List ℕ) → HostJudged lent batch 0 answer′ → TellsCounts (lent .list) starts past batch answer′
+  counts : (batch answer′ : List ℕ) → HostJudged lent batch 0 answer′ → TellsCounts (lent .lists) starts past batch answer′
   counts batch answer′ p = go (p .judged) (p .promised) (p .tells)
     where
-      go : (a : Judged) → JudgedBatch lent batch a → Tells (judgedNumbers a) 0 answer′ → TellsCounts (lent .list) starts past batch answer′
+      go : (a : Judged) → JudgedBatch lent batch a → Tells (judgedNumbers a) 0 answer′ → TellsCounts (lent .lists) starts past batch answer′
       go (Judged.Accepted taken old heartbeats) j t =
           record { taken = taken; old = old; heartbeats = heartbeats; gives = t .values; came = after .counts-came batch taken old heartbeats j }
       go (Judged.Refused refusal) j t = absurd (is-refused refusal t refl)
 
   refused-for-gaps : (batch : List ℕ) (returned : ℕ) (answer′ : List ℕ) → HostJudged lent batch returned answer′
-      → (i : ℕ) → Gives returned answer′ 14 i 0 0 ↔ OverInBatch (lent .list) starts past batch i
+      → (i : ℕ) → Gives returned answer′ 14 i 0 0 ↔ OverInBatch (lent .lists) starts past batch i
   refused-for-gaps batch returned answer′ p i = (
     (λ g. after .refused-for-gaps batch (p .judged) (p .promised) i .0 (go (p .judged) (p .tells) g)),
     (λ o.
@@ -178,11 +184,13 @@ host-refusals-keep lent =
           kept (firstBroken (listRules lent letter (length cells))) (listValues (gapsOfLetter lent letter)) _ (p .promised .answers) (p .promised .cells-left) (p .tells);
       write-off-keeps = λ letter returned lent′ answer′ p.
           kept (firstBroken (writeOffRules lent letter)) (runValues (lowestRun (gapsOfLetter lent letter))) _ (p .promised .answers) (p .promised .left) (p .tells);
-      read-keeps = λ letter key level values returned values′ answer′ p refused.
-          p .shows ∙ shown (p .reading .answer) level (p .reading .quote) values (p .tells) refused;
-      write-keeps = λ code level number key values out returned out′ answer′ p.
-          kept (writeRefusal (codeOf code) level number key (quoteIn level values) out) (lengthWritten (formWritten (codeOf code) level) ∷ []) _
+      read-keeps = λ item letter key level values returned values′ answer′ p refused.
+          p .shows ∙ stays (p .recorded) (valuesFor item level (p .quote)) values (p .tells) refused;
+      write-keeps = λ item code level number key values out returned out′ answer′ p.
+          kept (writeRefusal item (codeOf code) level number key (cellsIn item level values) out) (lengthWritten (formWritten item (codeOf code) level) ∷ []) _
           (p .promised .answers) (p .promised .out-left) (p .tells);
+      no-spreads-keeps = λ list out returned out′ answer′ p.
+          kept (noSpreadsRefusal list out) (length (noSpreads list) ∷ []) _ (p .promised .answers) (p .promised .left) (p .tells);
     }
   where
     took : (batch : List ℕ) (lent′ : Lent) {returned : ℕ} {answer′ : List ℕ} (a : Judged) → TookBatch lent batch a lent′
@@ -190,11 +198,11 @@ host-refusals-keep lent =
     took batch lent′ (Judged.Accepted taken old heartbeats) p t refused = absurd (refused (t .number))
     took batch lent′ (Judged.Refused refusal) p t refused = refusals-keep lent .take-keeps batch refusal lent′ p
 
-    shown : (a : Recorded) (level : Level) (quote : Quote) (values : List ℕ) {returned : ℕ} {answer′ : List ℕ}
-        → Tells (recordNumbers a) returned answer′ → IsRefused returned → valuesAfter a level quote values ≡ values
-    shown (Recorded.Record number) level quote values t refused = absurd (refused (t .number))
-    shown Recorded.NoRecord level quote values t refused = refl
-    shown (Recorded.Refused refusal) level quote values t refused = refl
+    stays : (a : Recorded) (rows values : List ℕ) {returned : ℕ} {answer′ : List ℕ}
+        → Tells (recordNumbers a) returned answer′ → IsRefused returned → valuesAfter a rows values ≡ values
+    stays (Recorded.Record number) rows values t refused = absurd (refused (t .number))
+    stays Recorded.NoRecord rows values t refused = refl
+    stays (Recorded.Refused refusal) rows values t refused = refl
 
 -- ---- an accepted call leaves a state that passes
 

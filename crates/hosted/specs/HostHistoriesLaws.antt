@@ -2,6 +2,7 @@
 use Prim.Native.Nat.{ℕ}
 use mathlib.Core.Path.{_≡_, refl, ap, _∙_}
 use mathlib.Core.List.{List, [], _∷_, map}
+use Rattle.forms.specs.declared.forms.Item.the-variants.{Contract, Pair}
 use Rattle.state.specs.declared.answers.Started.{Started}
 use Rattle.state.specs.Answers.{startedNumbers}
 use Rattle.state.specs.Memory.{Lent}
@@ -13,8 +14,8 @@ use Rattle.history.specs.Histories.{Made, BoxNow, unstarted, allAfter, afterCal
 use Rattle.history.specs.HistoriesLaws.{reached-begun, reached-take, reached-off}
 use Rattle.history.specs.Past.{Event, afterTake, afterWriteOff}
 use Rattle.host.specs.Promises.{HostStarted, HostTook, HostWroteOff}
-use Rattle.host.specs.Told.{Tells}
-use Rattle.hosted.specs.HostCalls.{HostCall, start, judge, take, listGaps, writeOff, read, write, HostMade, own, elsewhere, madeOf, HostReached}
+use Rattle.told.specs.Told.{Tells}
+use Rattle.hosted.specs.HostCalls.{HostCall, start, judge, take, listGaps, writeOff, read, write, noSpreads, HostMade, own, elsewhere, madeOf, HostReached}
 use Rattle.hosted.specs.HostToldLaws.{is-refused}
 
 pub host-reached : {starts : List ℕ} {lent : Lent} {past : List Event} → HostReached starts lent past → Reached starts lent past
@@ -23,26 +24,30 @@ host-reached r = record { memory = r .memory; calls = map madeOf (r .calls); rea
 -- ---- and back: what is read or written changes nothing of the box, whatever values are lent
 
 abbrev hostCall : Call → HostCall
-hostCall (calls.start list starts) = start list starts
+hostCall (calls.start lists starts) = start lists starts
 hostCall (calls.judge batch) = judge batch
 hostCall (calls.take batch) = take batch
 hostCall (calls.listGaps letter cells) = listGaps letter cells
 hostCall (calls.writeOff letter) = writeOff letter
-hostCall (calls.readRecord letter key level) = read level letter key []
-hostCall (calls.writeMessage code level number key quote out) = write level (code .0 ∷ code .1 ∷ []) number key [] out
+hostCall (calls.readRecord item letter key level) = read item level letter key []
+hostCall (calls.writeMessage code level number key quote out) = write Contract level (code .0 ∷ code .1 ∷ []) number key [] out
+hostCall (calls.writeSpread code level number key quote out) = write Pair level (code .0 ∷ code .1 ∷ []) number key [] out
+hostCall (calls.noSpreads list out) = noSpreads list out
 
 abbrev hostMade : Made → HostMade
 hostMade (histories.own call) = own (hostCall call)
 hostMade (histories.elsewhere lent call) = elsewhere lent (hostCall call)
 
 same-after : (now : BoxNow) (made : Made) → afterCall now (madeOf (hostMade made)) ≡ afterCall now made
-same-after now (histories.own (calls.start list starts)) = refl
+same-after now (histories.own (calls.start lists starts)) = refl
 same-after now (histories.own (calls.judge batch)) = refl
 same-after now (histories.own (calls.take batch)) = refl
 same-after now (histories.own (calls.listGaps letter cells)) = refl
 same-after now (histories.own (calls.writeOff letter)) = refl
-same-after now (histories.own (calls.readRecord letter key level)) = refl
+same-after now (histories.own (calls.readRecord item letter key level)) = refl
 same-after now (histories.own (calls.writeMessage code level number key quote out)) = refl
+same-after now (histories.own (calls.writeSpread code level number key quote out)) = refl
+same-after now (histories.own (calls.noSpreads list out)) = refl
 same-after now (histories.elsewhere lent call) = refl
 
 all-same : (now : BoxNow) (made : List Made) → allAfter now (map madeOf (map hostMade made)) ≡ allAfter now made
@@ -64,10 +69,10 @@ host-begun {starts} {lent} {lent′} {answer′} p = go (p .started) (p .promise
 
 -- a batch taken, whatever is returned
 pub host-took : {starts : List ℕ} {lent lent′ : Lent} {past : List Event} {batch answer′ : List ℕ} {returned : ℕ} → HostReached starts lent past
-    → (p : HostTook lent batch returned lent′ answer′) → HostReached starts lent′ (afterTake (lent .list) batch (p .judged) past)
+    → (p : HostTook lent batch returned lent′ answer′) → HostReached starts lent′ (afterTake (lent .lists) batch (p .judged) past)
 host-took {batch = batch} r p = reached-host (reached-take (host-reached r) batch (p .judged) (p .promised))
 
 -- a write-off, whatever is returned
 pub host-wrote-off : {starts : List ℕ} {lent lent′ : Lent} {past : List Event} {answer′ : List ℕ} {letter returned : ℕ} → HostReached starts lent past
-    → (p : HostWroteOff lent letter returned lent′ answer′) → HostReached starts lent′ (afterWriteOff (lent .list) letter (p .written-off) past)
+    → (p : HostWroteOff lent letter returned lent′ answer′) → HostReached starts lent′ (afterWriteOff (lent .lists) letter (p .written-off) past)
 host-wrote-off {letter = letter} r p = reached-host (reached-off (host-reached r) letter (p .written-off) (p .promised))

@@ -5,27 +5,49 @@ use mathlib.Core.Bool.{true, false, cond}
 use mathlib.Core.List.{List, [], _∷_, _++_}
 use mathlib.Core.Logic.{_⊎_}
 use mathlib.Core.Option.{some}
-use lib.ListN.{length, getD, take, drop}
+use lib.ListN.{length, getD, drop}
+use Rattle.forms.specs.declared.forms.Item.{Item}
+use Rattle.forms.specs.declared.forms.Item.the-variants.{Contract, Pair}
 use Rattle.forms.specs.declared.rows.Level.{Level}
+use Rattle.forms.specs.declared.rows.Row.{Row}
+use Rattle.forms.specs.declared.rows.Row.the-variants.{Key, MarketType, Status, Price, Difference, Quantity, Turnover}
+use Rattle.forms.specs.Names.{NamedRow}
 use Rattle.sequence.specs.Gaps.{takes}
 use Rattle.sequence.specs.Changes.{full}
 use Rattle.message.specs.Message.{keyPlace}
 use Rattle.state.specs.GoodState.{GoodState}
 use Rattle.state.specs.Memory.{Lent}
 use Rattle.quotebox.specs.CallRules.{gapsOfLetter}
-use Rattle.values.specs.Values.{first, most}
+use Rattle.values.specs.Values.{first, most, valueRows, valueOf, heldOf}
 use Rattle.written.specs.ReadBack.{batchOf}
-use Rattle.host.specs.Promises.{HostJudged, HostTook, HostRead}
-use Rattle.host.specs.Shown.{valueCount}
+use Rattle.host.specs.Promises.{HostJudged, HostTook}
+use Rattle.told.specs.Shown.{valueCount}
 use Rattle.hosted.specs.HostDemands.{Gives}
+use Rattle.hosted.specs.HostItems.{HostReadItem}
 
--- the host's header: code "DN" or "TN" for an update
-abbrev pub IsUpdate : List ℕ → Type 0
-IsUpdate code = (code ≡ 68 ∷ 78 ∷ []) ⊎ (code ≡ 84 ∷ 78 ∷ [])
+-- the host's header: code "DN" or "TN" for an update of a contract, "DP" or "TP" for one of a pair
+abbrev pub IsUpdate : Item → List ℕ → Type 0
+IsUpdate Contract code = (code ≡ 68 ∷ 78 ∷ []) ⊎ (code ≡ 84 ∷ 78 ∷ [])
+IsUpdate Pair code = (code ≡ 68 ∷ 80 ∷ []) ⊎ (code ≡ 84 ∷ 80 ∷ [])
 
--- the host's header: the values from the market type on: 14 at level 1, 32 at level 2
-abbrev pub rowsIn : Level → List ℕ → List ℕ
-rowsIn level values = drop first (take (valueCount level) values)
+-- the host's header, M-100: a row's value as it reads back: that of the number that it stands for, so that minus zero is zero
+abbrev pub valueBack : Row → ℕ → ℕ
+valueBack (Key width) value = value
+valueBack MarketType value = value
+valueBack Status value = value
+valueBack (Price width) value = value
+valueBack (Difference width) value = valueOf true (heldOf true value)
+valueBack (Quantity width) value = value
+valueBack (Turnover width) value = value
+
+-- the host's header: the values of rows as they read back, one a row
+abbrev pub valuesBack : List NamedRow → List ℕ → List ℕ
+valuesBack [] values = []
+valuesBack (row ∷ rows) values = valueBack (row .row) (getD values 0 0) ∷ valuesBack rows (drop 1 values)
+
+-- the host's header: the values behind the number, as they read back
+abbrev pub rowsIn : Item → Level → List ℕ → List ℕ
+rowsIn item level values = valuesBack (valueRows item level) (drop first values)
 
 -- 01 "Sequence and gaps": an accepted batch of one update: 1 taken where its number is, or 1 old
 abbrev pub GivesOne : Lent → ℕ → ℕ → ℕ → List ℕ → Type 0
@@ -33,22 +55,22 @@ GivesOne lent letter number returned answer′ =
     Gives returned answer′ 0 (cond (takes (gapsOfLetter lent letter) number) 1 0) (cond (takes (gapsOfLetter lent letter) number) 0 1) 0
 
 -- the host's header: the record as it was read before: none, or one whose number is below
-pub record ReadsOlder (lent : Lent) (level : Level) (letter : ℕ) (key : List ℕ) (number : ℕ) : Type 0 where
+pub record ReadsOlder (item : Item) (lent : Lent) (level : Level) (letter : ℕ) (key : List ℕ) (number : ℕ) : Type 0 where
   pub values : List ℕ
   pub values′ : List ℕ
   pub answer′ : List ℕ
-  pub read : HostRead lent letter key level values 0 values′ answer′
+  pub read : HostReadItem item lent letter key level values 0 values′ answer′
   pub long : length values ≡ most
   pub older : (answer′ ≡ 0 ∷ 0 ∷ 0 ∷ 0 ∷ []) ⊎ (getD values′ 0 0 < number)
 
 -- demand 2: "What we write reads back the same": a message that was written of these values, alone in a batch
-pub record HostReadsBack (level : Level) (letter number : ℕ) (key values message : List ℕ) : Type 0 where
-  -- against a good state that lists its contract and has room for its number, it is accepted
-  pub accepted : (lent : Lent) → GoodState lent → (place : ℕ) → keyPlace (lent .list) letter key ≡ some place
+pub record HostReadsBack (item : Item) (level : Level) (letter number : ℕ) (key values message : List ℕ) : Type 0 where
+  -- against a good state that lists its contract or pair and has room for its number, it is accepted
+  pub accepted : (lent : Lent) → GoodState lent → (place : ℕ) → keyPlace item (lent .lists) letter key ≡ some place
       → (takes (gapsOfLetter lent letter) number ≡ true → full (gapsOfLetter lent letter) number ≡ false)
       → (returned : ℕ) (answer′ : List ℕ) → HostJudged lent (batchOf message) returned answer′ → GivesOne lent letter number returned answer′
   -- and where it was taken, whatever memory was lent, and the record was older, that is read as its number and these values, from the
-  -- market type on; every value behind them stays as it is lent
-  pub reads : (lent lent′ : Lent) → HostTook lent (batchOf message) 0 lent′ (1 ∷ 0 ∷ 0 ∷ 0 ∷ []) → ReadsOlder lent level letter key number
-      → (before : List ℕ) → length before ≡ most → (returned : ℕ) (values′ answer′ : List ℕ) → HostRead lent′ letter key level before returned values′ answer′
-      → Gives returned answer′ 0 1 0 0 × (values′ ≡ (number ∷ rowsIn level values) ++ drop (valueCount level) before)
+  -- first row behind the key on; every value behind them stays as it is lent
+  pub reads : (lent lent′ : Lent) → HostTook lent (batchOf message) 0 lent′ (1 ∷ 0 ∷ 0 ∷ 0 ∷ []) → ReadsOlder item lent level letter key number
+      → (before : List ℕ) → length before ≡ most → (returned : ℕ) (values′ answer′ : List ℕ) → HostReadItem item lent′ letter key level before returned values′ answer′
+      → Gives returned answer′ 0 1 0 0 × (values′ ≡ (number ∷ rowsIn item level values) ++ drop (valueCount item level) before)

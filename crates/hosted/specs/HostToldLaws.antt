@@ -6,7 +6,7 @@ use native.Mathlib.Omega.{arith}
 use Rattle.state.specs.declared.refusal.Refusal.{Refusal}
 use Rattle.state.specs.Refusals.{refusalNumbers}
 use Rattle.state.specs.RefusalsLaws.{refusalOf, in-table, refusal-back}
-use Rattle.host.specs.Told.{toldOf, Tells}
+use Rattle.told.specs.Told.{toldOf, Tells}
 use Rattle.hosted.specs.HostDemands.{IsRefused}
 
 -- the number returned and `answer` have the first four numbers

@@ -1,6 +1,6 @@
 -- The values that a host is told of an update are what its message's fields say.
 use Prim.Native.Nat.{ℕ, zero, suc, _+_, _-_, _<_}
-use mathlib.Core.Path.{_≡_, refl, sym, ap, _∙_}
+use mathlib.Core.Path.{_≡_, refl, sym, ap, ap₂, _∙_}
 use mathlib.Core.Bool.{true, true≢false}
 use mathlib.Core.List.{List, [], _∷_, _++_}
 use mathlib.Core.Option.{none}
@@ -8,11 +8,16 @@ use native.Mathlib.Omega.{arith}
 use lib.ListN.{length, getD, take, drop, replicate, length-drop, length-append, length-replicate, List·getD-append}
 use lib.Seq.{getD-take, getD-drop, getD-append-add, drop-drop, length-take-le}
 use Rattle.laws.specs.Choice.{clash}
+use Rattle.pairs.specs.Lists.{Lists}
+use Rattle.forms.specs.declared.forms.Item.{Item}
+use Rattle.forms.specs.declared.forms.Item.the-variants.{Contract, Pair}
+use Rattle.forms.specs.declared.forms.Subject.the-variants.{Of}
 use Rattle.forms.specs.declared.rows.Level.{Level}
 use Rattle.forms.specs.declared.rows.Row.{Row}
-use Rattle.forms.specs.Forms.{recordForm}
+use Rattle.forms.specs.Forms.{recordForm, keyRowsOf}
+use Rattle.forms.specs.FormsLaws.{about-subject, record-form}
 use Rattle.forms.specs.Rows.{widthOf}
-use Rattle.forms.specs.Sizes.{mostRows, keyRowCount}
+use Rattle.forms.specs.Sizes.{mostRows}
 use Rattle.layout.specs.declared.read.RowRead.{RowRead}
 use Rattle.layout.specs.declared.read.RowRead.the-variants.{Cell, Field, Range}
 use Rattle.layout.specs.declared.read.Verdict.the-variants.{Good}
@@ -21,9 +26,8 @@ use Rattle.layout.specs.FirstBad.{rowRead}
 use Rattle.layout.specs.Says.{rowAt, fieldAt, RowSays}
 use Rattle.layout.specs.Read.{readRow, Outcome, rowThen, readRows}
 use Rattle.layout.specs.SaysLaws.{row-exactly}
-use Rattle.quote.specs.declared.quote.Quote.{Quote}
-use Rattle.quote.specs.Quote.{quoteOf, cellsOf}
-use Rattle.quote.specs.QuoteTrip.{read-kept}
+use Rattle.quote.specs.Quote.{ofPair}
+use Rattle.quote.specs.QuoteTrip.{read-kept, spread-read-kept}
 use Rattle.message.specs.declared.body.What.{What}
 use Rattle.message.specs.declared.body.What.the-variants as what
 use Rattle.message.specs.CallerLaws.{update-told}
@@ -31,14 +35,14 @@ use Rattle.message.specs.Fields.{dataOf}
 use Rattle.message.specs.Message.{Message}
 use Rattle.message.specs.Reads.{messageOf}
 use Rattle.message.specs.Numbers.{verdictOf, numberIn}
-use Rattle.state.specs.Slots.{Slot, contract}
+use Rattle.state.specs.Slots.{Slot, slot as recordSlot}
 use Rattle.state.specs.Places.{formFor, recordRows}
-use Rattle.state.specs.SlotsLaws.{rows-few, rows-kept, contract-form}
-use Rattle.values.specs.Values.{rowValues}
-use Rattle.values.specs.ValuesLaws.{values-cells}
+use Rattle.state.specs.SlotsLaws.{rows-few, rows-kept}
+use Rattle.values.specs.ValuesLaws.{values-cells, spread-values-cells}
 use Rattle.history.specs.KeptLaws.{same-slot}
-use Rattle.history.specs.Updates.{sameSlot, slotOf, levelIn, isSlot, isOf}
-use Rattle.host.specs.Shown.{valuesOf}
+use Rattle.history.specs.Shown.{QuoteFor, shown, cellsFor}
+use Rattle.history.specs.Updates.{sameSlot, slotOf, itemIn, levelIn, isSlot, isOf}
+use Rattle.hosted.specs.HostItems.{valuesFor}
 use Rattle.hosted.specs.HostValues.{levelRows, ValuesSay}
 use Rattle.history.specs.Machine.{sequenceNumber}
 
@@ -68,79 +72,93 @@ rows-read i (row ∷ rows) bytes good = go (readRow row (take (widthOf row) byte
 
 -- ---- the values of rows that were read
 
-module _ (level : Level) (bytes : List ℕ) (good : readRows 0 (levelRows level) bytes .verdict ≡ Good)
-    (cells : List ℕ) (is : cells ≡ zerosBehind (readRows 0 (levelRows level) bytes .cells))
+-- the values of the rows are the cells behind the key
+item-cells : (item : Item) (level : Level) (quote : QuoteFor item)
+    → take (recordRows item level) (drop (keyRowsOf item) (cellsFor item (recordForm item level) quote)) ≡ valuesFor item level quote
+item-cells Contract level quote = values-cells level quote
+item-cells Pair level quote = spread-values-cells level quote
+
+-- a quote that was read has the cells that were read
+item-kept : (item : Item) (level : Level) (bytes : List ℕ) → readRows 0 (levelRows item level) bytes .verdict ≡ Good
+    → cellsFor item (recordForm item level) (shown item (recordForm item level) (zerosBehind (readRows 0 (levelRows item level) bytes .cells)))
+    ≡ zerosBehind (readRows 0 (levelRows item level) bytes .cells)
+item-kept Contract level bytes good = read-kept (recordForm Contract level) bytes good (ap ofPair (about-subject (Of Contract level)))
+item-kept Pair level bytes good = spread-read-kept (recordForm Pair level) bytes good (ap ofPair (about-subject (Of Pair level)))
+
+module _ (item : Item) (level : Level) (bytes : List ℕ) (good : readRows 0 (levelRows item level) bytes .verdict ≡ Good)
+    (cells : List ℕ) (is : cells ≡ zerosBehind (readRows 0 (levelRows item level) bytes .cells))
   where
     abbrev read : List ℕ
-    read = readRows 0 (levelRows level) bytes .cells
+    read = readRows 0 (levelRows item level) bytes .cells
 
-    abbrev quote : Quote
-    quote = quoteOf (recordForm level) cells
+    abbrev quote : QuoteFor item
+    quote = shown item (recordForm item level) cells
 
-    reads : Reads (levelRows level) bytes read
-    reads = rows-read 0 (levelRows level) bytes good
+    reads : Reads (levelRows item level) bytes read
+    reads = rows-read 0 (levelRows item level) bytes good
 
-    row-values : rowValues level quote ≡ take (recordRows level) (drop keyRowCount (zerosBehind read))
+    row-values : valuesFor item level quote ≡ take (recordRows item level) (drop (keyRowsOf item) (zerosBehind read))
     row-values =
-        sym (values-cells level quote)
-        ∙ ap (λ (cs : List ℕ). take (recordRows level) (drop keyRowCount cs)) (ap (λ (cs : List ℕ). cellsOf (recordForm level) (quoteOf (recordForm level) cs)) is ∙ read-kept (recordForm level) bytes good)
+        sym (item-cells item level quote)
+        ∙ ap (λ (cs : List ℕ). take (recordRows item level) (drop (keyRowsOf item) cs)) (ap (λ (cs : List ℕ). cellsFor item (recordForm item level) (shown item (recordForm item level) cs)) is ∙ item-kept item level bytes good)
 
-    rows-long : recordRows level + keyRowCount ≡ length read
-    rows-long = rows-kept level ∙ sym (reads .long)
+    rows-long : recordRows item level + keyRowsOf item ≡ length read
+    rows-long = rows-kept item level ∙ sym (reads .long)
 
-    put-long : length (rowValues level quote) ≡ recordRows level
+    put-long : length (valuesFor item level quote) ≡ recordRows item level
     put-long =
         ap length row-values
-        ∙ length-take-le (recordRows level) (drop keyRowCount (zerosBehind read)) (simp (length-drop, length-append, length-replicate) (omega (arith, rows-long, rows-few level)))
+        ∙ length-take-le (recordRows item level) (drop (keyRowsOf item) (zerosBehind read)) (simp (length-drop, length-append, length-replicate) (omega (arith, rows-long, rows-few item level)))
 
-    -- a value stands one behind its row's place from the market type on
-    value-at : (number : ℕ) (behind : List ℕ) (k : ℕ) → k < recordRows level
-        → getD (valuesOf number level quote ++ behind) (1 + k) 0 ≡ getD read (keyRowCount + k) 0
+    -- a value stands one behind its row's place from the first row behind the key on
+    value-at : (number : ℕ) (behind : List ℕ) (k : ℕ) → k < recordRows item level
+        → getD ((number ∷ valuesFor item level quote) ++ behind) (1 + k) 0 ≡ getD read (keyRowsOf item + k) 0
     value-at number behind k h =
-        getD-append-add (number ∷ []) (rowValues level quote ++ behind) k 0
-        ∙ List·getD-append (rowValues level quote) behind 0 k (omega (arith, put-long))
+        getD-append-add (number ∷ []) (valuesFor item level quote ++ behind) k 0
+        ∙ List·getD-append (valuesFor item level quote) behind 0 k (omega (arith, put-long))
         ∙ ap (λ (cs : List ℕ). getD cs k 0) row-values
-        ∙ getD-take (recordRows level) (drop keyRowCount (zerosBehind read)) k 0 h
-        ∙ getD-drop keyRowCount (zerosBehind read) k 0
-        ∙ List·getD-append read (replicate (mostRows - length read) 0) 0 (keyRowCount + k) (omega (arith, rows-long))
+        ∙ getD-take (recordRows item level) (drop (keyRowsOf item) (zerosBehind read)) k 0 h
+        ∙ getD-drop (keyRowsOf item) (zerosBehind read) k 0
+        ∙ List·getD-append read (replicate (mostRows - length read) 0) 0 (keyRowsOf item + k) (omega (arith, rows-long))
 
-    pub row-says : (number : ℕ) (behind : List ℕ) (k : ℕ) → k < recordRows level
-        → RowSays (rowAt (levelRows level) (keyRowCount + k)) (fieldAt (levelRows level) bytes (keyRowCount + k)) (Cell (getD (valuesOf number level quote ++ behind) (1 + k) 0))
+    pub row-says : (number : ℕ) (behind : List ℕ) (k : ℕ) → k < recordRows item level
+        → RowSays (rowAt (levelRows item level) (keyRowsOf item + k)) (fieldAt (levelRows item level) bytes (keyRowsOf item + k)) (Cell (getD ((number ∷ valuesFor item level quote) ++ behind) (1 + k) 0))
     row-says number behind k h =
-        row-exactly (rowAt (levelRows level) (keyRowCount + k)) (fieldAt (levelRows level) bytes (keyRowCount + k)) (Cell (getD (valuesOf number level quote ++ behind) (1 + k) 0)) .0
-        (reads .each (keyRowCount + k) (omega (arith, rows-kept level)) ∙ ap Cell (sym (value-at number behind k h)))
+        row-exactly (rowAt (levelRows item level) (keyRowsOf item + k)) (fieldAt (levelRows item level) bytes (keyRowsOf item + k)) (Cell (getD ((number ∷ valuesFor item level quote) ++ behind) (1 + k) 0)) .0
+        (reads .each (keyRowsOf item + k) (omega (arith, rows-kept item level)) ∙ ap Cell (sym (value-at number behind k h)))
 
 -- ---- the values of an update
 
 -- what a host is told of an update of a slot is what its message's fields say
-pub host-values-say : (list : List ℕ) (letter : ℕ) (bytes : List ℕ) (slot : Slot) → isOf slot (messageOf list letter bytes .what) ≡ true → (behind : List ℕ)
-    → ValuesSay bytes (levelIn slot)
-    (valuesOf (sequenceNumber (messageOf list letter bytes)) (levelIn slot) (quoteOf (formFor slot) (messageOf list letter bytes .cells)) ++ behind)
-host-values-say list letter bytes (contract i place level) is behind = go (m .what) refl
+pub host-values-say : (lists : Lists) (letter : ℕ) (bytes : List ℕ) (slot : Slot) → isOf slot (messageOf lists letter bytes .what) ≡ true → (behind : List ℕ)
+    → ValuesSay bytes (itemIn slot) (levelIn slot)
+    ((sequenceNumber (messageOf lists letter bytes) ∷ valuesFor (itemIn slot) (levelIn slot) (shown (itemIn slot) (formFor slot) (messageOf lists letter bytes .cells))) ++ behind)
+host-values-say lists letter bytes (recordSlot item i place level) is behind = go (m .what) refl
   where
     m : Message
-    m = messageOf list letter bytes
+    m = messageOf lists letter bytes
 
     Says : Type 0
-    Says = ValuesSay bytes level (valuesOf (sequenceNumber m) level (quoteOf (recordForm level) (m .cells)) ++ behind)
+    Says = ValuesSay bytes item level ((sequenceNumber m ∷ valuesFor item level (shown item (recordForm item level) (m .cells))) ++ behind)
 
     no-slot : (w : What) → m .what ≡ w → slotOf i w ≡ none → Says
-    no-slot w e n = absurd (true≢false (sym is ∙ ap (λ (x : What). isOf (contract i place level) x) e ∙ ap (isSlot (contract i place level)) n))
+    no-slot w e n = absurd (true≢false (sym is ∙ ap (λ (x : What). isOf (recordSlot item i place level) x) e ∙ ap (isSlot (recordSlot item i place level)) n))
 
     go : (w : What) → m .what ≡ w → Says
     go what.Heartbeat e = no-slot what.Heartbeat e refl
     go (what.PassedOver number) e = no-slot (what.PassedOver number) e refl
     go (what.Bad fault) e = no-slot (what.Bad fault) e refl
     go (what.Update number form there) e =
-        let u = update-told list letter bytes (ap verdictOf e) number form there e in
+        let u = update-told lists letter bytes (ap verdictOf e) number form there e in
         let own : Level = u .tells .0 in
-        let told : sameSlot (contract i there own) (contract i place level) ≡ true = rw (e, u .tells .1) at is in
-        let slots : contract i there own ≡ contract i place level = same-slot (contract i there own) (contract i place level) told in
-        let levels : own ≡ level = cc in
-        let form-is : form ≡ recordForm level = contract-form form own (u .tells .1) ∙ ap recordForm levels in
-        let good : readRows 0 (levelRows level) (dataOf bytes) .verdict ≡ Good = rw form-is at (u .rows-good) in
-        let cells : m .cells ≡ zerosBehind (readRows 0 (levelRows level) (dataOf bytes) .cells) = rw form-is at (u .cells-are) in
+        let told : sameSlot (recordSlot (u .item) i there own) (recordSlot item i place level) ≡ true = rw (e, u .tells .1) at is in
+        let slots : recordSlot (u .item) i there own ≡ recordSlot item i place level = same-slot (recordSlot (u .item) i there own) (recordSlot item i place level) told in
+        let items : u .item ≡ item = ap itemIn slots in
+        let levels : own ≡ level = ap levelIn slots in
+        let form-is : form ≡ recordForm item level = record-form form (u .item) own (u .tells .1) ∙ ap₂ recordForm items levels in
+        let good : readRows 0 (levelRows item level) (dataOf bytes) .verdict ≡ Good = rw form-is at (u .rows-good) in
+        let cells : m .cells ≡ zerosBehind (readRows 0 (levelRows item level) (dataOf bytes) .cells) = rw form-is at (u .cells-are) in
         record {
           number-is = ap numberIn e ∙ sym (u .number-is);
-          rows-say = row-says level (dataOf bytes) good (m .cells) cells (sequenceNumber m) behind;
+          rows-say = row-says item level (dataOf bytes) good (m .cells) cells (sequenceNumber m) behind;
         }

@@ -6,6 +6,8 @@ pub mod HostDemands
 pub mod HostDemandsLaws
 pub mod HostFieldsLaws
 pub mod HostHistoriesLaws
+pub mod HostItems
+pub mod HostItemsLaws
 pub mod HostReadBack
 pub mod HostReadBackLaws
 pub mod HostToldLaws

@@ -1,43 +1,80 @@
--- The values of what was written are those that were handed, from the market type on.
-use Prim.Native.Nat.{ℕ, zero, suc, _≤_, _<_}
+-- The values of what was written are those that were handed, from the first row behind the key on; minus zero is zero.
+use Prim.Native.Nat.{ℕ, zero, suc, _+_, _-_, _≤_, _<_, _^_}
 use mathlib.Core.Path.{_≡_, refl, sym, ap, _∙_}
 use mathlib.Core.Bool.{Bool, true, false, cond}
 use mathlib.Core.List.{List, [], _∷_}
+use mathlib.Core.Logic.{⊎-elim}
 use native.Mathlib.Omega.{arith}
-use borrow.Author.Tests.{eqb-true}
-use lib.Dec.{eqb, leb}
+use borrow.Author.Tests.{eqb-true, lt-ltb, le-ltb, ne-eqb}
+use lib.Dec.{eqb, leb, ltb}
 use lib.ListN.{length, getD, take, drop, length-drop}
 use lib.Seq.{getD-drop}
 use Rattle.laws.specs.Lists.{middle}
+use Rattle.laws.specs.Order.{order, same}
+use Rattle.decimal.specs.Denotes.{belowZero}
+use Rattle.forms.specs.declared.forms.Item.the-variants.{Contract, Pair}
 use Rattle.forms.specs.declared.rows.Level.{Level}
 use Rattle.forms.specs.declared.rows.Level.the-variants.{One, Two}
 use Rattle.forms.specs.Forms.{namedRows, rowsOf, recordForm}
 use Rattle.layout.specs.declared.cells.Held.the-variants.{Nothing, Units}
 use Rattle.layout.specs.declared.read.Verdict.the-variants as verdict
+use Rattle.layout.specs.Cells.{sided}
 use Rattle.layout.specs.Read.{isMarketType, isStatus}
 use Rattle.layout.specs.Write.{letterText, rowText, writeRows, writeRefusal}
 use Rattle.layout.specs.FirstBad.{refusalWritten}
 use Rattle.layout.specs.FirstBadLaws.{write-first}
 use Rattle.quote.specs.declared.quote.Quote.{Quote}
-use Rattle.quote.specs.Quote.{cellsOf, seenQuote}
-use Rattle.state.specs.Places.{recordRows}
-use Rattle.state.specs.SlotsLaws.{rows-few}
-use Rattle.values.specs.Values.{noValue, valueOf, heldOf, letterOf, first, most, valueRows, rowValues, quoteIn}
+use Rattle.quote.specs.declared.spread.SpreadQuote.{SpreadQuote}
+use Rattle.quote.specs.declared.spread.DifferenceCell.{DifferenceCell}
+use Rattle.quote.specs.declared.spread.DifferenceCell.the-variants as difference
+use Rattle.quote.specs.Quote.{priceOf, quantityOf, turnoverOf, cellsOf, seenQuote}
+use Rattle.quote.specs.Spread.{differenceOf, plainZero, seenSpread}
+use Rattle.quote.specs.Shows.{heldPrice, heldQuantity, heldTurnover, heldDifference}
+use Rattle.quote.specs.NumberLaws.{price-number, quantity-number, turnover-number, difference-number, cell-held}
+use Rattle.values.specs.Values.{noValue, minusValue, valueOf, heldOf, letterOf, first, most, valueRows, rowValues, quoteIn, spreadValues, spreadIn}
+use Rattle.told.specs.Shown.{valueCount}
 use Rattle.hosted.specs.HostReadBack.{rowsIn}
-use Rattle.quote.specs.QuoteLaws.{held-price, held-quantity, held-turnover}
 
 -- what a form sees of a quote has its values
-seen-values : (level : Level) (quote : Quote) → rowValues level (seenQuote (recordForm level) quote) ≡ rowValues level quote
+seen-values : (level : Level) (quote : Quote) → rowValues level (seenQuote (recordForm Contract level) quote) ≡ rowValues level quote
 unfolding rowValues valueRows namedRows seenQuote
 seen-values One quote = refl
 seen-values Two quote = refl
 
-value-back : (v : ℕ) → valueOf (heldOf v) ≡ v
+seen-difference : (d : DifferenceCell) → heldDifference (plainZero d) ≡ heldDifference d
+seen-difference difference.None = refl
+seen-difference (difference.Amount amount) = go (amount .0) (eqb (amount .1) 0) refl
+  where
+    go : (below none : Bool) → eqb (amount .1) 0 ≡ none → sided (belowZero below (amount .1)) (amount .1) ≡ sided below (amount .1)
+    go true true t = rw t
+    go true false t = rw t
+    go false none t = refl
+
+seen-spread-values : (level : Level) (quote : SpreadQuote) → spreadValues level (seenSpread (recordForm Pair level) quote) ≡ spreadValues level quote
+unfolding spreadValues valueRows namedRows seenSpread
+seen-spread-values One quote = simp seen-difference
+seen-spread-values Two quote = simp seen-difference
+
+-- a number that has no sign has its value
+value-back : (v : ℕ) → valueOf false (heldOf false v) ≡ v
 value-back v = go (eqb v noValue) refl
   where
-    go : (none : Bool) → eqb v noValue ≡ none → valueOf (cond none Nothing (Units v)) ≡ v
+    go : (none : Bool) → eqb v noValue ≡ none → valueOf false (cond none Nothing (Units v)) ≡ v
     go true t = sym (eqb-true v noValue t)
     go false t = rw t
+
+-- each number holds what its value stands for
+price-held : (v : ℕ) → heldPrice (priceOf (heldOf false v)) ≡ heldOf false v
+price-held v = cell-held price-number v
+
+quantity-held : (v : ℕ) → heldQuantity (quantityOf (heldOf false v)) ≡ heldOf false v
+quantity-held v = cell-held quantity-number v
+
+turnover-held : (v : ℕ) → heldTurnover (turnoverOf (heldOf false v)) ≡ heldOf false v
+turnover-held v = cell-held turnover-number v
+
+difference-held : (v : ℕ) → heldDifference (differenceOf (heldOf true v)) ≡ heldOf true v
+difference-held v = cell-held difference-number v
 
 -- a letter that is written is a byte: none is 0, which a larger number counts as
 letter-back : (taken : ℕ → Bool) → taken 0 ≡ false → (v : ℕ) → writeRefusal (letterText taken (letterOf v)) ≡ 0 → letterOf v ≡ v
@@ -59,36 +96,58 @@ take-firsts (suc n) (v ∷ vs) h = ap (λ (l : List ℕ). v ∷ l) (take-firsts 
 
 -- values whose rows can be written
 abbrev pub Writable : Level → List ℕ → List ℕ → Type 0
-Writable level key values = writeRows 0 (rowsOf (recordForm level)) key (cellsOf (recordForm level) (quoteIn level values)) .verdict ≡ verdict.Good
+Writable level key values = writeRows 0 (rowsOf (recordForm Contract level)) key (cellsOf (recordForm Contract level) (quoteIn level values)) .verdict ≡ verdict.Good
 
 module _ (key values : List ℕ) where
   abbrev vs : List ℕ
   vs = drop first values
 
-  row-written : (level : Level) → Writable level key values → (k : ℕ) → k < length (rowsOf (recordForm level))
-      → refusalWritten (rowsOf (recordForm level)) key (cellsOf (recordForm level) (quoteIn level values)) k ≡ 0
-  row-written level good = rw good at (write-first (rowsOf (recordForm level)) key (cellsOf (recordForm level) (quoteIn level values)))
+  row-written : (level : Level) → Writable level key values → (k : ℕ) → k < length (rowsOf (recordForm Contract level))
+      → refusalWritten (rowsOf (recordForm Contract level)) key (cellsOf (recordForm Contract level) (quoteIn level values)) k ≡ 0
+  row-written level good = rw good at (write-first (rowsOf (recordForm Contract level)) key (cellsOf (recordForm Contract level) (quoteIn level values)))
 
-  values-held : (level : Level) → Writable level key values → rowValues level (quoteIn level values) ≡ firsts (recordRows level) vs
-  unfolding rowValues valueRows namedRows quoteIn recordRows rowsOf cellsOf rowText
+  values-held : (level : Level) → Writable level key values → rowValues level (quoteIn level values) ≡ rowsIn Contract level values
+  unfolding rowValues valueRows namedRows quoteIn rowsOf cellsOf rowText
   values-held One good =
       let market : letterOf (getD vs 0 0) ≡ getD vs 0 0 = letter-back isMarketType refl (getD vs 0 0) (row-written One good 5 (omega arith)) in
       let status : letterOf (getD vs 7 0) ≡ getD vs 7 0 = letter-back isStatus refl (getD vs 7 0) (row-written One good 12 (omega arith)) in
-      simp (value-back, held-price, held-quantity, held-turnover, market, status) (simp getD-drop)
+      simp (price-held, quantity-held, turnover-held, value-back, market, status) (simp getD-drop)
   values-held Two good =
       let market : letterOf (getD vs 0 0) ≡ getD vs 0 0 = letter-back isMarketType refl (getD vs 0 0) (row-written Two good 5 (omega arith)) in
       let status : letterOf (getD vs 23 0) ≡ getD vs 23 0 = letter-back isStatus refl (getD vs 23 0) (row-written Two good 28 (omega arith)) in
-      simp (value-back, held-price, held-quantity, held-turnover, market, status) (simp getD-drop)
+      simp (price-held, quantity-held, turnover-held, value-back, market, status) (simp getD-drop)
 
-  -- the values that were handed, from the market type on
-  module _ (long : length values ≡ most) where
-    values-front : (level : Level) → take (recordRows level) vs ≡ rowsIn level values
-    unfolding recordRows rowsOf namedRows
-    values-front One = middle values 1 15 (omega arith)
-    values-front Two = middle values 1 33 (omega arith)
+  pub values-seen : (level : Level) → Writable level key values → rowValues level (seenQuote (recordForm Contract level) (quoteIn level values)) ≡ rowsIn Contract level values
+  values-seen level good = seen-values level (quoteIn level values) ∙ values-held level good
 
-    pub values-seen : (level : Level) → Writable level key values → rowValues level (seenQuote (recordForm level) (quoteIn level values)) ≡ rowsIn level values
-    values-seen level good =
-        seen-values level (quoteIn level values) ∙ values-held level good
-        ∙ sym (take-firsts (recordRows level) vs (omega (arith, rows-few level, length-drop first values)))
-        ∙ values-front level
+  -- which are those that were handed
+  pub values-handed : (level : Level) → length values ≡ most → rowsIn Contract level values ≡ drop first (take (valueCount Contract level) values)
+  unfolding valueRows namedRows
+  values-handed One long = sym (take-firsts 14 vs (omega (arith, length-drop first values))) ∙ middle values 1 15 (omega arith)
+  values-handed Two long = sym (take-firsts 32 vs (omega (arith, length-drop first values))) ∙ middle values 1 33 (omega arith)
+
+-- the same of a pair, whose rows have no letters
+spread-values-held : (level : Level) (values : List ℕ) → spreadValues level (spreadIn level values) ≡ rowsIn Pair level values
+unfolding spreadValues valueRows namedRows spreadIn
+spread-values-held One values = simp (difference-held, quantity-held, value-back) (simp getD-drop)
+spread-values-held Two values = simp (difference-held, quantity-held, value-back) (simp getD-drop)
+
+pub spread-values-seen : (level : Level) (values : List ℕ) → spreadValues level (seenSpread (recordForm Pair level) (spreadIn level values)) ≡ rowsIn Pair level values
+spread-values-seen level values = seen-spread-values level (spreadIn level values) ∙ spread-values-held level values
+
+-- a price of a pair reads back as it was handed, minus zero as zero
+pub difference-back : (v : ℕ) → v < 2 ^ 64 → (v ≡ minusValue → ⊥) → valueOf true (heldOf true v) ≡ v
+difference-back v fits no-zero =
+    ⊎-elim (λ (e : v ≡ noValue). rw e refl)
+    (λ (e : v ≡ noValue → ⊥).
+    ⊎-elim (λ (up : minusValue ≤ v).
+    let some : eqb (v - minusValue) 0 ≡ false = ne-eqb (v - minusValue) 0 (λ z. no-zero (omega arith)) in
+    let room : ltb (v - minusValue) (minusValue - 1) ≡ true = lt-ltb (v - minusValue) (minusValue - 1) (omega arith) in
+    let all : minusValue + (v - minusValue) ≡ v = omega arith in
+    simp (ne-eqb v noValue e, le-ltb v minusValue up, some, room) all)
+    (λ (low : v < minusValue). simp (ne-eqb v noValue e, lt-ltb v minusValue low))
+    (order minusValue v))
+    (same v noValue)
+
+pub minus-zero-back : valueOf true (heldOf true minusValue) ≡ 0
+minus-zero-back = refl

@@ -10,7 +10,7 @@ use lib.Seq.{take-all}
 use Rattle.laws.specs.Refused.{fieldNo, rangeNo}
 use Rattle.print.specs.declared.text.Put.{Put}
 use Rattle.print.specs.Write.{Written, filled, refused, Wrote, putNumber, blankText, writtenAs}
-use Rattle.layout.specs.declared.cells.Held.the-variants.{Nothing, Units}
+use Rattle.layout.specs.declared.cells.Held.{Held}
 use Rattle.forms.specs.declared.rows.Row.{Row}
 use Rattle.layout.specs.declared.write.RowPut.{RowPut}
 use Rattle.layout.specs.declared.write.RowPut.the-variants.{Fits, Field}
@@ -64,17 +64,11 @@ pub put-number : (w : Written) {before after : List ℕ} {put : Put} {answer : R
 put-number (filled characters) same p = record { answers = same ∙ p .answers; leaves = p .leaves }
 put-number refused same p = record { answers = same ∙ p .answers; leaves = p .leaves }
 
--- a row of numbers, from what the number writer does to its field: "none", and an amount
-module _ (row : Row) (key : List ℕ) (cell : ℕ) (kind : Kind) (before : List ℕ) (fits : length before ≡ widthOf row)
-    (is-number : rowText row key cell ≡ heldText kind (widthOf row) (heldIn cell))
-  where
-    pub puts-none : {answer : RowPut} {after : List ℕ} → heldIn cell ≡ Nothing → PutsRow (text (blankText (length before))) before answer after
-        → PutsRow (rowText row key cell) before answer after
-    puts-none e p = rw (is-number, e, ← fits) p
-
-    pub puts-amount : {put : Put} {answer : RowPut} {after : List ℕ} → rowPutNumber answer ≡ putNumber put → (n : ℕ) → heldIn cell ≡ Units n
-        → Wrote (writtenAs kind (length before) false n) before put after → PutsRow (rowText row key cell) before answer after
-    puts-amount same n e p = rw (is-number, e, ← fits) (put-number (writtenAs kind (length before) false n) same p)
+-- a row of numbers, from what its kind's writer does to its field
+pub puts-number : (row : Row) (key : List ℕ) (cell : ℕ) (held : Held) (kind : Kind) {before after : List ℕ} {answer : RowPut} → length before ≡ widthOf row
+    → rowText row key cell ≡ heldText kind (widthOf row) held → PutsRow (heldText kind (length before) held) before answer after
+    → PutsRow (rowText row key cell) before answer after
+puts-number row key cell held kind fits is-number p = rw (is-number, ← fits) p
 
 -- ---- what one row's answer tells of its text
 

@@ -9,28 +9,28 @@ use lib.Seq.{sets}
 use Rattle.wire.specs.Number.{numberAt}
 use Rattle.scan.specs.declared.Number.{Number}
 use Rattle.scan.specs.declared.Number.the-variants.{None, Amount, Below, Malformed, OutOfRange}
+use Rattle.layout.specs.declared.cells.Held.the-variants as held
 use Rattle.layout.specs.declared.cells.Held.the-variants.{Nothing, Units}
 use Rattle.forms.specs.declared.rows.Row.{Row}
-use Rattle.forms.specs.declared.rows.Row.the-variants.{Key, MarketType, Status, Price, Quantity, Turnover}
+use Rattle.forms.specs.declared.rows.Row.the-variants.{Key, MarketType, Status, Price, Quantity, Turnover, Difference}
 use Rattle.layout.specs.declared.read.RowRead.{RowRead}
 use Rattle.layout.specs.declared.read.RowRead.the-variants.{Cell, Field, Range}
 use Rattle.layout.specs.declared.read.Verdict.{Verdict}
 use Rattle.layout.specs.declared.read.Verdict.the-variants.{Good, Field as FieldAt, Range as RangeAt}
 use Rattle.decimal.specs.declared.Kind.{Kind}
-use Rattle.decimal.specs.Kinds.{price, quantity, turnover}
+use Rattle.decimal.specs.Kinds.{price, quantity, turnover, difference}
 use Rattle.scan.specs.Read.{readAs}
 use Rattle.forms.specs.Rows.{widthOf}
 use Rattle.layout.specs.Answers.{verdictNumbers}
 use Rattle.layout.specs.Cells.{cellOf}
 
--- 01, the table's rows 11 and 12: a number's cell, where the text is one. No row's kind has a sign, so that none is below zero
--- (`never-below`)
-abbrev pub ofNumber : Number → RowRead
-ofNumber None = Cell (cellOf Nothing)
-ofNumber (Amount units) = Cell (cellOf (Units units))
-ofNumber (Below units) = Range
-ofNumber Malformed = Field
-ofNumber OutOfRange = Range
+-- 01, the table's rows 11 and 12: a number's cell, where the text is one
+abbrev pub ofNumber : Bool → Number → RowRead
+ofNumber signed None = Cell (cellOf signed Nothing)
+ofNumber signed (Amount units) = Cell (cellOf signed (Units units))
+ofNumber signed (Below units) = Cell (cellOf signed (held.Below units))
+ofNumber signed Malformed = Field
+ofNumber signed OutOfRange = Range
 
 -- 01 "The message": market type 'N'
 abbrev pub isMarketType : ℕ → Bool
@@ -46,7 +46,7 @@ letterCell taken byte = cond (taken byte) (Cell byte) Field
 
 -- 01 "Numbers in text": a field as a number of its kind
 abbrev pub numberCell : Kind → List ℕ → RowRead
-numberCell kind field = ofNumber (readAs kind field)
+numberCell kind field = ofNumber (kind .signed) (readAs kind field)
 
 -- 01 "The message": one row's field; a key's text is only looked up, and its cell is 0
 unfoldable pub readRow : Row → List ℕ → RowRead
@@ -56,6 +56,7 @@ readRow Status field = letterCell isStatus (numberAt 1 field 0)
 readRow (Price width) field = numberCell price field
 readRow (Quantity width) field = numberCell quantity field
 readRow (Turnover width) field = numberCell turnover field
+readRow (Difference width) field = numberCell difference field
 
 -- 01, the order of checks: what reading rows gives: the cells of the good rows in front of the first bad one, and the
 -- verdict

@@ -25,9 +25,9 @@ use Rattle.layout.specs.Read.{ofNumber, numberCell, Outcome, readRows, r
 
 -- what the number reader answers of a field, as its row's
 pub of-numbers : (kind : Kind) (field : List ℕ) (number : Number) {row : List ℕ} → numberNumbers number ≡ numberNumbers (readAs kind field)
-    → row ≡ rowNumbers (ofNumber number) → row ≡ rowNumbers (numberCell kind field)
+    → row ≡ rowNumbers (ofNumber (kind .signed) number) → row ≡ rowNumbers (numberCell kind field)
 of-numbers kind field number same e =
-    e ∙ ap (λ (n : Number). rowNumbers (ofNumber n)) (number-told number (readAs kind field) same)
+    e ∙ ap (λ (n : Number). rowNumbers (ofNumber (kind .signed) n)) (number-told number (readAs kind field) same)
 
 -- cells read earlier stand in front
 abbrev pub behind : List ℕ → Outcome → Outcome

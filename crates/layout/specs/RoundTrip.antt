@@ -4,27 +4,28 @@ use mathlib.Core.Path.{_≡_, refl, ap, sym, _∙_}
 use mathlib.Core.Bool.{Bool, true, false, and-eq-true-iff}
 use mathlib.Core.List.{List, [], _∷_, _++_}
 use native.Mathlib.Omega.{arith}
+use borrow.Author.Tests.{ne-eqb}
 use lib.ListN.{length, getD, take, drop, length-drop}
 use lib.Seq.{take-at, drop-at, take-add, take-append-add, length-take-le}
 use Rattle.wire.specs.Number.{numberAt}
 use Rattle.amount.specs.ReadBack.{reads-back, none-reads-back}
 use Rattle.print.specs.Write.{blankText}
 use Rattle.layout.specs.declared.cells.Held.{Held}
-use Rattle.layout.specs.declared.cells.Held.the-variants.{Nothing, Units}
+use Rattle.layout.specs.declared.cells.Held.the-variants.{Nothing, Units, Below}
 use Rattle.forms.specs.declared.rows.Row.{Row}
-use Rattle.forms.specs.declared.rows.Row.the-variants.{Key, MarketType, Status, Price, Quantity, Turnover}
+use Rattle.forms.specs.declared.rows.Row.the-variants.{Key, MarketType, Status, Price, Quantity, Turnover, Difference}
 use Rattle.layout.specs.declared.read.RowRead.the-variants.{Cell}
 use Rattle.layout.specs.declared.read.Verdict.the-variants.{Good}
 use Rattle.decimal.specs.declared.Kind.{Kind}
-use Rattle.decimal.specs.Kinds.{price, quantity, turnover}
+use Rattle.decimal.specs.Kinds.{price, quantity, turnover, difference}
 use Rattle.forms.specs.declared.rows.Level.{Level}
 use Rattle.forms.specs.declared.forms.Form.{Form}
-use Rattle.forms.specs.declared.forms.Subject.the-variants.{Contract}
-use Rattle.forms.specs.Sizes.{keyBytes}
+use Rattle.forms.specs.declared.forms.Item.{Item}
+use Rattle.forms.specs.declared.forms.Subject.the-variants.{Of}
 use Rattle.forms.specs.Rows.{widthOf, keyInFront}
-use Rattle.forms.specs.Forms.{rowsOf, subjectOf}
-use Rattle.forms.specs.FormsLaws.{contract-key}
-use Rattle.layout.specs.CellsLaws.{byte-back, cell-back}
+use Rattle.forms.specs.Forms.{rowsOf, subjectOf, keyBytesOf}
+use Rattle.forms.specs.FormsLaws.{key-first}
+use Rattle.layout.specs.CellsLaws.{byte-back, cell-back, MayHold, holds-so}
 use Rattle.layout.specs.Cells.{byteIn, heldIn, cellOf, seenCell, seenCells, keyUsed}
 use Rattle.layout.specs.Read.{isMarketType, isStatus, letterCell, readRow, numberCell, readRows}
 use Rattle.layout.specs.Write.{text, rowText, heldText, letterText, Laid, writeRows}
@@ -43,20 +44,23 @@ letter-back taken small cell {t} e =
 
 -- ---- the rows
 
-number-back : (kind : Kind) (width : ℕ) (held : Held) {t : List ℕ} → heldText kind width held ≡ text t → numberCell kind t ≡ Cell (cellOf held)
-number-back kind width Nothing {t} e =
+number-back : (kind : Kind) (width : ℕ) (held : Held) → MayHold (kind .signed) held → {t : List ℕ} → heldText kind width held ≡ text t
+    → numberCell kind t ≡ Cell (cellOf (kind .signed) held)
+number-back kind width Nothing may {t} e =
     let same : t ≡ blankText width = cc in
     rw (same, none-reads-back kind width)
-number-back kind width (Units n) {t} e = rw (reads-back kind width false n t (filled-is _ e))
+number-back kind width (Units n) may {t} e = rw (reads-back kind width false n t (filled-is _ e))
+number-back kind width (Below n) may {t} e = rw (reads-back kind width true n t (filled-is _ e), ne-eqb n 0 (λ z. omega (arith, may .1)))
 
 row-back : (row : Row) (key : List ℕ) (cell : ℕ) {t : List ℕ} → rowText row key cell ≡ text t → readRow row t ≡ Cell (seenCell row cell)
 unfolding rowText readRow
 row-back (Key width) key cell e = refl
 row-back MarketType key cell e = letter-back isMarketType market-small cell e
 row-back Status key cell e = letter-back isStatus status-small cell e
-row-back (Price width) key cell e = number-back price width (heldIn cell) e ∙ ap Cell (cell-back cell)
-row-back (Quantity width) key cell e = number-back quantity width (heldIn cell) e ∙ ap Cell (cell-back cell)
-row-back (Turnover width) key cell e = number-back turnover width (heldIn cell) e ∙ ap Cell (cell-back cell)
+row-back (Price width) key cell e = number-back price width (heldIn false cell) (holds-so false cell) e ∙ ap Cell (cell-back cell)
+row-back (Quantity width) key cell e = number-back quantity width (heldIn false cell) (holds-so false cell) e ∙ ap Cell (cell-back cell)
+row-back (Turnover width) key cell e = number-back turnover width (heldIn false cell) (holds-so false cell) e ∙ ap Cell (cell-back cell)
+row-back (Difference width) key cell e = number-back difference width (heldIn true cell) (holds-so true cell) e
 
 -- whatever the layout
 pub rows-back : (i : ℕ) (rows : List Row) (key cells : List ℕ) → writeRows i rows key cells .verdict ≡ Good
@@ -109,8 +113,9 @@ key-in-front i (Status ∷ rows) key cells good = no-key key _
 key-in-front i (Price width ∷ rows) key cells good = no-key key _
 key-in-front i (Quantity width ∷ rows) key cells good = no-key key _
 key-in-front i (Turnover width ∷ rows) key cells good = no-key key _
+key-in-front i (Difference width ∷ rows) key cells good = no-key key _
 
--- 01 "The message": the data of an update begins with the contract's key
-pub key-of-update : (form : Form) (level : Level) → subjectOf form ≡ Contract level → (key cells : List ℕ) → writeRows 0 (rowsOf form) key cells .verdict ≡ Good
-    → KeyInFront keyBytes key (writeRows 0 (rowsOf form) key cells .bytes)
-key-of-update form level e key cells good = rw (contract-key form level e) at (key-in-front 0 (rowsOf form) key cells good)
+-- 01 "The message": the data of an update begins with its key
+pub key-of-update : (form : Form) (item : Item) (level : Level) → subjectOf form ≡ Of item level → (key cells : List ℕ) → writeRows 0 (rowsOf form) key cells .verdict ≡ Good
+    → KeyInFront (keyBytesOf item) key (writeRows 0 (rowsOf form) key cells .bytes)
+key-of-update form item level e key cells good = rw (key-first form item level e .bytes-first) at (key-in-front 0 (rowsOf form) key cells good)

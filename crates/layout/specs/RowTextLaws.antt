@@ -13,14 +13,14 @@ use Rattle.decimal.specs.Denotes.{space}
 use Rattle.print.specs.Write.{Written, filled, refused, blankText}
 use Rattle.print.specs.WriteLaws.{fills-right}
 use Rattle.layout.specs.declared.cells.Held.{Held}
-use Rattle.layout.specs.declared.cells.Held.the-variants.{Nothing, Units}
+use Rattle.layout.specs.declared.cells.Held.the-variants.{Nothing, Units, Below}
 use Rattle.forms.specs.declared.rows.Row.{Row}
-use Rattle.forms.specs.declared.rows.Row.the-variants.{Key, MarketType, Status, Price, Quantity, Turnover}
+use Rattle.forms.specs.declared.rows.Row.the-variants.{Key, MarketType, Status, Price, Quantity, Turnover, Difference}
 use Rattle.decimal.specs.declared.Kind.{Kind}
-use Rattle.decimal.specs.Kinds.{price, quantity, turnover}
+use Rattle.decimal.specs.Kinds.{price, quantity, turnover, difference}
 use Rattle.forms.specs.Rows.{widthOf}
-use Rattle.layout.specs.Cells.{none, byteIn, heldIn, cellOf, seenCell}
-use Rattle.layout.specs.CellsLaws.{byte-back, cell-back, amount-cell}
+use Rattle.layout.specs.Cells.{minus, noRoom, byteIn, heldIn, cellOf, seenCell}
+use Rattle.layout.specs.CellsLaws.{byte-back, cell-back, has-cell, has-cell-below}
 use Rattle.layout.specs.Read.{isMarketType, isStatus}
 use Rattle.layout.specs.Write.{RowText, text, malformed, rowText, keyText, letterText, heldText, ofWritten}
 use Rattle.wire.specs.Bytes.{allPrintable}
@@ -66,6 +66,7 @@ number-width kind width Nothing {t} e =
     let same : t ≡ blankText width = cc in
     rw same (length-replicate width space)
 number-width kind width (Units n) {t} e = fills-right kind width false n t (filled-is _ e) .full
+number-width kind width (Below n) {t} e = fills-right kind width true n t (filled-is _ e) .full
 
 pub text-width : (row : Row) (key : List ℕ) (cell : ℕ) {t : List ℕ} → rowText row key cell ≡ text t → length t ≡ widthOf row
 unfolding rowText
@@ -74,29 +75,34 @@ text-width (Key width) key cell e =
     rw (k .2) (length-take-le width key (k .0))
 text-width MarketType key cell e = ap length (letter-is isMarketType cell e .1)
 text-width Status key cell e = ap length (letter-is isStatus cell e .1)
-text-width (Price width) key cell e = number-width price width (heldIn cell) e
-text-width (Quantity width) key cell e = number-width quantity width (heldIn cell) e
-text-width (Turnover width) key cell e = number-width turnover width (heldIn cell) e
+text-width (Price width) key cell e = number-width price width (heldIn false cell) e
+text-width (Quantity width) key cell e = number-width quantity width (heldIn false cell) e
+text-width (Turnover width) key cell e = number-width turnover width (heldIn false cell) e
+text-width (Difference width) key cell e = number-width difference width (heldIn true cell) e
 
--- a cell that has a text is not that of the one amount that no cell holds
-number-held : (kind : Kind) (width : ℕ) (held : Held) {t : List ℕ} → kind .most < none - 1 → heldText kind width held ≡ text t
-    → cellOf held ≡ none - 1 → ⊥
+-- a cell that has a text is not that of an amount that no cell holds
+number-held : (kind : Kind) (width : ℕ) (held : Held) {t : List ℕ} → kind .most < minus - 2 → heldText kind width held ≡ text t
+    → cellOf (kind .signed) held ≡ noRoom → ⊥
 number-held kind width Nothing small e h = omega arith
 number-held kind width (Units n) {t} small e h =
     let most : n ≤ kind .most = fills-right kind width false n t (filled-is _ e) .small in
-    omega (arith, amount-cell n (omega arith))
+    omega (arith, has-cell (kind .signed) n (omega arith))
+number-held kind width (Below n) {t} small e h =
+    let most : n ≤ kind .most = fills-right kind width true n t (filled-is _ e) .small in
+    omega (arith, has-cell-below (kind .signed) n (omega arith))
 
 letter-held : (taken : ℕ → Bool) → ((byte : ℕ) → taken byte ≡ true → byte < 256) → (cell : ℕ) {t : List ℕ} → letterText taken cell ≡ text t
-    → byteIn cell ≡ none - 1 → ⊥
+    → byteIn cell ≡ noRoom → ⊥
 letter-held taken small cell e h =
     let byte : cell < 256 = small cell (letter-is taken cell e .0) in
     omega (arith, byte-back cell byte)
 
-pub text-held : (row : Row) (key : List ℕ) (cell : ℕ) {t : List ℕ} → rowText row key cell ≡ text t → seenCell row cell ≡ none - 1 → ⊥
+pub text-held : (row : Row) (key : List ℕ) (cell : ℕ) {t : List ℕ} → rowText row key cell ≡ text t → seenCell row cell ≡ noRoom → ⊥
 unfolding rowText
 text-held (Key width) key cell e h = omega arith
 text-held MarketType key cell e h = letter-held isMarketType market-small cell e h
 text-held Status key cell e h = letter-held isStatus status-small cell e h
-text-held (Price width) key cell e h = number-held price width (heldIn cell) (omega arith) e (cell-back cell ∙ h)
-text-held (Quantity width) key cell e h = number-held quantity width (heldIn cell) (omega arith) e (cell-back cell ∙ h)
-text-held (Turnover width) key cell e h = number-held turnover width (heldIn cell) (omega arith) e (cell-back cell ∙ h)
+text-held (Price width) key cell e h = number-held price width (heldIn false cell) (omega arith) e (cell-back cell ∙ h)
+text-held (Quantity width) key cell e h = number-held quantity width (heldIn false cell) (omega arith) e (cell-back cell ∙ h)
+text-held (Turnover width) key cell e h = number-held turnover width (heldIn false cell) (omega arith) e (cell-back cell ∙ h)
+text-held (Difference width) key cell e h = number-held difference width (heldIn true cell) (omega arith) e h

@@ -1,19 +1,21 @@
 -- The field of a row, and what it says, in the paper's words: 01 "The message", "Numbers in text", and the table's rows 11 and 12.
 use Prim.Native.Nat.{ℕ, _≤_}
 use mathlib.Core.Path.{_≡_}
-use mathlib.Core.Bool.{false}
+use mathlib.Core.Bool.{true, false}
 use mathlib.Core.List.{List}
 use mathlib.Core.Logic.{_⊎_}
 use Rattle.wire.specs.Number.{numberAt}
 use Rattle.decimal.specs.declared.Kind.{Kind}
 use Rattle.decimal.specs.Denotes.{Shape, Denotes, AllSpaces}
-use Rattle.decimal.specs.Kinds.{price, quantity, turnover}
+use Rattle.decimal.specs.Kinds.{price, quantity, turnover, difference}
 use Rattle.scan.specs.Answers.{Beyond}
 use Rattle.forms.specs.declared.rows.Row.{Row}
-use Rattle.forms.specs.declared.rows.Row.the-variants.{Key, MarketType, Status, Price, Quantity, Turnover}
+use Rattle.forms.specs.declared.rows.Row.the-variants.{Key, MarketType, Status, Price, Quantity, Turnover, Difference}
+use Rattle.layout.specs.declared.cells.Held.{Held}
+use Rattle.layout.specs.declared.cells.Held.the-variants.{Nothing, Units, Below}
 use Rattle.layout.specs.declared.read.RowRead.{RowRead}
 use Rattle.layout.specs.declared.read.RowRead.the-variants.{Cell, Field, Range}
-use Rattle.layout.specs.Cells.{none}
+use Rattle.layout.specs.Cells.{cellOf}
 use lib.ListN.{getD, take, drop}
 use Rattle.forms.specs.Rows.{widthOf, offsetOf}
 
@@ -35,10 +37,17 @@ IsMarketType letter = letter ≡ 78
 abbrev pub IsStatus : ℕ → Type 0
 IsStatus letter = (letter ≡ 83) ⊎ (letter ≡ 32)
 
--- 01 "Numbers in text" and the table's rows 11 and 12: "none" where the field is all spaces; the amount that its text denotes, where
--- that is in range; 11 where it has not the shape; 12 where it is too fine or too large
+-- demand 2, and 01 "Numbers in text": what a field says of the number in it: "none" where it is all spaces; so many units, or (M-100)
+-- so many below zero, where that is what its text denotes, and they are in range
+abbrev pub HeldSays : Kind → List ℕ → Held → Type 0
+HeldSays kind field Nothing = AllSpaces field
+HeldSays kind field (Units n) = Denotes kind field false n × (n ≤ kind .most)
+HeldSays kind field (Below n) = Denotes kind field true n × (n ≤ kind .most)
+
+-- 01 "Numbers in text" and the table's rows 11 and 12: the cell of the number that the field says; 11 where it has not the shape;
+-- 12 where it is too fine or too large
 abbrev pub NumberSays : Kind → List ℕ → RowRead → Type 0
-NumberSays kind field (Cell cell) = (AllSpaces field × (cell ≡ none)) ⊎ (Denotes kind field false cell × (cell ≤ kind .most))
+NumberSays kind field (Cell cell) = (held : Held) × HeldSays kind field held × (cell ≡ cellOf (kind .signed) held)
 NumberSays kind field Field = (AllSpaces field → ⊥) × (Shape kind field → ⊥)
 NumberSays kind field Range = (s : Shape kind field) × Beyond kind s
 
@@ -52,6 +61,7 @@ RowSays Status field answer = LetterSays IsStatus (letterIn field) answer
 RowSays (Price width) field answer = NumberSays price field answer
 RowSays (Quantity width) field answer = NumberSays quantity field answer
 RowSays (Turnover width) field answer = NumberSays turnover field answer
+RowSays (Difference width) field answer = NumberSays difference field answer
 
 -- 01 "What may be asked": rows count from 0 as laid out
 abbrev pub rowAt : List Row → ℕ → Row

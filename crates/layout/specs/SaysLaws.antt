@@ -5,25 +5,25 @@ use mathlib.Core.Bool.{Bool, true, false, cond, false≢true}
 use mathlib.Core.List.{List}
 use mathlib.Core.Logic.{_↔_, _⊎_, inl, inr, ⊎-elim}
 use native.Mathlib.Omega.{arith}
-use borrow.Author.Tests.{ne-eqb}
-use lib.Dec.{lit<}
 use Rattle.laws.specs.Choice.{clash, either}
 use Rattle.laws.specs.Tests.{eqb-is, or-is}
 use Rattle.decimal.specs.declared.Kind.{Kind}
-use Rattle.decimal.specs.Kinds.{price, quantity, turnover}
+use Rattle.decimal.specs.Kinds.{price, quantity, turnover, difference}
 use Rattle.scan.specs.declared.Number.{Number}
-use Rattle.scan.specs.declared.Number.the-variants.{None, Amount, Below, Malformed, OutOfRange}
+use Rattle.scan.specs.declared.Number.the-variants as number
+use Rattle.scan.specs.declared.Number.the-variants.{None, Amount, Malformed, OutOfRange}
 use Rattle.scan.specs.Answers.{Says}
 use Rattle.scan.specs.Read.{readAs}
-use Rattle.scan.specs.ReadLaws.{reads-exactly, never-below}
+use Rattle.scan.specs.ReadLaws.{reads-exactly}
 use Rattle.forms.specs.declared.rows.Row.{Row}
-use Rattle.forms.specs.declared.rows.Row.the-variants.{Key, MarketType, Status, Price, Quantity, Turnover}
-use Rattle.layout.specs.declared.cells.Held.the-variants.{Units}
+use Rattle.forms.specs.declared.rows.Row.the-variants.{Key, MarketType, Status, Price, Quantity, Turnover, Difference}
+use Rattle.layout.specs.declared.cells.Held.{Held}
+use Rattle.layout.specs.declared.cells.Held.the-variants.{Nothing, Units, Below}
 use Rattle.layout.specs.declared.read.RowRead.{RowRead}
 use Rattle.layout.specs.declared.read.RowRead.the-variants.{Cell, Field, Range}
-use Rattle.layout.specs.Cells.{none, cellOf}
+use Rattle.layout.specs.Cells.{cellOf}
 use Rattle.layout.specs.Read.{ofNumber, isMarketType, isStatus, letterCell, numberCell, readRow}
-use Rattle.layout.specs.Says.{letterIn, LetterSays, IsMarketType, IsStatus, NumberSays, RowSays}
+use Rattle.layout.specs.Says.{letterIn, LetterSays, IsMarketType, IsStatus, HeldSays, NumberSays, RowSays}
 
 -- ---- a letter
 
@@ -42,22 +42,23 @@ module _ (taken : ℕ → Bool) (Takes : ℕ → Type 0) (is : (letter : ℕ) �
 
 -- ---- a number
 
-module _ (kind : Kind) (small : kind .most < none) (plain : kind .signed ≡ false) (field : List ℕ) where
-  own-cell : (n : ℕ) → n ≤ kind .most → cellOf (Units n) ≡ n
-  own-cell n h = rw (ne-eqb n none (λ e. absurd (omega arith)))
-
-  number-says : (r : Number) → Says kind field r → NumberSays kind field (ofNumber r)
-  number-says None h = inl (h, refl)
-  number-says (Amount n) h = rw (own-cell n (h .1)) (inr h)
-  number-says (Below n) h = absurd (never-below kind field plain n (reads-exactly kind field (Below n) .1 h))
+module _ (kind : Kind) (field : List ℕ) where
+  number-says : (r : Number) → Says kind field r → NumberSays kind field (ofNumber (kind .signed) r)
+  number-says None h = (Nothing, h, refl)
+  number-says (Amount n) h = (Units n, h, refl)
+  number-says (number.Below n) h = (Below n, h, refl)
   number-says Malformed h = h
   number-says OutOfRange h = h
 
+  held-said : (held : Held) → HeldSays kind field held → numberCell kind field ≡ Cell (cellOf (kind .signed) held)
+  held-said Nothing h = ap (ofNumber (kind .signed)) (reads-exactly kind field None .1 h)
+  held-said (Units n) h = ap (ofNumber (kind .signed)) (reads-exactly kind field (Amount n) .1 h)
+  held-said (Below n) h = ap (ofNumber (kind .signed)) (reads-exactly kind field (number.Below n) .1 h)
+
   number-said : (answer : RowRead) → NumberSays kind field answer → numberCell kind field ≡ answer
-  number-said (Cell cell) (inl h) = ap ofNumber (reads-exactly kind field None .1 (h .0)) ∙ ap Cell (sym (h .1))
-  number-said (Cell cell) (inr h) = ap ofNumber (reads-exactly kind field (Amount cell) .1 h) ∙ ap Cell (own-cell cell (h .1))
-  number-said Field h = ap ofNumber (reads-exactly kind field Malformed .1 h)
-  number-said Range h = ap ofNumber (reads-exactly kind field OutOfRange .1 h)
+  number-said (Cell cell) h = held-said (h .0) (h .1) ∙ ap Cell (sym (h .2))
+  number-said Field h = ap (ofNumber (kind .signed)) (reads-exactly kind field Malformed .1 h)
+  number-said Range h = ap (ofNumber (kind .signed)) (reads-exactly kind field OutOfRange .1 h)
 
   number-exactly : (answer : RowRead) → numberCell kind field ≡ answer ↔ NumberSays kind field answer
   number-exactly answer =
@@ -75,6 +76,7 @@ unfolding readRow
 row-exactly (Key width) field answer = key-exactly width field answer
 row-exactly MarketType field answer = letter-exactly isMarketType IsMarketType (λ b. eqb-is b 78) (letterIn field) answer
 row-exactly Status field answer = letter-exactly isStatus IsStatus (λ b. or-is (eqb-is b 83) (eqb-is b 32)) (letterIn field) answer
-row-exactly (Price width) field answer = number-exactly price (lit< tt) refl field answer
-row-exactly (Quantity width) field answer = number-exactly quantity (lit< tt) refl field answer
-row-exactly (Turnover width) field answer = number-exactly turnover (lit< tt) refl field answer
+row-exactly (Price width) field answer = number-exactly price field answer
+row-exactly (Quantity width) field answer = number-exactly quantity field answer
+row-exactly (Turnover width) field answer = number-exactly turnover field answer
+row-exactly (Difference width) field answer = number-exactly difference field answer

@@ -1,7 +1,7 @@
 -- Writing cells into the data of an update: 01 "Numbers in text", and the writer's order of checks: 11 and 12 by row.
 use Prim.Native.Nat.{ℕ, suc}
 use mathlib.Core.Path.{_≡_}
-use mathlib.Core.Bool.{Bool, false, cond, _&&_}
+use mathlib.Core.Bool.{Bool, true, false, cond, _&&_}
 use mathlib.Core.List.{List, [], _∷_, _++_}
 use lib.Dec.{leb}
 use lib.ListN.{length, getD, take, drop}
@@ -9,15 +9,15 @@ use Rattle.laws.specs.Refused.{fieldNo, rangeNo}
 use Rattle.wire.specs.Bytes.{allPrintable}
 use Rattle.print.specs.Write.{blankText, Written, filled, refused, writtenAs}
 use Rattle.layout.specs.declared.cells.Held.{Held}
-use Rattle.layout.specs.declared.cells.Held.the-variants.{Nothing, Units}
+use Rattle.layout.specs.declared.cells.Held.the-variants.{Nothing, Units, Below}
 use Rattle.forms.specs.declared.rows.Row.{Row}
-use Rattle.forms.specs.declared.rows.Row.the-variants.{Key, MarketType, Status, Price, Quantity, Turnover}
+use Rattle.forms.specs.declared.rows.Row.the-variants.{Key, MarketType, Status, Price, Quantity, Turnover, Difference}
 use Rattle.layout.specs.declared.read.Verdict.{Verdict}
 use Rattle.layout.specs.declared.read.Verdict.the-variants.{Good, Field as FieldAt, Range as RangeAt}
 use Rattle.layout.specs.declared.write.RowsWritten.{RowsWritten}
 use Rattle.layout.specs.declared.write.RowPut.{RowPut}
 use Rattle.decimal.specs.declared.Kind.{Kind}
-use Rattle.decimal.specs.Kinds.{price, quantity, turnover}
+use Rattle.decimal.specs.Kinds.{price, quantity, turnover, difference}
 use Rattle.layout.specs.Answers.{verdictNumbers, rowPutNumber}
 use Rattle.layout.specs.Cells.{heldIn, keyUsed}
 use Rattle.layout.specs.Read.{isMarketType, isStatus}
@@ -45,15 +45,17 @@ ofWritten refused = out-of-range
 abbrev pub heldText : Kind → ℕ → Held → RowText
 heldText kind width Nothing = text (blankText width)
 heldText kind width (Units n) = ofWritten (writtenAs kind width false n)
+heldText kind width (Below n) = ofWritten (writtenAs kind width true n)
 
 -- 01 "The message": the text of one row: from what is left of the key, or from the row's cell
 unfoldable pub rowText : Row → List ℕ → ℕ → RowText
 rowText (Key width) key cell = keyText width key
 rowText MarketType key cell = letterText isMarketType cell
 rowText Status key cell = letterText isStatus cell
-rowText (Price width) key cell = heldText price width (heldIn cell)
-rowText (Quantity width) key cell = heldText quantity width (heldIn cell)
-rowText (Turnover width) key cell = heldText turnover width (heldIn cell)
+rowText (Price width) key cell = heldText price width (heldIn false cell)
+rowText (Quantity width) key cell = heldText quantity width (heldIn false cell)
+rowText (Turnover width) key cell = heldText turnover width (heldIn false cell)
+rowText (Difference width) key cell = heldText difference width (heldIn true cell)
 
 -- 01, the order of checks: what writing rows gives: the bytes of the good rows in front of the first bad one, and the
 -- verdict

@@ -1,35 +1,84 @@
 ghost use mathlib.Core.Path.{_≡_};
-ghost use Rattle.layout.specs.Cells.{heldIn, cellOf, byteIn};
+ghost use Rattle.layout.specs.Cells.{sided, sideIn, heldIn, unitsCell, cellOf, byteIn};
 
 // What a cell holds for "none".
 pub const NONE: u64 = 0xffff_ffff_ffff_ffff;
 
-// What a number's cell means: "none", which is not zero, or so many of the kind's unit.
+// The minus of a cell, where its row has a sign.
+const MINUS: u64 = 0x8000_0000_0000_0000;
+
+// The cell of an amount that has none: it is as far out of every kind's range.
+const NO_ROOM: u64 = NONE - 1;
+
+// What a number's cell means: "none", which is not zero, so many of the kind's unit, or so many below zero.
 pub enum Held {
     Nothing,
     Units(u64),
+    Below(u64),
 }
 
-pub fn held_in(cell: u64) -> Held
-    ensures { λ r. ⌜ r ≡ heldIn cell ⌝ }
+// Minus zero is zero.
+pub fn sided(below: bool, units: u64) -> Held
+    ensures { λ r. ⌜ r ≡ sided below units ⌝ }
+{
+    if units == 0 {
+        return Held::Units(0);
+    }
+    if below {
+        return Held::Below(units);
+    }
+    Held::Units(units)
+}
+
+// What a cell means where its row has a sign.
+fn side_in(cell: u64) -> Held
+    ensures { λ r. ⌜ r ≡ sideIn cell ⌝ }
+{
+    if cell < MINUS {
+        return Held::Units(cell);
+    }
+    sided(true, cell - MINUS)
+}
+
+pub fn held_in(signed: bool, cell: u64) -> Held
+    ensures { λ r. ⌜ r ≡ heldIn signed cell ⌝ }
 {
     if cell == NONE {
         return Held::Nothing;
     }
+    if signed {
+        return side_in(cell);
+    }
     Held::Units(cell)
 }
 
-// All ones is no amount's cell: that amount gets the cell below, and stays out of range.
-pub fn cell_of(held: Held) -> u64
-    ensures { λ r. ⌜ r ≡ cellOf held ⌝ }
+// All ones is no amount's cell; and where the row has a sign, no amount has the minus.
+fn units_cell(signed: bool, units: u64) -> u64
+    ensures { λ r. ⌜ r ≡ unitsCell signed units ⌝ }
+{
+    if signed {
+        if units < MINUS {
+            return units;
+        }
+        return NO_ROOM;
+    }
+    if units == NONE {
+        return NO_ROOM;
+    }
+    units
+}
+
+pub fn cell_of(signed: bool, held: Held) -> u64
+    ensures { λ r. ⌜ r ≡ cellOf signed held ⌝ }
 {
     match held {
         Held::Nothing => NONE,
-        Held::Units(units) => {
-            if units == NONE {
-                return NONE - 1;
+        Held::Units(units) => units_cell(signed, units),
+        Held::Below(units) => {
+            if units < MINUS - 1 {
+                return MINUS + units;
             }
-            units
+            NO_ROOM
         }
     }
 }

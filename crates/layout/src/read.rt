@@ -7,6 +7,7 @@ ghost use Rattle.layout.specs.Answers.{rowNumbers};
 ghost use Rattle.layout.specs.Read.{readRow, ofNumber, isMarketType, isStatus, letterCell, ReadsRows};
 use crate::cells;
 use crate::cells::Held;
+use amount::Difference;
 use amount::Number;
 use amount::Price;
 use amount::Quantity;
@@ -29,14 +30,13 @@ pub enum Verdict {
     Range(usize),
 }
 
-fn of_number(number: Number) -> RowRead
-    ensures { λ r. ⌜ rowNumbers r ≡ rowNumbers (ofNumber number) ⌝ }
+fn of_number(signed: bool, number: Number) -> RowRead
+    ensures { λ r. ⌜ rowNumbers r ≡ rowNumbers (ofNumber signed number) ⌝ }
 {
     match number {
-        Number::None => RowRead::Cell(cells::cell_of(Held::Nothing)),
-        Number::Amount(units) => RowRead::Cell(cells::cell_of(Held::Units(units))),
-        // No row's kind has a sign.
-        Number::Below(_) => RowRead::Range,
+        Number::None => RowRead::Cell(cells::cell_of(signed, Held::Nothing)),
+        Number::Amount(units) => RowRead::Cell(cells::cell_of(signed, Held::Units(units))),
+        Number::Below(units) => RowRead::Cell(cells::cell_of(signed, Held::Below(units))),
         Number::Malformed => RowRead::Field,
         Number::OutOfRange => RowRead::Range,
     }
@@ -71,9 +71,10 @@ fn read_row(row: Row, field: &[u8]) -> RowRead
         Row::Key(_) => RowRead::Cell(0),
         Row::MarketType => market_type(wire::u8_at(field, 0)),
         Row::Status => status(wire::u8_at(field, 0)),
-        Row::Price(_) => of_number(Price::read(field)),
-        Row::Quantity(_) => of_number(Quantity::read(field)),
-        Row::Turnover(_) => of_number(Turnover::read(field)),
+        Row::Price(_) => of_number(false, Price::read(field)),
+        Row::Quantity(_) => of_number(false, Quantity::read(field)),
+        Row::Turnover(_) => of_number(false, Turnover::read(field)),
+        Row::Difference(_) => of_number(true, Difference::read(field)),
     }
 }
 

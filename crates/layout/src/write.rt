@@ -8,11 +8,13 @@ ghost use Rattle.forms.specs.Rows.{widthOf, dataLength};
 ghost use Rattle.forms.specs.Sizes.{mostRows, mostData};
 ghost use Rattle.layout.specs.Answers.{rowPutNumber};
 ghost use Rattle.layout.specs.Read.{isMarketType, isStatus};
-ghost use Rattle.layout.specs.Write.{text, keyText, letterText, rowText, PutsRow, overFront, writeRows, WritesRows, WritesUpdate};
+ghost use Rattle.layout.specs.Write.{text, keyText, letterText, heldText, rowText, PutsRow, overFront, writeRows, WritesRows, WritesUpdate};
 ghost use Rattle.layout.specs.Cells.{keyUsed};
 use crate::cells;
 use crate::cells::Held;
 use crate::read::Verdict;
+use amount::Difference;
+use amount::Kind;
 use amount::Price;
 use amount::Put;
 use amount::Quantity;
@@ -109,6 +111,17 @@ fn put_status(cell: u64, field: &mut [u8]) -> RowPut
     RowPut::Field
 }
 
+// A number of a kind, or none.
+fn put_number(held: Held, kind: Kind, field: &mut [u8]) -> RowPut
+    ensures { λ r. ⌜ PutsRow (heldText kind (length (now (field .entry))) held) (now (field .entry)) r (now (field .exit)) ⌝ }
+{
+    match held {
+        Held::Nothing => put_none(field),
+        Held::Units(units) => of_put(amount::write(false, units, kind, field)),
+        Held::Below(units) => of_put(amount::write(true, units, kind, field)),
+    }
+}
+
 // One row, from what is left of the key or from the row's cell.
 fn put_row(row: Row, key: &[u8], cell: u64, field: &mut [u8]) -> RowPut
     requires { ⌜ length (now field) ≡ widthOf row ⌝ }
@@ -118,18 +131,10 @@ fn put_row(row: Row, key: &[u8], cell: u64, field: &mut [u8]) -> RowPut
         Row::Key(_) => put_key(key, field),
         Row::MarketType => put_market_type(cell, field),
         Row::Status => put_status(cell, field),
-        Row::Price(_) => match cells::held_in(cell) {
-            Held::Nothing => put_none(field),
-            Held::Units(units) => of_put(Price::of(units).write(field)),
-        },
-        Row::Quantity(_) => match cells::held_in(cell) {
-            Held::Nothing => put_none(field),
-            Held::Units(units) => of_put(Quantity::of(units).write(field)),
-        },
-        Row::Turnover(_) => match cells::held_in(cell) {
-            Held::Nothing => put_none(field),
-            Held::Units(units) => of_put(Turnover::of(units).write(field)),
-        },
+        Row::Price(_) => put_number(cells::held_in(false, cell), Price::KIND, field),
+        Row::Quantity(_) => put_number(cells::held_in(false, cell), Quantity::KIND, field),
+        Row::Turnover(_) => put_number(cells::held_in(false, cell), Turnover::KIND, field),
+        Row::Difference(_) => put_number(cells::held_in(true, cell), Difference::KIND, field),
     }
 }
 
@@ -144,6 +149,7 @@ fn key_used(row: Row) -> usize
         Row::Price(_) => 0,
         Row::Quantity(_) => 0,
         Row::Turnover(_) => 0,
+        Row::Difference(_) => 0,
     }
 }
 

@@ -10,11 +10,13 @@ use Rattle.laws.specs.Choice.{never}
 use Rattle.layout.specs.declared.read.Verdict.{Verdict}
 use Rattle.layout.specs.declared.read.Verdict.the-variants as verdict
 use Rattle.forms.specs.declared.forms.Form.{Form}
+use Rattle.forms.specs.declared.forms.Item.{Item}
 use Rattle.forms.specs.declared.forms.Named.{Named}
 use Rattle.forms.specs.declared.forms.Named.the-variants as is
 use Rattle.forms.specs.declared.forms.Subject.{Subject}
-use Rattle.forms.specs.declared.forms.Subject.the-variants.{Nothing, Contract}
+use Rattle.forms.specs.declared.forms.Subject.the-variants.{Nothing, Of}
 use Rattle.contracts.specs.Lookup.{segmentOf}
+use Rattle.pairs.specs.Lists.{Lists}
 use Rattle.layout.specs.Cells.{zerosBehind}
 use Rattle.layout.specs.Read.{readRows}
 use Rattle.layout.specs.ReadLaws.{front-stored}
@@ -29,7 +31,7 @@ use Rattle.message.specs.declared.head.Head.the-variants.{Good, Bad}
 use Rattle.message.specs.Good.{GoodMessage, NumberFor, HasNumber, PlaceFor, HasContract}
 use Rattle.message.specs.Fields.{letterOf, secondOf, formIn, lengthOf, numberOf, dataOf}
 use Rattle.message.specs.Rules.{headOf}
-use Rattle.message.specs.Message.{TellsOfContract, messageKey, keyPlace, ofSubject, ofNamed}
+use Rattle.message.specs.Message.{TellsOf, messagePlace, ofPlace, ofSubject, ofNamed}
 use Rattle.message.specs.Reads.{rowsRead, ofVerdict, contentsBy, contentsOf, messageOf}
 use Rattle.message.specs.MessageLaws.{good-head, bad-head, length-is}
 use Rattle.message.specs.Numbers.{verdictOf, numberIn}
@@ -37,14 +39,15 @@ use Rattle.message.specs.GoodLaws.{good-exact}
 use Rattle.message.specs.RulesLaws.{unlike}
 
 -- what an update with no fault is, in the terms of its bytes
-pub record IsUpdate (list : List ℕ) (letter : ℕ) (bytes : List ℕ) (number : ℕ) (form : Form) (place : ℕ) : Type 0 where
+pub record IsUpdate (lists : Lists) (letter : ℕ) (bytes : List ℕ) (number : ℕ) (form : Form) (place : ℕ) : Type 0 where
   pub form-is : formIn bytes ≡ is.Form form
-  pub tells : TellsOfContract form
+  pub item : Item
+  pub tells : TellsOf item form
   pub number-is : numberOf bytes ≡ number
   pub length-is : lengthOf bytes ≡ messageLength (rowsOf form)
-  pub place-is : keyPlace list letter (messageKey bytes) ≡ some place
+  pub place-is : messagePlace lists letter bytes item ≡ some place
   pub rows-good : readRows 0 (rowsOf form) (dataOf bytes) .verdict ≡ verdict.Good
-  pub cells-are : messageOf list letter bytes .cells ≡ zerosBehind (readRows 0 (rowsOf form) (dataOf bytes) .cells)
+  pub cells-are : messageOf lists letter bytes .cells ≡ zerosBehind (readRows 0 (rowsOf form) (dataOf bytes) .cells)
 
 -- a verdict that leaves no fault is good
 rows-pass : (v : Verdict) (w : What) → verdictOf (ofVerdict v w) ≡ Good → v ≡ verdict.Good
@@ -53,62 +56,70 @@ rows-pass (verdict.Field row) w e = absurd (unlike e)
 rows-pass (verdict.Range row) w e = absurd (unlike e)
 
 -- a message counts in the sequence by its number field
-subject-number : (subject : Subject) (number : ℕ) (form : Form) (place : Option ℕ) → NumberFor subject number → PlaceFor subject place
+subject-number : (subject : Subject) (number : ℕ) (form : Form) (place : Item → Option ℕ) → NumberFor subject number → PlaceFor subject place
     → numberIn (ofSubject subject number form place) ≡ number
 subject-number Nothing number form place h k = sym h
-subject-number (Contract level) number form none h k = absurd (never (k .1))
-subject-number (Contract level) number form (some p) h k = refl
+subject-number (Of item level) number form place h k = go (place item) (k .1)
+  where
+    go : (found : Option ℕ) → found ≡ some (k .0) → numberIn (ofPlace number form found) ≡ number
+    go none e = absurd (never e)
+    go (some p) e = refl
 
-named-number : (named : Named) (number : ℕ) (place : Option ℕ) → HasNumber named number → HasContract named place → numberIn (ofNamed named number place) ≡ number
+named-number : (named : Named) (number : ℕ) (place : Item → Option ℕ) → HasNumber named number → HasContract named place → numberIn (ofNamed named number place) ≡ number
 named-number (is.Form form) number place h k = subject-number (subjectOf form) number form place h k
 named-number is.NoLength number place h k = refl
 named-number is.PassedOver number place h k = refl
 
 -- only an update with its key listed is answered as one
-pub record ToldUpdate (named : Named) (n : ℕ) (found : Option ℕ) (number : ℕ) (form : Form) (place : ℕ) : Type 0 where
+pub record ToldUpdate (named : Named) (n : ℕ) (found : Item → Option ℕ) (number : ℕ) (form : Form) (place : ℕ) : Type 0 where
   pub named-is : named ≡ is.Form form
-  pub tells : TellsOfContract form
+  pub item : Item
+  pub tells : TellsOf item form
   pub number-is : n ≡ number
-  pub found-is : found ≡ some place
+  pub found-is : found item ≡ some place
 
-subject-update : (subject : Subject) (own : Form) → subjectOf own ≡ subject → (n : ℕ) (found : Option ℕ) {number : ℕ} {form : Form} {place : ℕ}
+subject-update : (subject : Subject) (own : Form) → subjectOf own ≡ subject → (n : ℕ) (found : Item → Option ℕ) {number : ℕ} {form : Form} {place : ℕ}
     → ofSubject subject n own found ≡ what.Update number form place → ToldUpdate (is.Form own) n found number form place
 subject-update Nothing own s n found e = absurd (let z : _≡_ {A = ℕ} 0 1 = cc in omega arith)
-subject-update (Contract level) own s n none e = absurd (let z : _≡_ {A = ℕ} 0 1 = cc in omega arith)
-subject-update (Contract level) own s n (some k) {form = form} e =
-    let same : own ≡ form = cc in
-    record { named-is = ap is.Form same; tells = (level, rw (← same) s); number-is = cc; found-is = cc }
+subject-update (Of item level) own s n found {number} {form} {place} e = go (found item) refl e
+  where
+    go : (o : Option ℕ) → found item ≡ o → ofPlace n own o ≡ what.Update number form place → ToldUpdate (is.Form own) n found number form place
+    go none f e = absurd (let z : _≡_ {A = ℕ} 0 1 = cc in omega arith)
+    go (some k) f e =
+        let same : own ≡ form = cc in
+        let here : some k ≡ some place = cc in
+        record { named-is = ap is.Form same; item = item; tells = (level, rw (← same) s); number-is = cc; found-is = f ∙ here }
 
-named-update : (named : Named) (n : ℕ) (found : Option ℕ) {number : ℕ} {form : Form} {place : ℕ}
+named-update : (named : Named) (n : ℕ) (found : Item → Option ℕ) {number : ℕ} {form : Form} {place : ℕ}
     → ofNamed named n found ≡ what.Update number form place → ToldUpdate named n found number form place
 named-update (is.Form own) n found e = subject-update (subjectOf own) own refl n found e
 named-update is.NoLength n found e = absurd (let z : _≡_ {A = ℕ} 0 1 = cc in omega arith)
 named-update is.PassedOver n found e = absurd (let z : _≡_ {A = ℕ} 0 1 = cc in omega arith)
 
-module _ (list : List ℕ) (letter : ℕ) (bytes : List ℕ) (good : verdictOf (messageOf list letter bytes .what) ≡ Good) where
-  rules : GoodMessage list letter bytes
-  rules = good-exact list letter bytes .0 good
+module _ (lists : Lists) (letter : ℕ) (bytes : List ℕ) (good : verdictOf (messageOf lists letter bytes .what) ≡ Good) where
+  rules : GoodMessage lists letter bytes
+  rules = good-exact lists letter bytes .0 good
 
   -- its head is good, so that it is its contents
-  pub head-good : headOf letter (segmentOf list letter) bytes ≡ Good
-  head-good = go (headOf letter (segmentOf list letter) bytes) refl
+  pub head-good : headOf letter (segmentOf (lists .contracts) letter) bytes ≡ Good
+  head-good = go (headOf letter (segmentOf (lists .contracts) letter) bytes) refl
     where
-      go : (h : Head) → headOf letter (segmentOf list letter) bytes ≡ h → headOf letter (segmentOf list letter) bytes ≡ Good
+      go : (h : Head) → headOf letter (segmentOf (lists .contracts) letter) bytes ≡ h → headOf letter (segmentOf (lists .contracts) letter) bytes ≡ Good
       go Good e = e
-      go (Bad fault) e = absurd (unlike (sym (ap (λ m. verdictOf (m .what)) (bad-head list letter bytes fault e)) ∙ good))
+      go (Bad fault) e = absurd (unlike (sym (ap (λ m. verdictOf (m .what)) (bad-head lists letter bytes fault e)) ∙ good))
 
-  pub contents-good : messageOf list letter bytes ≡ contentsOf list letter bytes
-  contents-good = good-head list letter bytes head-good
+  pub contents-good : messageOf lists letter bytes ≡ contentsOf lists letter bytes
+  contents-good = good-head lists letter bytes head-good
 
   -- so the next message doesn't begin behind the end
-  pub all-there : messageOf list letter bytes .length ≤ length bytes
-  all-there = rw (length-is list letter bytes) (rules .frame .within)
+  pub all-there : messageOf lists letter bytes .length ≤ length bytes
+  all-there = rw (length-is lists letter bytes) (rules .frame .within)
 
   rows-good : rowsRead bytes .verdict ≡ verdict.Good
   unfolding contentsBy
   rows-good = rows-pass (rowsRead bytes .verdict) _ (sym (ap (λ m. verdictOf (m .what)) contents-good) ∙ good)
 
-  what-is : messageOf list letter bytes .what ≡ ofNamed (formIn bytes) (numberOf bytes) (keyPlace list letter (messageKey bytes))
+  what-is : messageOf lists letter bytes .what ≡ ofNamed (formIn bytes) (numberOf bytes) (messagePlace lists letter bytes)
   unfolding contentsBy
   what-is = ap (λ m. m .what) contents-good ∙ rw rows-good
 
@@ -118,17 +129,18 @@ module _ (list : List ℕ) (letter : ℕ) (bytes : List ℕ) (good : verdictOf (
   form-length form e = told-form (formsOf (letterOf bytes) (secondOf bytes)) (lengthOf bytes) form e .1
 
   -- its number is the number field
-  pub number-is : numberIn (messageOf list letter bytes .what) ≡ numberOf bytes
+  pub number-is : numberIn (messageOf lists letter bytes .what) ≡ numberOf bytes
   number-is =
-      ap numberIn what-is ∙ named-number (formIn bytes) (numberOf bytes) (keyPlace list letter (messageKey bytes)) (rules .numbering) (rules .contract)
+      ap numberIn what-is ∙ named-number (formIn bytes) (numberOf bytes) (messagePlace lists letter bytes) (rules .numbering) (rules .contract)
 
-  pub update-told : (number : ℕ) (form : Form) (place : ℕ) → messageOf list letter bytes .what ≡ what.Update number form place
-      → IsUpdate list letter bytes number form place
+  pub update-told : (number : ℕ) (form : Form) (place : ℕ) → messageOf lists letter bytes .what ≡ what.Update number form place
+      → IsUpdate lists letter bytes number form place
   unfolding contentsBy
   update-told number form place e =
-      let p = named-update (formIn bytes) (numberOf bytes) (keyPlace list letter (messageKey bytes)) (sym what-is ∙ e) in
+      let p = named-update (formIn bytes) (numberOf bytes) (messagePlace lists letter bytes) (sym what-is ∙ e) in
       record {
         form-is = p .named-is;
+        item = p .item;
         tells = p .tells;
         number-is = p .number-is;
         length-is = form-length form (p .named-is);
@@ -139,8 +151,8 @@ module _ (list : List ℕ) (letter : ℕ) (bytes : List ℕ) (good : verdictOf (
 
   -- lent cells in which its rows are stored have its cells in front
   pub cells-stored : (cells cells′ : List ℕ) → cells′ ≡ sets cells 0 (rowsRead bytes .cells) → length cells′ ≡ mostRows → (number : ℕ) (form : Form) (place : ℕ)
-      → messageOf list letter bytes .what ≡ what.Update number form place
-      → take (length (rowsOf form)) cells′ ≡ take (length (rowsOf form)) (messageOf list letter bytes .cells)
+      → messageOf lists letter bytes .what ≡ what.Update number form place
+      → take (length (rowsOf form)) cells′ ≡ take (length (rowsOf form)) (messageOf lists letter bytes .cells)
   cells-stored cells cells′ stored long number form place e =
       let u = update-told number form place e in
       let same : length cells′ ≡ length cells = ap length stored ∙ length-sets cells 0 (rowsRead bytes .cells) in

@@ -1,15 +1,18 @@
 -- Messages and what is answered: 01 "Cases", P5's message, and one for each rule that the others leave standing.
 use Prim.Native.Nat.{ℕ}
+use Prim.Native.String.{String}
 use mathlib.Core.Path.{_≡_, refl}
 use mathlib.Core.List.{List, [], _∷_, _++_, map}
 use lib.ListN.{replicate}
+use Rattle.laws.specs.Texts.{codes}
 use Rattle.wire.specs.Checksum.{bitStep, byteStep}
 use Rattle.scan.specs.Read.{readAs, step, walk}
 use Rattle.contracts.specs.File.{segmentsOf, letterAt, countAt, offsetAt, keyFrom}
 use Rattle.contracts.specs.Halving.{halvedIn}
+use Rattle.pairs.specs.Lists.{lists}
 use Rattle.contracts.specs.Lookup.{segmentOf, lookup}
 use Rattle.layout.specs.Read.{readRow}
-use Rattle.forms.specs.Sizes.{keyBytes}
+use Rattle.forms.specs.Sizes.{keyBytes, pairBytes}
 use Rattle.forms.specs.Forms.{namedRows, rowsOf, formsOf, formOf, sumRule}
 use Rattle.message.specs.Fields.{letterOf, secondOf, lengthOf, numberOf, dataOf, sumSent, endByte, formIn, sumIn, rightSum}
 use Rattle.message.specs.Rules.{headOf}
@@ -53,7 +56,7 @@ update long byte market blank sum =
 -- 01, the table of refusals: what is answered in the paper's numbers, and the length
 abbrev pub answered : Given → List ℕ
 answered g =
-    let m = messageOf (listOf (g .listed)) (g .first) (g .bytes) in
+    let m = messageOf (lists (listOf (g .listed)) []) (g .first) (g .bytes) in
     whatNumbers (m .what) ++ (m .length ∷ [])
 
 -- 01, the table's rows 5 to 13: messages that break one each, and good ones
@@ -92,3 +95,37 @@ answers =
 pub messages-answered : map answered messages ≡ answers
 unfolding bitStep byteStep step walk readAs segmentsOf letterAt countAt offsetAt keyFrom halvedIn segmentOf lookup readRow namedRows rowsOf formsOf formOf sumRule letterOf secondOf lengthOf numberOf dataOf sumSent endByte formIn sumIn rightSum framed coded trailed summed headOf messageKey keyPlace contentsBy messageOf
 messages-answered = refl
+
+-- ---- pairs
+
+-- M-100: one pair, of one contract with itself
+abbrev pub pairList : List ℕ
+pairList = 0 ∷ 1 ∷ D ∷ 0 ∷ 0 ∷ 1 ∷ 0 ∷ 0 ∷ 0 ∷ 10 ∷ replicate pairBytes 65
+
+-- M-100: a pair's update with number 7: its length (2 bytes), the second half of its key, of one byte throughout as the first is, the
+-- text with which its prices begin, blank rows and its sum
+abbrev pub pairUpdate : List ℕ → ℕ → String → ℕ → List ℕ → List ℕ
+pairUpdate long byte text blank sum =
+    D ∷ 0x50 ∷ long ++ (0 ∷ 0 ∷ 0 ∷ 7 ∷ replicate keyBytes 65) ++ replicate keyBytes byte ++ codes text ++ replicate blank 32 ++ sum ++ (13 ∷ [])
+
+-- M-100: one of each level; 249 bytes long; with sum zero; a minus before the first digit, with a space behind it, and before a number
+-- that is too large; a pair that is not listed, though both halves might be; and a minus in a contract's price
+abbrev pub pairMessages : List (List ℕ)
+pairMessages =
+    pairUpdate (0 ∷ 227 ∷ []) 65 "" 138 (90 ∷ 89 ∷ []) ∷ pairUpdate (1 ∷ 227 ∷ []) 65 "" 394 (207 ∷ 22 ∷ []) ∷
+    pairUpdate (0 ∷ 249 ∷ []) 65 "" 160 (0 ∷ 0 ∷ []) ∷ pairUpdate (0 ∷ 227 ∷ []) 65 "" 138 (0 ∷ 0 ∷ []) ∷
+    pairUpdate (0 ∷ 227 ∷ []) 65 "               -5" 121 (140 ∷ 148 ∷ []) ∷
+    pairUpdate (0 ∷ 227 ∷ []) 65 "              - 5" 121 (70 ∷ 205 ∷ []) ∷
+    pairUpdate (0 ∷ 227 ∷ []) 65 "    -100000000000" 121 (165 ∷ 231 ∷ []) ∷
+    pairUpdate (0 ∷ 227 ∷ []) 66 "" 138 (60 ∷ 6 ∷ []) ∷
+    (D ∷ 0x4E ∷ 0 ∷ 249 ∷ 0 ∷ 0 ∷ 0 ∷ 7 ∷ replicate keyBytes 65 ++ (0x4E ∷ codes "               -5") ++ replicate 181 32 ++ (114 ∷ 110 ∷ 13 ∷ [])) ∷
+    []
+
+-- M-100, the table of refusals: what is answered to each
+abbrev pub pairAnswers : List (List ℕ)
+pairAnswers =
+    (0 ∷ 7 ∷ 1 ∷ 0 ∷ []) ∷ (0 ∷ 7 ∷ 2 ∷ 0 ∷ []) ∷ (8 ∷ []) ∷ (9 ∷ []) ∷ (0 ∷ 7 ∷ 1 ∷ 0 ∷ []) ∷ (11 ∷ 10 ∷ []) ∷ (12 ∷ 10 ∷ []) ∷ (13 ∷ []) ∷ (11 ∷ 6 ∷ []) ∷ []
+
+pub pairs-answered : map (λ bytes. whatNumbers (messageOf (lists (listOf D) pairList) D bytes .what)) pairMessages ≡ pairAnswers
+unfolding bitStep byteStep step walk readAs segmentsOf letterAt countAt offsetAt keyFrom halvedIn segmentOf lookup readRow namedRows rowsOf formsOf formOf sumRule letterOf secondOf lengthOf numberOf dataOf sumSent endByte formIn sumIn rightSum framed coded trailed summed headOf messageKey keyPlace contentsBy messageOf
+pairs-answered = refl

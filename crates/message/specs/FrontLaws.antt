@@ -10,13 +10,16 @@ use Rattle.wire.specs.NumberLaws.{number-of-front}
 use Rattle.wire.specs.Number.{numberAt}
 use mathlib.Core.Option.{Option}
 use Rattle.contracts.specs.Lookup.{segmentOf}
+use Rattle.pairs.specs.Lists.{Lists}
 use Rattle.forms.specs.Sizes.{bareLength}
 use Rattle.message.specs.Good.{Framed}
 use Rattle.message.specs.Fields.{dataAt, letterOf, secondOf, lengthOf, numberOf, dataOf, sumSent, endByte, formIn, sumIn, rightSum}
 use Rattle.message.specs.Rules.{headOf}
 use Rattle.message.specs.Tests.{framed, coded, trailed, summed}
 use Rattle.message.specs.HeadLaws.{framed-exact}
-use Rattle.message.specs.Message.{messageKey}
+use Rattle.forms.specs.declared.forms.Item.{Item}
+use Rattle.forms.specs.Forms.{keyBytesOf}
+use Rattle.message.specs.Message.{messageKey, keyPlace, messagePlace}
 use Rattle.message.specs.Reads.{contentsBy, contentsOf, messageOf}
 
 -- the length stands in the first four bytes
@@ -88,14 +91,21 @@ module _ (bytes : List ℕ) (f : Framed bytes) where
     unfolding headOf trailed summed
     head-same = rw (framed-same, coded-same, end-same, form-same, sum-same, sent-same, right-same, sequence-same)
 
-  module _ (list : List ℕ) (letter : ℕ) where
-    pub contents-same : contentsOf list letter (ownBytes bytes) ≡ contentsOf list letter bytes
-    unfolding contentsBy messageKey
-    contents-same = rw (form-same, length-same, data-same, sequence-same)
+  module _ (lists : Lists) (letter : ℕ) where
+    places-same : messagePlace lists letter (ownBytes bytes) ≡ messagePlace lists letter bytes
+    unfolding messageKey
+    places-same = λ i item. keyPlace item lists letter (take (keyBytesOf item) (data-same i))
 
-    pub message-same : messageOf list letter (ownBytes bytes) ≡ messageOf list letter bytes
+    by-place : (place : Item → Option ℕ) → contentsBy place (ownBytes bytes) ≡ contentsBy place bytes
+    unfolding contentsBy
+    by-place place = rw (form-same, length-same, data-same, sequence-same)
+
+    pub contents-same : contentsOf lists letter (ownBytes bytes) ≡ contentsOf lists letter bytes
+    contents-same = ap (λ (place : Item → Option ℕ). contentsBy place (ownBytes bytes)) places-same ∙ by-place (messagePlace lists letter bytes)
+
+    pub message-same : messageOf lists letter (ownBytes bytes) ≡ messageOf lists letter bytes
     unfolding messageOf
-    message-same = rw (head-same letter (segmentOf list letter), length-same, contents-same)
+    message-same = rw (head-same letter (segmentOf (lists .contracts) letter), length-same, contents-same)
 
 -- two strings that begin with the same message
 module _ (a b : List ℕ) (f : Framed a) (there : lengthOf a ≤ length b) (same : take (lengthOf a) a ≡ take (lengthOf a) b) where
@@ -106,6 +116,6 @@ module _ (a b : List ℕ) (f : Framed a) (there : lengthOf a ≤ length b) (same
   pub other-framed : Framed b
   other-framed = record { begun = omega arith; least = rw other-length (f .least); within = rw other-length there }
 
-  pub same-message : (list : List ℕ) (letter : ℕ) → messageOf list letter a ≡ messageOf list letter b
-  same-message list letter =
-      sym (message-same a f list letter) ∙ ap (messageOf list letter) (same ∙ ap (λ (n : ℕ). take n b) (sym other-length)) ∙ message-same b other-framed list letter
+  pub same-message : (lists : Lists) (letter : ℕ) → messageOf lists letter a ≡ messageOf lists letter b
+  same-message lists letter =
+      sym (message-same a f lists letter) ∙ ap (messageOf lists letter) (same ∙ ap (λ (n : ℕ). take n b) (sym other-length)) ∙ message-same b other-framed lists letter

@@ -1,5 +1,5 @@
 -- A message has no fault exactly when it is good.
-use Prim.Native.Nat.{ℕ, zero, suc}
+use Prim.Native.Nat.{ℕ, zero, suc, _<_}
 use mathlib.Core.Path.{_≡_, refl, ap, sym, subst, _∙_}
 use mathlib.Core.Bool.{true, false≢true}
 use mathlib.Core.Logic.{_↔_}
@@ -19,13 +19,15 @@ use Rattle.layout.specs.Says.{rowAt, fieldAt, RowSays}
 use Rattle.layout.specs.Read.{readRow}
 use Rattle.layout.specs.SaysLaws.{row-exactly}
 use Rattle.forms.specs.Rows.{widthOf, offsetOf}
+use Rattle.forms.specs.declared.forms.Item.{Item}
 use Rattle.forms.specs.declared.forms.Named.{Named}
 use Rattle.forms.specs.declared.forms.Named.the-variants as is
 use Rattle.forms.specs.declared.forms.Subject.{Subject}
-use Rattle.forms.specs.declared.forms.Subject.the-variants.{Nothing, Contract}
+use Rattle.forms.specs.declared.forms.Subject.the-variants.{Nothing, Of}
 use Rattle.contracts.specs.Lookup.{segmentOf}
 use Rattle.contracts.specs.LookupLaws.{segment-exact, key-exact}
-use Rattle.contracts.specs.Sound.{SoundList}
+use Rattle.contracts.specs.File.{segmentsOf}
+use Rattle.pairs.specs.Lists.{Lists, Headers, SoundLists}
 use Rattle.laws.specs.Choice.{never}
 use Rattle.forms.specs.Forms.{subjectOf}
 use Rattle.message.specs.Good.{GoodMessage, GoodRows, PlaceFor, HasContract, KeyListed, KeyFor, HasListedKey}
@@ -36,10 +38,12 @@ use Rattle.message.specs.HeadLaws.{framed-exact, coded-exact, trailed-ex
 use Rattle.message.specs.declared.body.What.{What}
 use Rattle.message.specs.declared.head.Head.{Head}
 use Rattle.message.specs.declared.head.Head.the-variants.{Good, Bad}
-use Rattle.message.specs.Message.{messageKey, placeThere, keyPlace, rowsIn, ofNamed}
+use Rattle.message.specs.Message.{messagePlace, placeThere, keyPlace, rowsIn, ofNamed}
+use Rattle.message.specs.Items.{fileOf}
+use Rattle.message.specs.ItemsLaws.{sound-headers, segments-of, sound-of}
 use Rattle.message.specs.Reads.{rowsRead, ofVerdict, contentsBy, contentsOf, ofHead, messageOf}
 use Rattle.message.specs.Order.{rowRules, subjectRules, keyRules, bodyRules, messageRules}
-use Rattle.message.specs.Tests.{isFormed, isInRange}
+use Rattle.message.specs.Tests.{isSome, isFormed, isInRange}
 use Rattle.message.specs.Numbers.{verdictOf}
 use Rattle.message.specs.OrderLaws.{message-first}
 use Rattle.message.specs.RulesLaws.{good-hold, hold-good}
@@ -91,29 +95,32 @@ rows-exact i (row ∷ rows) bytes =
     )
 
 -- 13
-subject-exact : (subject : Subject) (place : Option ℕ) → Hold (subjectRules subject place) ↔ PlaceFor subject place
+subject-exact : (subject : Subject) (place : Item → Option ℕ) → Hold (subjectRules subject place) ↔ PlaceFor subject place
 subject-exact Nothing place = ((λ h. tt), (λ h. tt))
-subject-exact (Contract level) none = ((λ h. absurd (false≢true (h .0))), (λ h. (cc, tt)))
-subject-exact (Contract level) (some k) = ((λ h. (k, refl)), (λ h. (refl, tt)))
+subject-exact (Of item level) place = go (place item)
+  where
+    go : (found : Option ℕ) → (isSome found ≡ true) × Unit {0} ↔ ((k : ℕ) × (found ≡ some k))
+    go none = ((λ h. absurd (false≢true (h .0))), (λ h. (cc, tt)))
+    go (some k) = ((λ h. (k, refl)), (λ h. (refl, tt)))
 
-contract-exact : (named : Named) (place : Option ℕ) → Hold (keyRules named place) ↔ HasContract named place
+contract-exact : (named : Named) (place : Item → Option ℕ) → Hold (keyRules named place) ↔ HasContract named place
 contract-exact (is.Form form) place = subject-exact (subjectOf form) place
 contract-exact is.NoLength place = ((λ h. tt), (λ h. tt))
 contract-exact is.PassedOver place = ((λ h. tt), (λ h. tt))
 
-module _ (list : List ℕ) (letter : ℕ) (bytes : List ℕ) where
-  pub rules-exact : Hold (messageRules list letter bytes) ↔ GoodMessage list letter bytes
+module _ (lists : Lists) (letter : ℕ) (bytes : List ℕ) where
+  pub rules-exact : Hold (messageRules lists letter bytes) ↔ GoodMessage lists letter bytes
   rules-exact =
-      let head = hold-append (headRules letter (segmentOf list letter) bytes) (bodyRules list letter bytes) in
-      let body = hold-append (rowRules 0 (rowsIn (formIn bytes)) (dataOf bytes)) (keyRules (formIn bytes) (keyPlace list letter (messageKey bytes))) in
+      let head = hold-append (headRules letter (segmentOf (lists .contracts) letter) bytes) (bodyRules lists letter bytes) in
+      let body = hold-append (rowRules 0 (rowsIn (formIn bytes)) (dataOf bytes)) (keyRules (formIn bytes) (messagePlace lists letter bytes)) in
       let rows = rows-exact 0 (rowsIn (formIn bytes)) (dataOf bytes) in
-      let key = contract-exact (formIn bytes) (keyPlace list letter (messageKey bytes)) in (
+      let key = contract-exact (formIn bytes) (messagePlace lists letter bytes) in (
         (λ h.
             let p = head .0 h in
             let q = body .0 (p .1) in
             record {
               frame = framed-exact bytes .0 (p .0 .0);
-              code = coded-exact list letter bytes .0 (p .0 .1 .0);
+              code = coded-exact (lists .contracts) letter bytes .0 (p .0 .1 .0);
               trailer = trailed-exact bytes .0 (p .0 .1 .1 .0);
               length-of-code = length-exact bytes .0 (p .0 .1 .1 .1 .0);
               checksum = summed-exact bytes .0 (p .0 .1 .1 .1 .1 .0);
@@ -123,7 +130,7 @@ module _ (list : List ℕ) (letter : ℕ) (bytes : List ℕ) where
             }),
         (λ g.
             let five = framed-exact bytes .1 (g .frame) in
-            let six = coded-exact list letter bytes .1 (g .code) in
+            let six = coded-exact (lists .contracts) letter bytes .1 (g .code) in
             let seven = trailed-exact bytes .1 (g .trailer) in
             let eight = length-exact bytes .1 (g .length-of-code) in
             let nine = summed-exact bytes .1 (g .checksum) in
@@ -132,54 +139,61 @@ module _ (list : List ℕ) (letter : ℕ) (bytes : List ℕ) where
       )
 
   -- no fault is answered exactly when the message is good
-  pub good-exact : verdictOf (messageOf list letter bytes .what) ≡ Good ↔ GoodMessage list letter bytes
+  pub good-exact : verdictOf (messageOf lists letter bytes .what) ≡ Good ↔ GoodMessage lists letter bytes
   good-exact = (
-    (λ e. rules-exact .0 (good-hold (messageRules list letter bytes) (sym (message-first list letter bytes) ∙ e))),
-    (λ g. message-first list letter bytes ∙ hold-good (messageRules list letter bytes) (rules-exact .1 g)),
+    (λ e. rules-exact .0 (good-hold (messageRules lists letter bytes) (sym (message-first lists letter bytes) ∙ e))),
+    (λ g. message-first lists letter bytes ∙ hold-good (messageRules lists letter bytes) (rules-exact .1 g)),
   )
 
 -- what a good message is, by its code and length, its number and its key
-pub good-what : (list : List ℕ) (letter : ℕ) (bytes : List ℕ) → GoodMessage list letter bytes
-    → messageOf list letter bytes .what ≡ ofNamed (formIn bytes) (numberOf bytes) (keyPlace list letter (messageKey bytes))
+pub good-what : (lists : Lists) (letter : ℕ) (bytes : List ℕ) → GoodMessage lists letter bytes
+    → messageOf lists letter bytes .what ≡ ofNamed (formIn bytes) (numberOf bytes) (messagePlace lists letter bytes)
 unfolding messageOf contentsBy
-good-what list letter bytes g = by-head (headOf letter (segmentOf list letter) bytes) (good-exact list letter bytes .1 g)
+good-what lists letter bytes g = by-head (headOf letter (segmentOf (lists .contracts) letter) bytes) (good-exact lists letter bytes .1 g)
   where
     named : What
-    named = ofNamed (formIn bytes) (numberOf bytes) (keyPlace list letter (messageKey bytes))
+    named = ofNamed (formIn bytes) (numberOf bytes) (messagePlace lists letter bytes)
 
     by-rows : (v : Verdict) → verdictOf (ofVerdict v named) ≡ Good → ofVerdict v named ≡ named
     by-rows verdict.Good e = refl
     by-rows (verdict.Field row) e = cc
     by-rows (verdict.Range row) e = cc
 
-    by-head : (h : Head) → verdictOf (ofHead h (lengthOf bytes) (contentsOf list letter bytes) .what) ≡ Good
-        → ofHead h (lengthOf bytes) (contentsOf list letter bytes) .what ≡ named
+    by-head : (h : Head) → verdictOf (ofHead h (lengthOf bytes) (contentsOf lists letter bytes) .what) ≡ Good
+        → ofHead h (lengthOf bytes) (contentsOf lists letter bytes) .what ≡ named
     by-head Good e = by-rows (rowsRead bytes .verdict) e
     by-head (Bad fault) e = cc
 
--- of a sound list, a key has a place exactly when it is one of the list's
-pub key-listed : (list : List ℕ) → SoundList list → (letter : ℕ) (key : List ℕ) → ((k : ℕ) × (keyPlace list letter key ≡ some k)) ↔ KeyListed list letter key
+-- of sound lists, a key has a place exactly when it is one of its file's
+pub key-listed : (item : Item) (lists : Lists) → SoundLists lists → (letter : ℕ) (key : List ℕ)
+    → ((k : ℕ) × (keyPlace item lists letter key ≡ some k)) ↔ KeyListed item lists letter key
 unfolding keyPlace
-key-listed list sound letter key = ((λ h. there (segmentOf list letter) refl (h .0) (h .1)), back)
+key-listed item lists sound letter key = ((λ h. there (segmentOf (lists .contracts) letter) refl (h .0) (h .1)), back)
   where
-    there : (o : Option ℕ) → segmentOf list letter ≡ o → (k : ℕ) → placeThere list key o ≡ some k → KeyListed list letter key
+    headers : Headers lists
+    headers = sound-headers sound
+
+    listed : {i : ℕ} → i < segmentsOf (lists .contracts) → i < segmentsOf (fileOf item lists)
+    listed h = rw (segments-of lists headers item) h
+
+    there : (o : Option ℕ) → segmentOf (lists .contracts) letter ≡ o → (k : ℕ) → placeThere item lists key o ≡ some k → KeyListed item lists letter key
     there none e k h = absurd (never h)
     there (some i) e k h =
-        let s = segment-exact list (sound .header) letter i .0 e in
-        let p = key-exact list i key sound (s .0) k .0 h in
+        let s = segment-exact (lists .contracts) (headers .contracts-header) letter i .0 e in
+        let p = key-exact (fileOf item lists) i key (sound-of lists sound item) (listed (s .0)) k .0 h in
         (i, k, s .0, s .1, p .0, p .1)
 
-    back : KeyListed list letter key → (k : ℕ) × (placeThere list key (segmentOf list letter) ≡ some k)
+    back : KeyListed item lists letter key → (k : ℕ) × (placeThere item lists key (segmentOf (lists .contracts) letter) ≡ some k)
     back h =
-        (h .1, rw (segment-exact list (sound .header) letter (h .0) .1 (h .2, h .3)) (key-exact list (h .0) key sound (h .2) (h .1) .1 (h .4, h .5)))
+        (h .1, rw (segment-exact (lists .contracts) (headers .contracts-header) letter (h .0) .1 (h .2, h .3)) (key-exact (fileOf item lists) (h .0) key (sound-of lists sound item) (listed (h .2)) (h .1) .1 (h .4, h .5)))
 
--- 13 of a sound list: the key is one of the list's
-pub contract-listed : (list : List ℕ) → SoundList list → (letter : ℕ) (key : List ℕ) (named : Named)
-    → HasContract named (keyPlace list letter key) ↔ HasListedKey named list letter key
-contract-listed list sound letter key (is.Form form) = by-subject (subjectOf form)
+-- 13 of sound lists: the key is one of its file's
+pub contract-listed : (lists : Lists) → SoundLists lists → (letter : ℕ) (key : Item → List ℕ) (named : Named)
+    → HasContract named (λ item. keyPlace item lists letter (key item)) ↔ HasListedKey named lists letter key
+contract-listed lists sound letter key (is.Form form) = by-subject (subjectOf form)
   where
-    by-subject : (subject : Subject) → PlaceFor subject (keyPlace list letter key) ↔ KeyFor subject list letter key
+    by-subject : (subject : Subject) → PlaceFor subject (λ item. keyPlace item lists letter (key item)) ↔ KeyFor subject lists letter key
     by-subject Nothing = ((λ h. tt), (λ h. tt))
-    by-subject (Contract level) = key-listed list sound letter key
-contract-listed list sound letter key is.NoLength = ((λ h. tt), (λ h. tt))
-contract-listed list sound letter key is.PassedOver = ((λ h. tt), (λ h. tt))
+    by-subject (Of item level) = key-listed item lists sound letter (key item)
+contract-listed lists sound letter key is.NoLength = ((λ h. tt), (λ h. tt))
+contract-listed lists sound letter key is.PassedOver = ((λ h. tt), (λ h. tt))

@@ -18,7 +18,7 @@ use Rattle.forms.specs.declared.forms.Form.{Form}
 use Rattle.forms.specs.declared.forms.Named.{Named}
 use Rattle.forms.specs.declared.forms.Named.the-variants as is
 use Rattle.forms.specs.declared.forms.Subject.{Subject}
-use Rattle.forms.specs.declared.forms.Subject.the-variants.{Nothing, Contract}
+use Rattle.forms.specs.declared.forms.Subject.the-variants.{Nothing, Of}
 use Rattle.forms.specs.declared.forms.Sum.{Sum}
 use Rattle.forms.specs.declared.forms.Sum.the-variants.{Zero, Right, RightOrZero}
 use Rattle.forms.specs.Sizes.{bareLength}
@@ -148,7 +148,7 @@ summed-exact bytes = sum-exact (sumIn bytes) (sumSent bytes) (rightSum bytes)
 -- 10
 subject-number : (subject : Subject) (number : ℕ) → numbersSubject subject number ≡ true ↔ NumberFor subject number
 subject-number Nothing number = eqb-is number 0
-subject-number (Contract level) number = leb-is 1 number
+subject-number (Of item level) number = leb-is 1 number
 
 pub number-exact : (named : Named) (number : ℕ) → takesNumber named number ≡ true ↔ HasNumber named number
 number-exact (is.Form form) number = subject-number (subjectOf form) number

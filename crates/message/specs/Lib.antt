@@ -6,6 +6,8 @@ pub mod Good
 pub mod GoodLaws
 pub mod Head
 pub mod HeadLaws
+pub mod Items
+pub mod ItemsLaws
 pub mod Message
 pub mod MessageLaws
 pub mod Numbers

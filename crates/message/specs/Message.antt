@@ -4,37 +4,51 @@ use mathlib.Core.Path.{_≡_}
 use mathlib.Core.List.{List, []}
 use mathlib.Core.Option.{Option, none, some}
 use lib.ListN.{take}
-use Rattle.contracts.specs.Lookup.{segmentOf, placeIn}
+use Rattle.pairs.specs.Lists.{Lists}
+use Rattle.contracts.specs.Lookup.{segmentOf, lookup}
 use Rattle.forms.specs.declared.rows.Level.{Level}
 use Rattle.forms.specs.declared.forms.Form.{Form}
 use Rattle.forms.specs.declared.forms.Named.{Named}
 use Rattle.forms.specs.declared.forms.Named.the-variants as is
 use Rattle.forms.specs.declared.forms.Subject.{Subject}
-use Rattle.forms.specs.declared.forms.Subject.the-variants.{Nothing, Contract}
+use Rattle.forms.specs.declared.forms.Subject.the-variants.{Nothing, Of}
+use Rattle.forms.specs.declared.forms.Item.{Item}
 use Rattle.forms.specs.declared.rows.Row.{Row}
-use Rattle.forms.specs.Sizes.{keyBytes}
-use Rattle.forms.specs.Forms.{rowsOf, subjectOf}
+use Rattle.forms.specs.Forms.{rowsOf, subjectOf, keyBytesOf}
 use Rattle.message.specs.declared.body.What.{What}
 use Rattle.message.specs.declared.body.What.the-variants as what
 use Rattle.message.specs.declared.head.Fault.the-variants as fault
 use Rattle.message.specs.Fields.{dataOf}
+use Rattle.message.specs.Items.{fileOf, habitOf}
 
--- 01 "The message": an update tells of a contract, at a level
-abbrev pub TellsOfContract : Form → Type 0
-TellsOfContract form = (level : Level) × (subjectOf form ≡ Contract level)
+-- 01 "The message", M-100: an update tells of a contract or a pair, at a level
+abbrev pub TellsOf : Item → Form → Type 0
+TellsOf item form = (level : Level) × (subjectOf form ≡ Of item level)
 
--- 01 "The message": the first 39 bytes of the data are the contract key
-unfoldable pub messageKey : List ℕ → List ℕ
-messageKey bytes = take keyBytes (dataOf bytes)
+-- 01 "The message", M-100: the first 39 bytes of the data are the contract key, the first 78 a pair's
+unfoldable pub messageKey : Item → List ℕ → List ℕ
+messageKey item bytes = take (keyBytesOf item) (dataOf bytes)
 
--- 01 "The contract list": the place of a key in the segment of a letter, where there is one
-abbrev pub placeThere : List ℕ → List ℕ → Option ℕ → Option ℕ
-placeThere list key none = none
-placeThere list key (some segment) = placeIn list segment key
+-- 01 "The contract list", M-100: the place of a key in a segment of its file
+abbrev pub placeIn : Item → Lists → ℕ → List ℕ → Option ℕ
+placeIn item lists segment key = lookup (habitOf item) (fileOf item lists) segment key .place
 
--- 01 "The contract list": the place of a key, with the segment of the letter looked up
-unfoldable pub keyPlace : List ℕ → ℕ → List ℕ → Option ℕ
-keyPlace list letter key = placeThere list key (segmentOf list letter)
+-- 01 "The contract list": the same, where there is a segment
+abbrev pub placeThere : Item → Lists → List ℕ → Option ℕ → Option ℕ
+placeThere item lists key none = none
+placeThere item lists key (some segment) = placeIn item lists segment key
+
+-- 01 "The contract list", M-100: the place of a key, with the segment of the letter looked up
+unfoldable pub keyPlace : Item → Lists → ℕ → List ℕ → Option ℕ
+keyPlace item lists letter key = placeThere item lists key (segmentOf (lists .contracts) letter)
+
+-- 01 "The contract list", M-100: the place of a message's key in a segment, if it tells of a contract, and if of a pair
+abbrev pub placesThere : Lists → List ℕ → Option ℕ → Item → Option ℕ
+placesThere lists bytes segment item = placeThere item lists (messageKey item bytes) segment
+
+-- 01 "The contract list", M-100: the same, with the segment of the letter looked up
+abbrev pub messagePlace : Lists → ℕ → List ℕ → Item → Option ℕ
+messagePlace lists letter bytes item = keyPlace item lists letter (messageKey item bytes)
 
 -- 01 "The message": the rows that are read: those of the form. Of what is passed over no field is looked at
 abbrev pub rowsIn : Named → List Row
@@ -48,12 +62,12 @@ ofPlace number form none = what.Bad fault.Contract
 ofPlace number form (some place) = what.Update number form place
 
 -- 01 "The message": what a message of a form is, by what it tells of
-abbrev pub ofSubject : Subject → ℕ → Form → Option ℕ → What
+abbrev pub ofSubject : Subject → ℕ → Form → (Item → Option ℕ) → What
 ofSubject Nothing number form place = what.Heartbeat
-ofSubject (Contract level) number form place = ofPlace number form place
+ofSubject (Of item level) number form place = ofPlace number form (place item)
 
 -- 01 "The message": what a message is; one with none of its code's lengths is refused before (8)
-abbrev pub ofNamed : Named → ℕ → Option ℕ → What
+abbrev pub ofNamed : Named → ℕ → (Item → Option ℕ) → What
 ofNamed (is.Form form) number place = ofSubject (subjectOf form) number form place
 ofNamed is.NoLength number place = what.PassedOver number
 ofNamed is.PassedOver number place = what.PassedOver number

@@ -4,11 +4,13 @@ use mathlib.Core.Path.{_≡_, refl, sym, _∙_}
 use mathlib.Core.List.{List}
 use mathlib.Core.Option.{Option, none, some}
 use Rattle.laws.specs.Choice.{never}
-use Rattle.contracts.specs.Lookup.{segmentOf, placeIn}
+use Rattle.contracts.specs.Lookup.{segmentOf}
+use Rattle.pairs.specs.Lists.{Lists}
 use Rattle.layout.specs.declared.read.Verdict.{Verdict}
 use Rattle.layout.specs.AnswersLaws.{verdict-told}
 use Rattle.layout.specs.Cells.{zerosBehind}
 use Rattle.forms.specs.declared.forms.Form.{Form}
+use Rattle.forms.specs.declared.forms.Item.{Item}
 use Rattle.forms.specs.declared.forms.Named.the-variants as is
 use Rattle.forms.specs.declared.forms.Subject.the-variants.{Nothing}
 use Rattle.forms.specs.AnswersLaws.{tells}
@@ -24,31 +26,32 @@ use Rattle.message.specs.declared.head.Head.the-variants as head
 use Rattle.message.specs.Fields.{formIn, lengthOf, numberOf, dataOf}
 use Rattle.message.specs.Rules.{headOf}
 use Rattle.message.specs.NumbersLaws.{what-told}
-use Rattle.message.specs.Message.{Message, TellsOfContract, placeThere, keyPlace, ofPlace}
+use Rattle.message.specs.Message.{Message, TellsOf, placeIn, placeThere, placesThere, messageKey, messagePlace, keyPlace, ofPlace}
 use Rattle.message.specs.Reads.{Outlines, rowsRead, ofVerdict, bare, contentsBy, contentsOf, messageOf, ReadsMessage}
 
-module _ (list : List ℕ) (letter : ℕ) where
+module _ (item : Item) (lists : Lists) (letter : ℕ) where
   -- a key is looked up in the segment of its letter, where there is one
-  pub key-in : (key : List ℕ) {segment : ℕ} → segmentOf list letter ≡ some segment → keyPlace list letter key ≡ placeIn list segment key
+  pub key-in : (key : List ℕ) {segment : ℕ} → segmentOf (lists .contracts) letter ≡ some segment → keyPlace item lists letter key ≡ placeIn item lists segment key
   unfolding keyPlace
   key-in key e = rw e
 
-  pub key-nowhere : (key : List ℕ) → segmentOf list letter ≡ none → keyPlace list letter key ≡ none
+  pub key-nowhere : (key : List ℕ) → segmentOf (lists .contracts) letter ≡ none → keyPlace item lists letter key ≡ none
   unfolding keyPlace
   key-nowhere key e = rw e
 
-  pub key-found : (key : List ℕ) (place : ℕ) → keyPlace list letter key ≡ some place
-      → (segment : ℕ) × (segmentOf list letter ≡ some segment) × (placeIn list segment key ≡ some place)
-  key-found key place e = go (segmentOf list letter) refl
+  pub key-found : (key : List ℕ) (place : ℕ) → keyPlace item lists letter key ≡ some place
+      → (segment : ℕ) × (segmentOf (lists .contracts) letter ≡ some segment) × (placeIn item lists segment key ≡ some place)
+  key-found key place e = go (segmentOf (lists .contracts) letter) refl
     where
-      go : (found : Option ℕ) → segmentOf list letter ≡ found → (segment : ℕ) × (segmentOf list letter ≡ some segment) × (placeIn list segment key ≡ some place)
+      go : (found : Option ℕ) → segmentOf (lists .contracts) letter ≡ found → (segment : ℕ) × (segmentOf (lists .contracts) letter ≡ some segment) × (placeIn item lists segment key ≡ some place)
       go none f = absurd (never (sym (key-nowhere key f) ∙ e))
       go (some segment) f = (segment, f, sym (key-in key f) ∙ e)
 
-  -- the segment of the letter, found before
-  pub key-by-segment : (key : List ℕ) {segment : Option ℕ} → segment ≡ segmentOf list letter → placeThere list key segment ≡ keyPlace list letter key
-  unfolding keyPlace
-  key-by-segment key e = rw e
+-- the segment of the letter, found before
+pub places-by-segment : (lists : Lists) (letter : ℕ) (bytes : List ℕ) {segment : Option ℕ} → segment ≡ segmentOf (lists .contracts) letter
+    → placesThere lists bytes segment ≡ messagePlace lists letter bytes
+unfolding keyPlace
+places-by-segment lists letter bytes e = λ i item. placeThere item lists (messageKey item bytes) (e i)
 
 -- a message's outline
 abbrev pub outlineOf : Message → Outline
@@ -61,7 +64,7 @@ pub outline-told : {message : Message} {answer : Outline} → Outlines message a
 outline-told o = λ i. record { what = what-told (o .tells) i; length = o .long i }
 
 -- a message with a good head, by the place of its key
-module _ (place : Option ℕ) (bytes : List ℕ) (whole : ℕ) (long : whole ≡ lengthOf bytes) where
+module _ (place : Item → Option ℕ) (bytes : List ℕ) (whole : ℕ) (long : whole ≡ lengthOf bytes) where
   -- one with no rows leaves the lent cells as they are
   module _ (cells : List ℕ) where
     pub heartbeat-reads : (form : Form) → formIn bytes ≡ is.Form form → subjectOf form ≡ Nothing
@@ -79,39 +82,39 @@ module _ (place : Option ℕ) (bytes : List ℕ) (whole : ℕ) (long : whole ≡
     unfolding contentsBy
     no-length-reads e = rw (long, e) (record { told = outlined refl; stored = refl })
 
-  module _ (w : What) (form : Form) (e : formIn bytes ≡ is.Form form) (s : TellsOfContract form) where
+  module _ (w : What) (form : Form) (e : formIn bytes ≡ is.Form form) (item : Item) (s : TellsOf item form) where
     -- an update's rows are read, and then its key is looked up
     pub update-reads : (verdict : Verdict) (cells cells′ : List ℕ) → ReadsRows (rowsOf form) (dataOf bytes) cells verdict cells′
-        → w ≡ ofVerdict verdict (ofPlace (numberOf bytes) form place)
+        → w ≡ ofVerdict verdict (ofPlace (numberOf bytes) form (place item))
         → ReadsMessage (contentsBy place bytes) (rowsRead bytes .cells) cells (record { what = w; length = whole }) cells′
     unfolding contentsBy
     update-reads verdict cells cells′ read same =
         let v = verdict-told verdict (readRows 0 (rowsOf form) (dataOf bytes) .verdict) (read .answers) in
         record { told = outlined (rw (long, e, s .1, ← v, same)); stored = rw e (read .cells-stored) }
 
-    pub update-is : (read : Outcome) → readRows 0 (rowsOf form) (dataOf bytes) ≡ read → w ≡ ofVerdict (read .verdict) (ofPlace (numberOf bytes) form place)
+    pub update-is : (read : Outcome) → readRows 0 (rowsOf form) (dataOf bytes) ≡ read → w ≡ ofVerdict (read .verdict) (ofPlace (numberOf bytes) form (place item))
         → contentsBy place bytes ≡ record { what = w; length = whole; cells = zerosBehind (read .cells) }
     unfolding contentsBy
     update-is read same what-is = rw (long, e, s .1, same, what-is)
 
-module _ (list : List ℕ) (letter : ℕ) (bytes : List ℕ) where
+module _ (lists : Lists) (letter : ℕ) (bytes : List ℕ) where
   abbrev headHere : Head
-  headHere = headOf letter (segmentOf list letter) bytes
+  headHere = headOf letter (segmentOf (lists .contracts) letter) bytes
 
   -- a good head leaves the message to its contents
-  pub good-head : headHere ≡ head.Good → messageOf list letter bytes ≡ contentsOf list letter bytes
+  pub good-head : headHere ≡ head.Good → messageOf lists letter bytes ≡ contentsOf lists letter bytes
   unfolding messageOf
   good-head e = rw e
 
-  pub bad-head : (fault : Fault) → headHere ≡ head.Bad fault → messageOf list letter bytes ≡ bare (what.Bad fault) (lengthOf bytes)
+  pub bad-head : (fault : Fault) → headHere ≡ head.Bad fault → messageOf lists letter bytes ≡ bare (what.Bad fault) (lengthOf bytes)
   unfolding messageOf
   bad-head fault e = rw e
 
   -- whatever it is, its length is its length field
-  pub length-is : messageOf list letter bytes .length ≡ lengthOf bytes
+  pub length-is : messageOf lists letter bytes .length ≡ lengthOf bytes
   unfolding messageOf contentsBy
   length-is = go (headHere) refl
     where
-      go : (h : Head) → headHere ≡ h → messageOf list letter bytes .length ≡ lengthOf bytes
+      go : (h : Head) → headHere ≡ h → messageOf lists letter bytes .length ≡ lengthOf bytes
       go head.Good e = rw e
       go (head.Bad fault) e = rw e

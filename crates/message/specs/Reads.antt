@@ -5,7 +5,9 @@ use mathlib.Core.Path.{_≡_}
 use mathlib.Core.List.{List, []}
 use mathlib.Core.Option.{Option}
 use lib.Seq.{sets}
+use Rattle.pairs.specs.Lists.{Lists}
 use Rattle.contracts.specs.Lookup.{segmentOf}
+use Rattle.forms.specs.declared.forms.Item.{Item}
 use Rattle.layout.specs.declared.read.Verdict.{Verdict}
 use Rattle.layout.specs.declared.read.Verdict.the-variants as verdict
 use Rattle.layout.specs.Cells.{zerosBehind}
@@ -19,7 +21,7 @@ use Rattle.message.specs.declared.head.Head.the-variants as head
 use Rattle.message.specs.Fields.{formIn, lengthOf, numberOf, dataOf}
 use Rattle.message.specs.Rules.{headOf}
 use Rattle.message.specs.Numbers.{TellsWhat}
-use Rattle.message.specs.Message.{Message, keyPlace, messageKey, ofNamed, rowsIn}
+use Rattle.message.specs.Message.{Message, messagePlace, ofNamed, rowsIn}
 
 -- 01 "The message": the rows of the data, read in turn
 abbrev pub rowsRead : List ℕ → Outcome
@@ -32,7 +34,7 @@ ofVerdict (verdict.Field row) good = what.Bad (fault.Field row)
 ofVerdict (verdict.Range row) good = what.Bad (fault.Range row)
 
 -- 01 "The message": what a message with a good head is, by the place of its key
-unfoldable pub contentsBy : Option ℕ → List ℕ → Message
+unfoldable pub contentsBy : (Item → Option ℕ) → List ℕ → Message
 contentsBy place bytes =
     record {
       what = ofVerdict (rowsRead bytes .verdict) (ofNamed (formIn bytes) (numberOf bytes) place);
@@ -41,8 +43,8 @@ contentsBy place bytes =
     }
 
 -- 01 "The message": what a message with a good head is, with its key looked up
-abbrev pub contentsOf : List ℕ → ℕ → List ℕ → Message
-contentsOf list letter bytes = contentsBy (keyPlace list letter (messageKey bytes)) bytes
+abbrev pub contentsOf : Lists → ℕ → List ℕ → Message
+contentsOf lists letter bytes = contentsBy (messagePlace lists letter bytes) bytes
 
 -- 01, the order of checks: a message of which no row was read
 abbrev pub bare : What → ℕ → Message
@@ -54,9 +56,9 @@ ofHead head.Good length contents = contents
 ofHead (head.Bad fault) length contents = bare (what.Bad fault) length
 
 -- 01, the table's rows 5 to 13 in their order: what the bytes begin with
-unfoldable pub messageOf : List ℕ → ℕ → List ℕ → Message
-messageOf list letter bytes =
-    ofHead (headOf letter (segmentOf list letter) bytes) (lengthOf bytes) (contentsOf list letter bytes)
+unfoldable pub messageOf : Lists → ℕ → List ℕ → Message
+messageOf lists letter bytes =
+    ofHead (headOf letter (segmentOf (lists .contracts) letter) bytes) (lengthOf bytes) (contentsOf lists letter bytes)
 
 -- 01, the order of checks: the cells of the rows that are read: none where the head is bad
 abbrev pub cellsBy : Head → List ℕ → List ℕ
@@ -64,8 +66,8 @@ cellsBy head.Good bytes = rowsRead bytes .cells
 cellsBy (head.Bad fault) bytes = []
 
 -- 01, the order of checks: the cells of the rows that are read, with the head judged
-unfoldable pub cellsRead : List ℕ → ℕ → List ℕ → List ℕ
-cellsRead list letter bytes = cellsBy (headOf letter (segmentOf list letter) bytes) bytes
+unfoldable pub cellsRead : Lists → ℕ → List ℕ → List ℕ
+cellsRead lists letter bytes = cellsBy (headOf letter (segmentOf (lists .contracts) letter) bytes) bytes
 
 -- 01 "The message": what a message is and how long it is
 pub record Outlines (message : Message) (answer : Outline) : Type 0 where

@@ -9,7 +9,7 @@ use lib.ListN.{length}
 use Rattle.forms.specs.declared.forms.Named.{Named}
 use Rattle.forms.specs.declared.forms.Named.the-variants as is
 use Rattle.forms.specs.declared.forms.Subject.{Subject}
-use Rattle.forms.specs.declared.forms.Subject.the-variants.{Nothing, Contract}
+use Rattle.forms.specs.declared.forms.Subject.the-variants.{Nothing, Of}
 use Rattle.forms.specs.declared.forms.Sum.{Sum}
 use Rattle.forms.specs.declared.forms.Sum.the-variants.{Zero, Right, RightOrZero}
 use Rattle.forms.specs.Sizes.{bareLength}
@@ -67,7 +67,7 @@ summed bytes = takesSum (sumIn bytes) (sumSent bytes) (rightSum bytes)
 -- 01, the table's row 10: a message that tells of nothing, a heartbeat, has number 0, every other 1 or more
 abbrev pub numbersSubject : Subject → ℕ → Bool
 numbersSubject Nothing number = eqb number 0
-numbersSubject (Contract level) number = leb 1 number
+numbersSubject (Of item level) number = leb 1 number
 
 -- 01, the table's row 10: by what the message tells of; of what is passed over nothing is known
 abbrev pub takesNumber : Named → ℕ → Bool

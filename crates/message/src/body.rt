@@ -4,13 +4,14 @@ ghost use mathlib.Core.Bool.{true};
 ghost use lib.ListN.{take};
 ghost use Rattle.laws.specs.Refused.{contractNo};
 ghost use Rattle.contracts.specs.Answers.{placeOf, foundNumbers, lookedUp};
+ghost use Rattle.pairs.specs.Lists.{lists};
 ghost use Rattle.contracts.specs.Lookup.{segmentOf};
-ghost use Rattle.forms.specs.Sizes.{keyBytes};
+ghost use Rattle.forms.specs.Forms.{keyBytesOf};
 ghost use Rattle.message.specs.Good.{Framed};
 ghost use Rattle.message.specs.Fields.{lengthOf, formIn};
 ghost use Rattle.message.specs.Head.{formRules};
 ghost use Rattle.message.specs.Tests.{framed};
-ghost use Rattle.message.specs.Message.{TellsOfContract, messageKey, placeThere, ofPlace};
+ghost use Rattle.message.specs.Message.{TellsOf, placeThere, placesThere, ofPlace};
 ghost use Rattle.message.specs.Reads.{rowsRead, cellsBy, cellsRead, contentsBy, bare, ofHead, messageOf, Outlines, ReadsMessage};
 ghost use Rattle.message.specs.Numbers.{TellsWhat};
 ghost use Rattle.message.specs.Rules.{firstFault};
@@ -20,7 +21,7 @@ use crate::head::Fault;
 use crate::head::Head;
 use contracts::Found;
 use layout::Form;
-use layout::KEY_BYTES;
+use layout::Item;
 use layout::MOST_ROWS;
 use layout::Named;
 use layout::Subject;
@@ -30,7 +31,7 @@ pub enum What {
     Heartbeat,
     // With its number.
     PassedOver(u32),
-    // With its number, its form and its contract's place in the segment.
+    // With its number, its form and its key's place in the segment.
     Update(u32, Form, usize),
     Bad(Fault),
 }
@@ -42,31 +43,39 @@ pub struct Outline {
     pub length: usize,
 }
 
-// The place of a key in a segment, where there is one.
-pub fn find(list: &[u8], segment: Found, key: &[u8]) -> Found
-    ensures { λ r. ⌜ foundNumbers contractNo r ≡ lookedUp contractNo (placeThere (now (list .entry)) (now (key .entry)) (placeOf segment)) ⌝ }
+// The place of a key in a segment of its file, where there is one.
+pub fn find(list: &[u8], spreads: &[u8], item: Item, segment: Found, key: &[u8]) -> Found
+    ensures { λ r. ⌜ foundNumbers contractNo r ≡ lookedUp contractNo (placeThere item (lists (now (list .entry)) (now (spreads .entry))) (now (key .entry)) (placeOf segment)) ⌝ }
 {
     match segment {
-        Found::At(place) => contracts::place_of(list, contracts::CONTRACTS, place, key),
+        Found::At(place) => match item {
+            Item::Contract => contracts::place_of(list, contracts::CONTRACTS, place, key),
+            Item::Pair => contracts::place_of(spreads, pairs::PAIRS, place, key),
+        },
         Found::Nowhere => Found::Nowhere,
     }
 }
 
-fn key_of(data: &[u8]) -> &[u8]
-    ensures { λ r. ⌜ now r ≡ take keyBytes (now («data» .entry)) ⌝ }
+fn key_of(item: Item, data: &[u8]) -> &[u8]
+    ensures { λ r. ⌜ now r ≡ take (keyBytesOf item) (now («data» .entry)) ⌝ }
 {
-    if KEY_BYTES <= data.len() {
-        &data[..KEY_BYTES]
-    } else {
-        data
-    }
+    let size = wire::least(layout::key_bytes_of(item), data.len());
+    &data[..size]
 }
 
 // 13, once the rows are good.
-fn placed(list: &[u8], segment: Found, data: &[u8], number: u32, form: Form) -> What
-    ensures { λ r. ⌜ TellsWhat (ofPlace number form (placeThere (now (list .entry)) (take keyBytes (now («data» .entry))) (placeOf segment))) r ⌝ }
+fn placed(
+    list: &[u8],
+    spreads: &[u8],
+    segment: Found,
+    data: &[u8],
+    number: u32,
+    form: Form,
+    item: Item,
+) -> What
+    ensures { λ r. ⌜ TellsWhat (ofPlace number form (placeThere item (lists (now (list .entry)) (now (spreads .entry))) (take (keyBytesOf item) (now («data» .entry))) (placeOf segment))) r ⌝ }
 {
-    match find(list, segment, key_of(data)) {
+    match find(list, spreads, item, segment, key_of(item, data)) {
         Found::At(place) => What::Update(number, form, place),
         Found::Nowhere => What::Bad(Fault::Contract),
     }
@@ -75,20 +84,22 @@ fn placed(list: &[u8], segment: Found, data: &[u8], number: u32, form: Form) -> 
 // An update: its first bad row, and then its key.
 fn update(
     list: &[u8],
+    spreads: &[u8],
     segment: Found,
     bytes: &[u8],
     whole: usize,
     form: Form,
+    item: Item,
     cells: &mut [u64; MOST_ROWS],
 ) -> Outline
-    requires { ⌜ Framed (now bytes) × (whole ≡ lengthOf (now bytes)) × (formIn (now bytes) ≡ Named.Form form) × TellsOfContract form ⌝ }
-    ensures { λ r. ⌜ ReadsMessage (contentsBy (placeThere (now (list .entry)) (messageKey (now (bytes .entry))) (placeOf segment)) (now (bytes .entry))) (rowsRead (now (bytes .entry)) .cells) (now (cells .entry)) r (now (cells .exit)) ⌝ }
+    requires { ⌜ Framed (now bytes) × (whole ≡ lengthOf (now bytes)) × (formIn (now bytes) ≡ Named.Form form) × TellsOf item form ⌝ }
+    ensures { λ r. ⌜ ReadsMessage (contentsBy (placesThere (lists (now (list .entry)) (now (spreads .entry))) (now (bytes .entry)) (placeOf segment)) (now (bytes .entry))) (rowsRead (now (bytes .entry)) .cells) (now (cells .entry)) r (now (cells .exit)) ⌝ }
 {
     let number = fields::number_of(bytes);
     let end = whole - fields::TRAILER;
     let data = &bytes[fields::DATA..end];
     let what = match layout::read_update(form, data, cells) {
-        Verdict::Good => placed(list, segment, data, number, form),
+        Verdict::Good => placed(list, spreads, segment, data, number, form, item),
         Verdict::Field(row) => What::Bad(Fault::Field(row)),
         Verdict::Range(row) => What::Bad(Fault::Range(row)),
     };
@@ -101,13 +112,14 @@ fn update(
 // What a message with a good head is.
 fn contents(
     list: &[u8],
+    spreads: &[u8],
     segment: Found,
     bytes: &[u8],
     named: Named,
     cells: &mut [u64; MOST_ROWS],
 ) -> Outline
     requires { ⌜ (framed (now bytes) ≡ true) × (named ≡ formIn (now bytes)) ⌝ }
-    ensures { λ r. ⌜ ReadsMessage (contentsBy (placeThere (now (list .entry)) (messageKey (now (bytes .entry))) (placeOf segment)) (now (bytes .entry))) (rowsRead (now (bytes .entry)) .cells) (now (cells .entry)) r (now (cells .exit)) ⌝ }
+    ensures { λ r. ⌜ ReadsMessage (contentsBy (placesThere (lists (now (list .entry)) (now (spreads .entry))) (now (bytes .entry)) (placeOf segment)) (now (bytes .entry))) (rowsRead (now (bytes .entry)) .cells) (now (cells .entry)) r (now (cells .exit)) ⌝ }
 {
     let whole = fields::length_of(bytes);
     match named {
@@ -116,7 +128,9 @@ fn contents(
                 what: What::Heartbeat,
                 length: whole,
             },
-            Subject::Contract(_) => update(list, segment, bytes, whole, form, cells),
+            Subject::Of(item, _) => {
+                update(list, spreads, segment, bytes, whole, form, item, cells)
+            }
         },
         Named::NoLength => Outline {
             what: What::PassedOver(fields::number_of(bytes)),
@@ -141,16 +155,17 @@ fn bad(fault: Fault, bytes: &[u8]) -> Outline
 // A message with a good frame, code and trailer, by its form.
 fn formed(
     list: &[u8],
+    spreads: &[u8],
     segment: Found,
     bytes: &[u8],
     named: Named,
     cells: &mut [u64; MOST_ROWS],
 ) -> Outline
     requires { ⌜ (framed (now bytes) ≡ true) × (named ≡ formIn (now bytes)) ⌝ }
-    ensures { λ r. ⌜ ReadsMessage (ofHead (firstFault (formRules (now (bytes .entry)))) (lengthOf (now (bytes .entry))) (contentsBy (placeThere (now (list .entry)) (messageKey (now (bytes .entry))) (placeOf segment)) (now (bytes .entry)))) (cellsBy (firstFault (formRules (now (bytes .entry)))) (now (bytes .entry))) (now (cells .entry)) r (now (cells .exit)) ⌝ }
+    ensures { λ r. ⌜ ReadsMessage (ofHead (firstFault (formRules (now (bytes .entry)))) (lengthOf (now (bytes .entry))) (contentsBy (placesThere (lists (now (list .entry)) (now (spreads .entry))) (now (bytes .entry)) (placeOf segment)) (now (bytes .entry)))) (cellsBy (firstFault (formRules (now (bytes .entry)))) (now (bytes .entry))) (now (cells .entry)) r (now (cells .exit)) ⌝ }
 {
     match head::judge_form(bytes, named) {
-        Head::Good => contents(list, segment, bytes, named, cells),
+        Head::Good => contents(list, spreads, segment, bytes, named, cells),
         Head::Bad(fault) => bad(fault, bytes),
     }
 }
@@ -159,16 +174,17 @@ fn formed(
 // table of forms is asked once the frame is known: no field is held against the end again, and what follows hangs on the form alone.
 pub fn read(
     list: &[u8],
+    spreads: &[u8],
     letter: u8,
     segment: Found,
     bytes: &[u8],
     cells: &mut [u64; MOST_ROWS],
 ) -> Outline
     requires { ⌜ placeOf segment ≡ segmentOf (now list) letter ⌝ }
-    ensures { λ r. ⌜ ReadsMessage (messageOf (now (list .entry)) letter (now (bytes .entry))) (cellsRead (now (list .entry)) letter (now (bytes .entry))) (now (cells .entry)) r (now (cells .exit)) ⌝ }
+    ensures { λ r. ⌜ ReadsMessage (messageOf (lists (now (list .entry)) (now (spreads .entry))) letter (now (bytes .entry))) (cellsRead (lists (now (list .entry)) (now (spreads .entry))) letter (now (bytes .entry))) (now (cells .entry)) r (now (cells .exit)) ⌝ }
 {
     match head::judge_frame(letter, segment, bytes) {
-        Head::Good => formed(list, segment, bytes, fields::form_in(bytes), cells),
+        Head::Good => formed(list, spreads, segment, bytes, fields::form_in(bytes), cells),
         Head::Bad(fault) => bad(fault, bytes),
     }
 }

@@ -131,7 +131,7 @@ fn numbers_subject(subject: Subject, number: u32) -> bool
 {
     match subject {
         Subject::Nothing => number == 0,
-        Subject::Contract(_) => 1 <= number,
+        Subject::Of(_, _) => 1 <= number,
     }
 }
 

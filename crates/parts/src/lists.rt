@@ -13,8 +13,8 @@ pub fn say_list(list: &[u8]) {
 }
 
 fn say_beside(list: &[u8], spreads: &[u8]) {
-    say_bool(b"sound ", contracts::spreads_sound(list, spreads));
-    say_bool(b" header ", contracts::spread_header_sound(list, spreads));
+    say_bool(b"sound ", pairs::spreads_sound(list, spreads));
+    say_bool(b" header ", pairs::spread_header_sound(list, spreads));
 }
 
 // What is asked has two bytes for the size of the contract list, that list and the spread list.
@@ -31,8 +31,8 @@ pub fn say_spreads(asked: &[u8]) {
 
 // The size of the spread list without pairs, and its sum.
 pub fn say_no_spreads(list: &[u8], room: &mut [u8]) {
-    let size = contracts::no_spreads_size(list);
-    contracts::put_no_spreads(list, room);
+    let size = pairs::no_spreads_size(list);
+    pairs::put_no_spreads(list, room);
     if size <= room.len() {
         say_with(b"size ", size as u64);
         say(b" sum ");

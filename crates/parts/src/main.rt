@@ -23,7 +23,7 @@ fn answer(kind: u8, asked: &[u8], row: &mut [u32; CELLS]) {
         b'T' => leaves::say_number(Turnover::read(asked)),
         b'L' => lists::say_list(asked),
         b'K' => lists::say_key(asked, contracts::CONTRACTS),
-        b'V' => lists::say_key(asked, contracts::PAIRS),
+        b'V' => lists::say_key(asked, pairs::PAIRS),
         b'X' => lists::say_spreads(asked),
         b'Z' => lists::say_no_spreads(asked, &mut io::buffer()),
         b'S' => gaps::say_start(row, wire::u32_at(asked, 0)),

@@ -1,36 +1,153 @@
 -- What the contracts of inner functions cite: the quote and its cells by the numbers of the rows.
-use Prim.Native.Nat.{ℕ, zero, suc, _+_, _*_, _-_, _≤_}
+use Prim.Native.Nat.{ℕ, suc, _+_, _≤_}
 use mathlib.Core.Bool.{cond}
-use mathlib.Core.List.{List, [], _∷_, _++_}
+use mathlib.Core.List.{List, [], _∷_, map}
 use lib.Dec.{ltb}
-use lib.ListN.{getD, drop, replicate}
+use lib.ListN.{getD}
 use lib.Seq.{sets}
 use Rattle.forms.specs.declared.forms.Form.{Form}
-use Rattle.forms.specs.declared.forms.Form.the-variants.{Heartbeat, LevelOne, LevelTwo}
+use Rattle.forms.specs.declared.forms.Form.the-variants.{Heartbeat, LevelOne, LevelTwo, PairOne, PairTwo}
 use Rattle.layout.specs.Cells.{none, byteIn}
-use Rattle.forms.specs.Sizes.{mostRows, keyRowCount}
+use Rattle.forms.specs.Sizes.{mostRows, keyRowCount, pairRowCount}
 use Rattle.quote.specs.declared.quote.Order.{Order}
 use Rattle.quote.specs.declared.quote.Quote.{Quote}
 use Rattle.quote.specs.declared.quote.Places.{Places}
-use Rattle.quote.specs.Quote.{priceIn, quantityIn, turnoverIn, cellOfPrice, cellOfQuantity, orderIn}
-use Rattle.quote.specs.Shows.{noOrder, mostOrders}
+use Rattle.quote.specs.declared.spread.SpreadOrder.{SpreadOrder}
+use Rattle.quote.specs.declared.spread.SpreadQuote.{SpreadQuote}
+use Rattle.quote.specs.Quote.{priceIn, quantityIn, turnoverIn, cellOfPrice, cellOfQuantity, cellOfTurnover, orderIn}
+use Rattle.quote.specs.Spread.{differenceIn, cellOfDifference, spreadOrderIn}
+
+-- ---- where rows stand
 
 -- a word of our own: the rows of a form; one that it has not is none of the cells
 abbrev pub placesOf : Form → Places
-placesOf Heartbeat = record { «market_type» = mostRows; depth = 0; buy = mostRows; sell = mostRows; last = mostRows; totals = mostRows; turnover = mostRows }
-placesOf LevelOne = record { «market_type» = keyRowCount; depth = 1; buy = 6; sell = 8; last = 10; totals = mostRows; turnover = 18 }
-placesOf LevelTwo = record { «market_type» = keyRowCount; depth = mostOrders; buy = 6; sell = 16; last = 26; totals = 34; turnover = 36 }
+placesOf Heartbeat =
+    record {
+      «market_type» = mostRows;
+      buy = mostRows;
+      «more_buy» = mostRows;
+      sell = mostRows;
+      «more_sell» = mostRows;
+      last = mostRows;
+      status = mostRows;
+      opening = mostRows;
+      close = mostRows;
+      totals = mostRows;
+      turnover = mostRows;
+    }
+placesOf LevelOne =
+    record {
+      «market_type» = keyRowCount;
+      buy = 6;
+      «more_buy» = mostRows;
+      sell = 8;
+      «more_sell» = mostRows;
+      last = 10;
+      status = 12;
+      opening = 13;
+      close = 16;
+      totals = mostRows;
+      turnover = 18;
+    }
+placesOf LevelTwo =
+    record {
+      «market_type» = keyRowCount;
+      buy = 6;
+      «more_buy» = 8;
+      sell = 16;
+      «more_sell» = 18;
+      last = 26;
+      status = 28;
+      opening = 29;
+      close = 32;
+      totals = 34;
+      turnover = 36;
+    }
+placesOf PairOne =
+    record {
+      «market_type» = mostRows;
+      buy = pairRowCount;
+      «more_buy» = mostRows;
+      sell = 12;
+      «more_sell» = mostRows;
+      last = 14;
+      status = mostRows;
+      opening = 16;
+      close = mostRows;
+      totals = mostRows;
+      turnover = mostRows;
+    }
+placesOf PairTwo =
+    record {
+      «market_type» = mostRows;
+      buy = pairRowCount;
+      «more_buy» = 12;
+      sell = 20;
+      «more_sell» = 22;
+      last = 30;
+      status = mostRows;
+      opening = 32;
+      close = mostRows;
+      totals = 35;
+      turnover = mostRows;
+    }
 
--- a word of our own: the rows of both sides are rows, and the others are not far behind the last
+-- a word of our own: the rows that stand in turn behind the last row's place are not far behind it
+abbrev pub near : ℕ
+near = mostRows + 6
+
+-- a word of our own: no row's place is behind the last's
 pub record Room (at : Places) : Type 0 where
-  pub few : at .depth ≤ mostOrders
-  pub buys : at .buy + 2 * at .depth ≤ mostRows
-  pub sells : at .sell + 2 * at .depth ≤ mostRows
-  pub near : (at .last ≤ mostRows) × (at .totals ≤ mostRows)
+  pub sides : (at .buy ≤ mostRows) × (at .«more_buy» ≤ mostRows) × (at .sell ≤ mostRows) × (at .«more_sell» ≤ mostRows)
+  pub others : (at .last ≤ mostRows) × (at .opening ≤ mostRows) × (at .close ≤ mostRows) × (at .totals ≤ mostRows)
+
+-- ---- reading
 
 -- a word of our own: the cell of a row; "none" behind the last
 abbrev pub cellFrom : List ℕ → ℕ → ℕ
 cellFrom cells row = cond (ltb row mostRows) (getD cells row 0) none
+
+-- a word of our own: the orders of a side, each a price and a quantity in turn: the first, and those from another row on
+abbrev pub sideAt : {A : Type 0} → (ℕ → ℕ → A) → ℕ → ℕ → List ℕ → List A
+sideAt order first more cells =
+    map (λ row. order (cellFrom cells row) (cellFrom cells (row + 1))) (first ∷ more ∷ (more + 2) ∷ (more + 4) ∷ (more + 6) ∷ [])
+
+-- a word of our own: the quote by the numbers of its rows
+abbrev pub quoteAt : Places → List ℕ → Quote
+quoteAt at cells =
+    record {
+      «market_type» = byteIn (cellFrom cells (at .«market_type»));
+      buy = sideAt orderIn (at .buy) (at .«more_buy») cells;
+      sell = sideAt orderIn (at .sell) (at .«more_sell») cells;
+      last = priceIn (cellFrom cells (at .last));
+      traded = quantityIn (cellFrom cells (at .last + 1));
+      status = byteIn (cellFrom cells (at .status));
+      opening = priceIn (cellFrom cells (at .opening));
+      high = priceIn (cellFrom cells (at .opening + 1));
+      low = priceIn (cellFrom cells (at .opening + 2));
+      close = priceIn (cellFrom cells (at .close));
+      average = priceIn (cellFrom cells (at .close + 1));
+      buyers = quantityIn (cellFrom cells (at .totals));
+      sellers = quantityIn (cellFrom cells (at .totals + 1));
+      turnover = turnoverIn (cellFrom cells (at .turnover));
+    }
+
+-- a word of our own: a pair's quote by the numbers of its rows
+abbrev pub spreadQuoteAt : Places → List ℕ → SpreadQuote
+spreadQuoteAt at cells =
+    record {
+      buy = sideAt spreadOrderIn (at .buy) (at .«more_buy») cells;
+      sell = sideAt spreadOrderIn (at .sell) (at .«more_sell») cells;
+      last = differenceIn (cellFrom cells (at .last));
+      traded = quantityIn (cellFrom cells (at .last + 1));
+      opening = differenceIn (cellFrom cells (at .opening));
+      high = differenceIn (cellFrom cells (at .opening + 1));
+      low = differenceIn (cellFrom cells (at .opening + 2));
+      buyers = quantityIn (cellFrom cells (at .totals));
+      sellers = quantityIn (cellFrom cells (at .totals + 1));
+    }
+
+-- ---- writing
 
 -- a word of our own: cells with one stored, where it has a row
 abbrev pub putAt : List ℕ → ℕ → ℕ → List ℕ
@@ -41,51 +158,43 @@ abbrev pub puts : List ℕ → ℕ → List ℕ → List ℕ
 puts cells row [] = cells
 puts cells row (cell ∷ more) = puts (putAt cells row cell) (suc row) more
 
--- a word of our own: so many orders, price and quantity in turn
-abbrev pub ordersIn : ℕ → List ℕ → List Order
-ordersIn zero cells = []
-ordersIn (suc depth) cells = orderIn (getD cells 0 0) (getD cells 1 0) ∷ ordersIn depth (drop 2 cells)
+-- a word of our own: cells with the orders of a side stored: the first, and the others in turn
+abbrev pub putSide : {A : Type 0} → (A → List ℕ) → A → List A → ℕ → ℕ → List ℕ → List ℕ
+putSide each nothing orders first more cells =
+    puts
+    (puts (puts (puts (puts cells first (each (getD orders 0 nothing))) more (each (getD orders 1 nothing))) (more + 2) (each (getD orders 2 nothing))) (more + 4) (each (getD orders 3 nothing)))
+    (more + 6) (each (getD orders 4 nothing))
 
--- a word of our own: so many orders, and none behind them
-abbrev pub side : ℕ → List ℕ → List Order
-side depth cells = ordersIn depth cells ++ replicate (mostOrders - depth) noOrder
+-- a word of our own: an order's cells
+abbrev pub orderCells : Order → List ℕ
+orderCells order = cellOfPrice (order .price) ∷ cellOfQuantity (order .quantity) ∷ []
 
--- a word of our own: the quote by the numbers of its rows
-abbrev pub quoteAt : Places → List ℕ → Quote
-quoteAt at cells =
-    record {
-      «market_type» = byteIn (cellFrom cells (at .«market_type»));
-      buy = side (at .depth) (drop (at .buy) cells);
-      sell = side (at .depth) (drop (at .sell) cells);
-      last = priceIn (cellFrom cells (at .last));
-      traded = quantityIn (cellFrom cells (at .last + 1));
-      status = byteIn (cellFrom cells (at .last + 2));
-      opening = priceIn (cellFrom cells (at .last + 3));
-      high = priceIn (cellFrom cells (at .last + 4));
-      low = priceIn (cellFrom cells (at .last + 5));
-      close = priceIn (cellFrom cells (at .last + 6));
-      average = priceIn (cellFrom cells (at .last + 7));
-      buyers = quantityIn (cellFrom cells (at .totals));
-      sellers = quantityIn (cellFrom cells (at .totals + 1));
-      turnover = turnoverIn (cellFrom cells (at .turnover));
-    }
+-- a word of our own: cells with what is told of the trades of the day, and of all orders, stored: two, three and two in turn
+abbrev pub putParts : Places → List ℕ → List ℕ → List ℕ → List ℕ → List ℕ
+putParts at trade day totals cells = puts (puts (puts cells (at .last) trade) (at .opening) day) (at .totals) totals
 
--- a word of our own: the cells of so many orders, price and quantity in turn
-abbrev pub orderCells : ℕ → List Order → List ℕ
-orderCells zero orders = []
-orderCells (suc depth) orders =
-    cellOfPrice (getD orders 0 noOrder .price) ∷ cellOfQuantity (getD orders 0 noOrder .quantity) ∷ orderCells depth (drop 1 orders)
+-- a word of our own: of a contract
+abbrev pub putTrades : Places → Quote → List ℕ → List ℕ
+putTrades at quote =
+    putParts at (cellOfPrice (quote .last) ∷ cellOfQuantity (quote .traded) ∷ [])
+    (cellOfPrice (quote .opening) ∷ cellOfPrice (quote .high) ∷ cellOfPrice (quote .low) ∷ [])
+    (cellOfQuantity (quote .buyers) ∷ cellOfQuantity (quote .sellers) ∷ [])
 
--- a word of our own: last traded price, traded quantity, status
-abbrev pub tradeCells : Quote → List ℕ
-tradeCells quote = cellOfPrice (quote .last) ∷ cellOfQuantity (quote .traded) ∷ quote .status ∷ []
+-- a word of our own: cells with what only contracts are told of
+abbrev pub putOwn : Places → Quote → List ℕ → List ℕ
+putOwn at quote cells =
+    putAt
+    (puts (putAt (putAt cells (at .«market_type») (quote .«market_type»)) (at .status) (quote .status)) (at .close)
+    (cellOfPrice (quote .close) ∷ cellOfPrice (quote .average) ∷ []))
+    (at .turnover) (cellOfTurnover (quote .turnover))
 
--- a word of our own: opening, high, low, close and average price
-abbrev pub dayCells : Quote → List ℕ
-dayCells quote =
-    cellOfPrice (quote .opening) ∷ cellOfPrice (quote .high) ∷ cellOfPrice (quote .low) ∷ cellOfPrice (quote .close)
-    ∷ cellOfPrice (quote .average) ∷ []
+-- a word of our own: the cells of a pair's order
+abbrev pub spreadOrderCells : SpreadOrder → List ℕ
+spreadOrderCells order = cellOfDifference (order .price) ∷ cellOfQuantity (order .quantity) ∷ []
 
--- a word of our own: all buyers' and all sellers' quantity
-abbrev pub totalCells : Quote → List ℕ
-totalCells quote = cellOfQuantity (quote .buyers) ∷ cellOfQuantity (quote .sellers) ∷ []
+-- a word of our own: cells with what is told of a pair's trades of the day, and of all its orders
+abbrev pub putDifferences : Places → SpreadQuote → List ℕ → List ℕ
+putDifferences at quote =
+    putParts at (cellOfDifference (quote .last) ∷ cellOfQuantity (quote .traded) ∷ [])
+    (cellOfDifference (quote .opening) ∷ cellOfDifference (quote .high) ∷ cellOfDifference (quote .low) ∷ [])
+    (cellOfQuantity (quote .buyers) ∷ cellOfQuantity (quote .sellers) ∷ [])

@@ -1,7 +1,10 @@
 pub mod Quote
+pub mod Spread
 pub mod Inner
+pub mod NumberLaws
+pub mod RowsLaws
 pub mod QuoteLaws
 pub mod QuoteTrip
-pub mod SideLaws
+pub mod PlacesLaws
 pub mod Shows
 pub mod ShowsLaws

@@ -1,6 +1,6 @@
 -- The quote that cells hold, and its cells, each row by its name.
 use Prim.Native.Nat.{ℕ, suc}
-use mathlib.Core.Bool.{cond}
+use mathlib.Core.Bool.{Bool, true, false, cond}
 use mathlib.Core.List.{List, [], _∷_, map}
 use mathlib.Core.Option.{Option, none, some}
 use lib.ListN.{getD}
@@ -13,54 +13,60 @@ use Rattle.quote.specs.declared.quote.TurnoverCell.the-variants as turno
 use Rattle.quote.specs.declared.quote.Order.{Order}
 use Rattle.quote.specs.declared.quote.Quote.{Quote}
 use Rattle.layout.specs.declared.cells.Held.{Held}
-use Rattle.layout.specs.declared.cells.Held.the-variants.{Nothing, Units}
+use Rattle.layout.specs.declared.cells.Held.the-variants.{Nothing, Units, Below}
 use Rattle.forms.specs.declared.forms.Form.{Form}
-use Rattle.forms.specs.Names.{Name, NamedRow, instrument, symbol, expiry, strike, optionType, marketType, buyPrice, buyQuantity, sellPrice, sellQuantity, lastPrice, tradedQuantity, status, openingPrice, highPrice, lowPrice, closePrice, averagePrice, allBuyers, allSellers, turnover as turnoverName}
+use Rattle.forms.specs.declared.forms.Item.the-variants.{Contract, Pair}
+use Rattle.forms.specs.declared.forms.Subject.{Subject}
+use Rattle.forms.specs.declared.forms.Subject.the-variants.{Nothing as NoSubject, Of}
+use Rattle.forms.specs.Names.{Name, NamedRow, instrument, symbol, expiry, strike, optionType, secondInstrument, secondSymbol, secondExpiry, secondStrike, secondOptionType, marketType, buyPrice, buyQuantity, sellPrice, sellQuantity, lastPrice, tradedQuantity, status, openingPrice, highPrice, lowPrice, closePrice, averagePrice, allBuyers, allSellers, turnover as turnoverName}
 use Rattle.forms.specs.SameName.{sameName}
 use Rattle.forms.specs.Forms.{namedRows}
 use Rattle.layout.specs.Cells.{none as noCell, heldIn, cellOf, byteIn, zerosBehind}
 use Rattle.quote.specs.Shows.{heldPrice, heldQuantity, heldTurnover, noOrder}
 
--- ---- a number, by its kind
+-- ---- a number, by its kind: none of these is below zero
+
+-- 01 "Numbers in text": "none", or an amount
+abbrev pub unsignedOf : {A : Type 0} → A → (ℕ → A) → Held → A
+unsignedOf nothing amount Nothing = nothing
+unsignedOf nothing amount (Units n) = amount n
+unsignedOf nothing amount (Below n) = nothing
 
 -- 01 "Numbers in text": a price, or "none"
 abbrev pub priceOf : Held → PriceCell
-priceOf Nothing = price.None
-priceOf (Units n) = price.Amount (record { 0 = n })
+priceOf = unsignedOf price.None (λ n. price.Amount (record { 0 = n }))
 
 -- lent memory: the price that a cell holds
 abbrev pub priceIn : ℕ → PriceCell
-priceIn cell = priceOf (heldIn cell)
+priceIn cell = priceOf (heldIn false cell)
 
 -- lent memory: the cell that holds a price
 abbrev pub cellOfPrice : PriceCell → ℕ
-cellOfPrice p = cellOf (heldPrice p)
+cellOfPrice p = cellOf false (heldPrice p)
 
 -- 01 "Numbers in text": a quantity, or "none"
 abbrev pub quantityOf : Held → QuantityCell
-quantityOf Nothing = quantity.None
-quantityOf (Units n) = quantity.Amount (record { 0 = n })
+quantityOf = unsignedOf quantity.None (λ n. quantity.Amount (record { 0 = n }))
 
 -- lent memory: the quantity that a cell holds
 abbrev pub quantityIn : ℕ → QuantityCell
-quantityIn cell = quantityOf (heldIn cell)
+quantityIn cell = quantityOf (heldIn false cell)
 
 -- lent memory: the cell that holds a quantity
 abbrev pub cellOfQuantity : QuantityCell → ℕ
-cellOfQuantity q = cellOf (heldQuantity q)
+cellOfQuantity q = cellOf false (heldQuantity q)
 
 -- 01 "Numbers in text": a turnover, or "none"
 abbrev pub turnoverOf : Held → TurnoverCell
-turnoverOf Nothing = turnover.None
-turnoverOf (Units n) = turnover.Amount (record { 0 = n })
+turnoverOf = unsignedOf turnover.None (λ n. turnover.Amount (record { 0 = n }))
 
 -- lent memory: the turnover that a cell holds
 abbrev pub turnoverIn : ℕ → TurnoverCell
-turnoverIn cell = turnoverOf (heldIn cell)
+turnoverIn cell = turnoverOf (heldIn false cell)
 
 -- lent memory: the cell that holds a turnover
 abbrev pub cellOfTurnover : TurnoverCell → ℕ
-cellOfTurnover t = cellOf (heldTurnover t)
+cellOfTurnover t = cellOf false (heldTurnover t)
 
 -- ---- rows by their names
 
@@ -94,19 +100,25 @@ abbrev pub orderLevels : List ℕ
 orderLevels = 0 ∷ 1 ∷ 2 ∷ 3 ∷ 4 ∷ []
 
 -- 01 "The message": the orders of a side, price and quantity by their names
-abbrev pub sideIn : (ℕ → Name) → (ℕ → Name) → List NamedRow → List ℕ → List Order
-sideIn priceName quantityName rows cells =
-    map (λ k. orderIn (cellNamed rows (priceName k) cells) (cellNamed rows (quantityName k) cells)) orderLevels
+abbrev pub sideIn : {A : Type 0} → (ℕ → ℕ → A) → (ℕ → Name) → (ℕ → Name) → List NamedRow → List ℕ → List A
+sideIn order priceName quantityName rows cells =
+    map (λ k. order (cellNamed rows (priceName k) cells) (cellNamed rows (quantityName k) cells)) orderLevels
 
 -- ---- the quote
+
+-- M-100: whether it is a pair that is told of: then all prices have a sign
+abbrev pub ofPair : Subject → Bool
+ofPair NoSubject = false
+ofPair (Of Contract level) = false
+ofPair (Of Pair level) = true
 
 -- 000 sections 4.4 and 4.5, 003 sections 4.5 and 4.6: the fields of an update, each picked by its name
 abbrev pub quoteBy : List NamedRow → List ℕ → Quote
 quoteBy rows cells =
     record {
       «market_type» = byteIn (cellNamed rows marketType cells);
-      buy = sideIn buyPrice buyQuantity rows cells;
-      sell = sideIn sellPrice sellQuantity rows cells;
+      buy = sideIn orderIn buyPrice buyQuantity rows cells;
+      sell = sideIn orderIn sellPrice sellQuantity rows cells;
       last = priceIn (cellNamed rows lastPrice cells);
       traded = quantityIn (cellNamed rows tradedQuantity cells);
       status = byteIn (cellNamed rows status cells);
@@ -131,6 +143,11 @@ fieldCell quote symbol = 0
 fieldCell quote expiry = 0
 fieldCell quote strike = 0
 fieldCell quote optionType = 0
+fieldCell quote secondInstrument = 0
+fieldCell quote secondSymbol = 0
+fieldCell quote secondExpiry = 0
+fieldCell quote secondStrike = 0
+fieldCell quote secondOptionType = 0
 fieldCell quote marketType = quote .«market_type»
 fieldCell quote (buyPrice k) = cellOfPrice (getD (quote .buy) k noOrder .price)
 fieldCell quote (buyQuantity k) = cellOfQuantity (getD (quote .buy) k noOrder .quantity)
@@ -148,13 +165,13 @@ fieldCell quote allBuyers = cellOfQuantity (quote .buyers)
 fieldCell quote allSellers = cellOfQuantity (quote .sellers)
 fieldCell quote turnoverName = cellOfTurnover (quote .turnover)
 
--- lent memory: a quote's cells, one a row
-abbrev pub cellsBy : List NamedRow → Quote → List ℕ
-cellsBy rows quote = map (λ row. fieldCell quote (row .name)) rows
+-- lent memory: the cells that names are given, one a row
+abbrev pub cellsBy : List NamedRow → (Name → ℕ) → List ℕ
+cellsBy rows given = map (λ row. given (row .name)) rows
 
 -- lent memory: a quote's cells in a form, with zeros behind them
 unfoldable pub cellsOf : Form → Quote → List ℕ
-cellsOf form quote = zerosBehind (cellsBy (namedRows form) quote)
+cellsOf form quote = zerosBehind (cellsBy (namedRows form) (fieldCell quote))
 
 -- ---- the quote as a form sees it: what it has no row for is none
 
@@ -167,21 +184,22 @@ whereSome (some k) value other = value
 abbrev pub whereNamed : {A : Type 0} → List NamedRow → Name → A → A → A
 whereNamed rows name value other = whereSome (rowNamed rows name) value other
 
--- 01 "The message": the orders of a side, where the form has their rows
-abbrev pub seenSide : (ℕ → Name) → (ℕ → Name) → List NamedRow → List Order → List Order
-seenSide priceName quantityName rows orders =
-    map (λ k. record {
-      price = whereNamed rows (priceName k) (getD orders k noOrder .price) price.None;
-      quantity = whereNamed rows (quantityName k) (getD orders k noOrder .quantity) quantity.None;
-    }) orderLevels
+-- 01 "The message": an order, where the form has its rows
+abbrev pub seenOrder : List NamedRow → Name → Name → Order → Order
+seenOrder rows priceName quantityName order =
+    record { price = whereNamed rows priceName (order .price) price.None; quantity = whereNamed rows quantityName (order .quantity) quantity.None }
+
+-- 01 "The message": the orders of a side, each as it is seen under its names
+abbrev pub seenSide : {A : Type 0} → (Name → Name → A → A) → A → (ℕ → Name) → (ℕ → Name) → List A → List A
+seenSide seen nothing priceName quantityName orders = map (λ k. seen (priceName k) (quantityName k) (getD orders k nothing)) orderLevels
 
 -- 01 "The message": what rows hold of a quote
 abbrev pub seenBy : List NamedRow → Quote → Quote
 seenBy rows quote =
     record {
       «market_type» = whereNamed rows marketType (quote .«market_type») 0;
-      buy = seenSide buyPrice buyQuantity rows (quote .buy);
-      sell = seenSide sellPrice sellQuantity rows (quote .sell);
+      buy = seenSide (seenOrder rows) noOrder buyPrice buyQuantity (quote .buy);
+      sell = seenSide (seenOrder rows) noOrder sellPrice sellQuantity (quote .sell);
       last = whereNamed rows lastPrice (quote .last) price.None;
       traded = whereNamed rows tradedQuantity (quote .traded) quantity.None;
       status = whereNamed rows status (quote .status) 0;

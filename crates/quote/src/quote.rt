@@ -1,12 +1,10 @@
 ghost use mathlib.Core.Path.{_≡_};
-ghost use Prim.Native.Nat.{_+_, _*_, _≤_, _<_};
-ghost use lib.ListN.{getD, drop};
-ghost use lib.Seq.{sets};
-ghost use Rattle.layout.specs.Cells.{cellOf, byteIn};
-ghost use Rattle.forms.specs.Sizes.{mostRows};
-ghost use Rattle.quote.specs.Quote.{priceIn, quantityIn, turnoverIn, cellOfTurnover, orderIn, quoteOf, cellsOf};
-ghost use Rattle.quote.specs.Shows.{heldPrice, heldQuantity, heldTurnover, mostOrders};
-ghost use Rattle.quote.specs.Inner.{Room, placesOf, cellFrom, putAt, puts, side, orderCells, tradeCells, dayCells, totalCells};
+ghost use mathlib.Core.List.{[], _∷_};
+ghost use Prim.Native.Nat.{_+_, _≤_};
+ghost use Rattle.layout.specs.Cells.{byteIn};
+ghost use Rattle.quote.specs.Quote.{priceIn, quantityIn, turnoverIn, cellOfPrice, cellOfQuantity, cellOfTurnover, orderIn, quoteOf, cellsOf};
+ghost use Rattle.quote.specs.Shows.{noOrder};
+ghost use Rattle.quote.specs.Inner.{Room, near, placesOf, cellFrom, putAt, puts, sideAt, putSide, orderCells, putTrades, putOwn};
 use amount::Price;
 use amount::Quantity;
 use amount::Turnover;
@@ -14,6 +12,7 @@ use layout::Form;
 use layout::Held;
 use layout::KEY_ROWS;
 use layout::MOST_ROWS;
+use layout::PAIR_ROWS;
 
 // The most orders of a side.
 pub const MOST_ORDERS: usize = 5;
@@ -57,58 +56,106 @@ pub struct Quote {
     pub turnover: TurnoverCell,
 }
 
-const NO_ORDER: Order = Order {
-    price: PriceCell::None,
-    quantity: QuantityCell::None,
-};
-
-// Where the rows of a form stand: one that it has not stands behind the last. From the last traded price to the average price
-// they stand in turn.
-struct Places {
-    market_type: usize,
-    depth: usize,
-    buy: usize,
-    sell: usize,
-    last: usize,
-    totals: usize,
-    turnover: usize,
+// Where the rows of a form stand: one that it has not stands behind the last. Behind the first order of a side the others stand in
+// turn, behind the last traded price its quantity, behind the opening price high and low, behind the close the average,
+// behind the total of the buyers that of the sellers.
+pub struct Places {
+    pub market_type: usize,
+    pub buy: usize,
+    pub more_buy: usize,
+    pub sell: usize,
+    pub more_sell: usize,
+    pub last: usize,
+    pub status: usize,
+    pub opening: usize,
+    pub close: usize,
+    pub totals: usize,
+    pub turnover: usize,
 }
 
-fn places_of(form: Form) -> Places
+const NO_PLACES: Places = Places {
+    market_type: MOST_ROWS,
+    buy: MOST_ROWS,
+    more_buy: MOST_ROWS,
+    sell: MOST_ROWS,
+    more_sell: MOST_ROWS,
+    last: MOST_ROWS,
+    status: MOST_ROWS,
+    opening: MOST_ROWS,
+    close: MOST_ROWS,
+    totals: MOST_ROWS,
+    turnover: MOST_ROWS,
+};
+
+const LEVEL_ONE: Places = Places {
+    market_type: KEY_ROWS,
+    buy: 6,
+    more_buy: MOST_ROWS,
+    sell: 8,
+    more_sell: MOST_ROWS,
+    last: 10,
+    status: 12,
+    opening: 13,
+    close: 16,
+    totals: MOST_ROWS,
+    turnover: 18,
+};
+
+const LEVEL_TWO: Places = Places {
+    market_type: KEY_ROWS,
+    buy: 6,
+    more_buy: 8,
+    sell: 16,
+    more_sell: 18,
+    last: 26,
+    status: 28,
+    opening: 29,
+    close: 32,
+    totals: 34,
+    turnover: 36,
+};
+
+const PAIR_ONE: Places = Places {
+    market_type: MOST_ROWS,
+    buy: PAIR_ROWS,
+    more_buy: MOST_ROWS,
+    sell: 12,
+    more_sell: MOST_ROWS,
+    last: 14,
+    status: MOST_ROWS,
+    opening: 16,
+    close: MOST_ROWS,
+    totals: MOST_ROWS,
+    turnover: MOST_ROWS,
+};
+
+const PAIR_TWO: Places = Places {
+    market_type: MOST_ROWS,
+    buy: PAIR_ROWS,
+    more_buy: 12,
+    sell: 20,
+    more_sell: 22,
+    last: 30,
+    status: MOST_ROWS,
+    opening: 32,
+    close: MOST_ROWS,
+    totals: 35,
+    turnover: MOST_ROWS,
+};
+
+pub fn places_of(form: Form) -> Places
     ensures { λ r. ⌜ (r ≡ placesOf form) × Room r ⌝ }
 {
     match form {
-        Form::Heartbeat => Places {
-            market_type: MOST_ROWS,
-            depth: 0,
-            buy: MOST_ROWS,
-            sell: MOST_ROWS,
-            last: MOST_ROWS,
-            totals: MOST_ROWS,
-            turnover: MOST_ROWS,
-        },
-        Form::LevelOne => Places {
-            market_type: KEY_ROWS,
-            depth: 1,
-            buy: 6,
-            sell: 8,
-            last: 10,
-            totals: MOST_ROWS,
-            turnover: 18,
-        },
-        Form::LevelTwo => Places {
-            market_type: KEY_ROWS,
-            depth: MOST_ORDERS,
-            buy: 6,
-            sell: 16,
-            last: 26,
-            totals: 34,
-            turnover: 36,
-        },
+        Form::Heartbeat => NO_PLACES,
+        Form::LevelOne => LEVEL_ONE,
+        Form::LevelTwo => LEVEL_TWO,
+        Form::PairOne => PAIR_ONE,
+        Form::PairTwo => PAIR_TWO,
     }
 }
 
-fn cell_from(cells: &[u64; MOST_ROWS], row: usize) -> u64
+pub fn cell_from(cells: &[u64; MOST_ROWS], row: usize) -> u64
     ensures { λ r. ⌜ r ≡ cellFrom (now (cells .entry)) row ⌝ }
 {
     if row < MOST_ROWS {
@@ -126,58 +173,61 @@ fn letter_at(cells: &[u64; MOST_ROWS], row: usize) -> u8
 fn price_at(cells: &[u64; MOST_ROWS], row: usize) -> PriceCell
     ensures { λ r. ⌜ r ≡ priceIn (cellFrom (now (cells .entry)) row) ⌝ }
 {
-    match layout::held_in(cell_from(cells, row)) {
+    match layout::held_in(false, cell_from(cells, row)) {
         Held::Nothing => PriceCell::None,
         Held::Units(units) => PriceCell::Amount(Price::of(units)),
+        Held::Below(units) => PriceCell::None,
     }
 }
 
-fn quantity_at(cells: &[u64; MOST_ROWS], row: usize) -> QuantityCell
+pub fn quantity_at(cells: &[u64; MOST_ROWS], row: usize) -> QuantityCell
     ensures { λ r. ⌜ r ≡ quantityIn (cellFrom (now (cells .entry)) row) ⌝ }
 {
-    match layout::held_in(cell_from(cells, row)) {
+    match layout::held_in(false, cell_from(cells, row)) {
         Held::Nothing => QuantityCell::None,
         Held::Units(units) => QuantityCell::Amount(Quantity::of(units)),
+        Held::Below(units) => QuantityCell::None,
     }
 }
 
 fn turnover_at(cells: &[u64; MOST_ROWS], row: usize) -> TurnoverCell
     ensures { λ r. ⌜ r ≡ turnoverIn (cellFrom (now (cells .entry)) row) ⌝ }
 {
-    match layout::held_in(cell_from(cells, row)) {
+    match layout::held_in(false, cell_from(cells, row)) {
         Held::Nothing => TurnoverCell::None,
         Held::Units(units) => TurnoverCell::Amount(Turnover::of(units)),
+        Held::Below(units) => TurnoverCell::None,
     }
 }
 
-fn held_price(price: PriceCell) -> Held
-    ensures { λ r. ⌜ r ≡ heldPrice price ⌝ }
+fn price_cell(price: PriceCell) -> u64
+    ensures { λ r. ⌜ r ≡ cellOfPrice price ⌝ }
 {
     match price {
-        PriceCell::None => Held::Nothing,
-        PriceCell::Amount(amount) => Held::Units(amount.0),
+        PriceCell::None => layout::NONE,
+        PriceCell::Amount(amount) => layout::cell_of(false, Held::Units(amount.0)),
     }
 }
 
-fn held_quantity(quantity: QuantityCell) -> Held
-    ensures { λ r. ⌜ r ≡ heldQuantity quantity ⌝ }
+pub fn quantity_cell(quantity: QuantityCell) -> u64
+    ensures { λ r. ⌜ r ≡ cellOfQuantity quantity ⌝ }
 {
     match quantity {
-        QuantityCell::None => Held::Nothing,
-        QuantityCell::Amount(amount) => Held::Units(amount.0),
+        QuantityCell::None => layout::NONE,
+        QuantityCell::Amount(amount) => layout::cell_of(false, Held::Units(amount.0)),
     }
 }
 
-fn held_turnover(turnover: TurnoverCell) -> Held
-    ensures { λ r. ⌜ r ≡ heldTurnover turnover ⌝ }
+fn turnover_cell(turnover: TurnoverCell) -> u64
+    ensures { λ r. ⌜ r ≡ cellOfTurnover turnover ⌝ }
 {
     match turnover {
-        TurnoverCell::None => Held::Nothing,
-        TurnoverCell::Amount(amount) => Held::Units(amount.0),
+        TurnoverCell::None => layout::NONE,
+        TurnoverCell::Amount(amount) => layout::cell_of(false, Held::Units(amount.0)),
     }
 }
 
-fn put_cell(cell: u64, row: usize, cells: &mut [u64; MOST_ROWS])
+pub fn put_cell(cell: u64, row: usize, cells: &mut [u64; MOST_ROWS])
     ensures { λ _. ⌜ now (cells .exit) ≡ putAt (now (cells .entry)) row cell ⌝ }
 {
     if row < MOST_ROWS {
@@ -185,34 +235,46 @@ fn put_cell(cell: u64, row: usize, cells: &mut [u64; MOST_ROWS])
     }
 }
 
-fn put_held(held: Held, row: usize, cells: &mut [u64; MOST_ROWS])
-    ensures { λ _. ⌜ now (cells .exit) ≡ putAt (now (cells .entry)) row (cellOf held) ⌝ }
+// Cells in turn, from that row on.
+pub fn put_two(first: u64, second: u64, row: usize, cells: &mut [u64; MOST_ROWS])
+    requires { ⌜ row ≤ near ⌝ }
+    ensures { λ _. ⌜ now (cells .exit) ≡ puts (now (cells .entry)) row (first ∷ second ∷ []) ⌝ }
 {
-    put_cell(layout::cell_of(held), row, cells);
+    put_cell(first, row, cells);
+    put_cell(second, row + 1, cells);
 }
 
-fn order_at(cells: &[u64; MOST_ROWS], at: usize) -> Order
-    requires { ⌜ at + 1 < mostRows ⌝ }
-    ensures { λ r. ⌜ r ≡ orderIn (getD (now (cells .entry)) at 0) (getD (now (cells .entry)) (at + 1) 0) ⌝ }
+pub fn put_three(first: u64, second: u64, third: u64, row: usize, cells: &mut [u64; MOST_ROWS])
+    requires { ⌜ row ≤ near ⌝ }
+    ensures { λ _. ⌜ now (cells .exit) ≡ puts (now (cells .entry)) row (first ∷ second ∷ third ∷ []) ⌝ }
+{
+    put_cell(first, row, cells);
+    put_cell(second, row + 1, cells);
+    put_cell(third, row + 2, cells);
+}
+
+fn order_at(cells: &[u64; MOST_ROWS], row: usize) -> Order
+    requires { ⌜ row ≤ near ⌝ }
+    ensures { λ r. ⌜ r ≡ orderIn (cellFrom (now (cells .entry)) row) (cellFrom (now (cells .entry)) (row + 1)) ⌝ }
 {
     Order {
-        price: price_at(cells, at),
-        quantity: quantity_at(cells, at + 1),
+        price: price_at(cells, row),
+        quantity: quantity_at(cells, row + 1),
     }
 }
 
-// A side's orders from that row on, and none behind them.
-fn side_at(cells: &[u64; MOST_ROWS], at: usize, depth: usize) -> [Order; MOST_ORDERS]
-    requires { ⌜ (depth ≤ mostOrders) × (at + 2 * depth ≤ mostRows) ⌝ }
-    ensures { λ r. ⌜ r ≡ side depth (drop at (now (cells .entry))) ⌝ }
+// A side's first order, and those from another row on.
+fn side_at(cells: &[u64; MOST_ROWS], first: usize, more: usize) -> [Order; MOST_ORDERS]
+    requires { ⌜ (first ≤ near) × (more + 6 ≤ near) ⌝ }
+    ensures { λ r. ⌜ r ≡ sideAt orderIn first more (now (cells .entry)) ⌝ }
 {
-    let mut orders = [NO_ORDER; MOST_ORDERS];
-    let mut k = 0;
-    while k < depth {
-        orders[k] = order_at(cells, at + 2 * k);
-        k += 1;
-    }
-    orders
+    [
+        order_at(cells, first),
+        order_at(cells, more),
+        order_at(cells, more + 2),
+        order_at(cells, more + 4),
+        order_at(cells, more + 6),
+    ]
 }
 
 // What the cells of a message of that form hold.
@@ -221,76 +283,87 @@ pub fn quote_of(form: Form, cells: &[u64; MOST_ROWS]) -> Quote
 {
     let at = places_of(form);
     let last = at.last;
+    let opening = at.opening;
+    let close = at.close;
     let totals = at.totals;
     Quote {
         market_type: letter_at(cells, at.market_type),
-        buy: side_at(cells, at.buy, at.depth),
-        sell: side_at(cells, at.sell, at.depth),
+        buy: side_at(cells, at.buy, at.more_buy),
+        sell: side_at(cells, at.sell, at.more_sell),
         last: price_at(cells, last),
         traded: quantity_at(cells, last + 1),
-        status: letter_at(cells, last + 2),
-        opening: price_at(cells, last + 3),
-        high: price_at(cells, last + 4),
-        low: price_at(cells, last + 5),
-        close: price_at(cells, last + 6),
-        average: price_at(cells, last + 7),
+        status: letter_at(cells, at.status),
+        opening: price_at(cells, opening),
+        high: price_at(cells, opening + 1),
+        low: price_at(cells, opening + 2),
+        close: price_at(cells, close),
+        average: price_at(cells, close + 1),
         buyers: quantity_at(cells, totals),
         sellers: quantity_at(cells, totals + 1),
         turnover: turnover_at(cells, at.turnover),
     }
 }
 
-// A side's orders, from that row on.
-fn put_orders(orders: [Order; MOST_ORDERS], depth: usize, at: usize, cells: &mut [u64; MOST_ROWS])
-    requires { ⌜ (depth ≤ mostOrders) × (at + 2 * depth ≤ mostRows) ⌝ }
-    ensures { λ _. ⌜ now (cells .exit) ≡ sets (now (cells .entry)) at (orderCells depth orders) ⌝ }
+fn put_order(order: Order, row: usize, cells: &mut [u64; MOST_ROWS])
+    requires { ⌜ row ≤ near ⌝ }
+    ensures { λ _. ⌜ now (cells .exit) ≡ puts (now (cells .entry)) row (orderCells order) ⌝ }
 {
-    let mut k = 0;
-    while k < depth {
-        let order = orders[k];
-        let price = order.price;
-        let quantity = order.quantity;
-        put_held(held_price(price), at + 2 * k, cells);
-        put_held(held_quantity(quantity), at + 2 * k + 1, cells);
-        k += 1;
-    }
+    let price = order.price;
+    let quantity = order.quantity;
+    put_two(price_cell(price), quantity_cell(quantity), row, cells);
 }
 
-fn put_trade(quote: Quote, at: usize, cells: &mut [u64; MOST_ROWS])
-    requires { ⌜ at ≤ mostRows ⌝ }
-    ensures { λ _. ⌜ now (cells .exit) ≡ puts (now (cells .entry)) at (tradeCells quote) ⌝ }
+fn put_side(orders: [Order; MOST_ORDERS], first: usize, more: usize, cells: &mut [u64; MOST_ROWS])
+    requires { ⌜ (first ≤ near) × (more + 6 ≤ near) ⌝ }
+    ensures { λ _. ⌜ now (cells .exit) ≡ putSide orderCells noOrder orders first more (now (cells .entry)) ⌝ }
+{
+    put_order(orders[0], first, cells);
+    put_order(orders[1], more, cells);
+    put_order(orders[2], more + 2, cells);
+    put_order(orders[3], more + 4, cells);
+    put_order(orders[4], more + 6, cells);
+}
+
+// What is told of the trades of the day, and of all orders.
+fn put_trades(quote: Quote, at: Places, cells: &mut [u64; MOST_ROWS])
+    requires { ⌜ Room at ⌝ }
+    ensures { λ _. ⌜ now (cells .exit) ≡ putTrades at quote (now (cells .entry)) ⌝ }
 {
     let last = quote.last;
     let traded = quote.traded;
-    put_held(held_price(last), at, cells);
-    put_held(held_quantity(traded), at + 1, cells);
-    put_cell(quote.status as u64, at + 2, cells);
-}
-
-fn put_day(quote: Quote, at: usize, cells: &mut [u64; MOST_ROWS])
-    requires { ⌜ at ≤ mostRows + 3 ⌝ }
-    ensures { λ _. ⌜ now (cells .exit) ≡ puts (now (cells .entry)) at (dayCells quote) ⌝ }
-{
     let opening = quote.opening;
     let high = quote.high;
     let low = quote.low;
-    let close = quote.close;
-    let average = quote.average;
-    put_held(held_price(opening), at, cells);
-    put_held(held_price(high), at + 1, cells);
-    put_held(held_price(low), at + 2, cells);
-    put_held(held_price(close), at + 3, cells);
-    put_held(held_price(average), at + 4, cells);
-}
-
-fn put_totals(quote: Quote, at: usize, cells: &mut [u64; MOST_ROWS])
-    requires { ⌜ at ≤ mostRows ⌝ }
-    ensures { λ _. ⌜ now (cells .exit) ≡ puts (now (cells .entry)) at (totalCells quote) ⌝ }
-{
     let buyers = quote.buyers;
     let sellers = quote.sellers;
-    put_held(held_quantity(buyers), at, cells);
-    put_held(held_quantity(sellers), at + 1, cells);
+    put_two(price_cell(last), quantity_cell(traded), at.last, cells);
+    put_three(
+        price_cell(opening),
+        price_cell(high),
+        price_cell(low),
+        at.opening,
+        cells,
+    );
+    put_two(
+        quantity_cell(buyers),
+        quantity_cell(sellers),
+        at.totals,
+        cells,
+    );
+}
+
+// What only contracts are told of: market type, status, close and average price, turnover.
+fn put_own(quote: Quote, at: Places, cells: &mut [u64; MOST_ROWS])
+    requires { ⌜ Room at ⌝ }
+    ensures { λ _. ⌜ now (cells .exit) ≡ putOwn at quote (now (cells .entry)) ⌝ }
+{
+    let close = quote.close;
+    let average = quote.average;
+    let turnover = quote.turnover;
+    put_cell(quote.market_type as u64, at.market_type, cells);
+    put_cell(quote.status as u64, at.status, cells);
+    put_two(price_cell(close), price_cell(average), at.close, cells);
+    put_cell(turnover_cell(turnover), at.turnover, cells);
 }
 
 // The cells that a message of that form is written from.
@@ -300,14 +373,10 @@ pub fn cells_of(form: Form, quote: Quote) -> [u64; MOST_ROWS]
     let at = places_of(form);
     let buy = quote.buy;
     let sell = quote.sell;
-    let turnover = quote.turnover;
     let mut cells = [0u64; MOST_ROWS];
-    put_cell(quote.market_type as u64, at.market_type, &mut cells);
-    put_orders(buy, at.depth, at.buy, &mut cells);
-    put_orders(sell, at.depth, at.sell, &mut cells);
-    put_trade(quote, at.last, &mut cells);
-    put_day(quote, at.last + 3, &mut cells);
-    put_totals(quote, at.totals, &mut cells);
-    put_held(held_turnover(turnover), at.turnover, &mut cells);
+    put_side(buy, at.buy, at.more_buy, &mut cells);
+    put_side(sell, at.sell, at.more_sell, &mut cells);
+    put_trades(quote, at, &mut cells);
+    put_own(quote, at, &mut cells);
     cells
 }

@@ -6,12 +6,13 @@ use mathlib.Core.List.{List, [], _∷_, _++_}
 use mathlib.Core.Option.{Option, none, some}
 use native.Mathlib.Omega.{arith}
 use lib.ListN.{length, getD, take, drop, replicate, length-append, length-drop, length-replicate, getD-replicate, List·getD-append}
-use lib.Seq.{take-at, drop-at}
+use lib.Seq.{sets, take-at, drop-at}
 use Rattle.laws.specs.Rules.{firstBroken}
 use Rattle.laws.specs.RulesLaws.{last-held}
 use Rattle.contracts.specs.File.{segmentsOf}
 use Rattle.contracts.specs.Lookup.{segmentOf}
 use Rattle.contracts.specs.LookupLaws.{segment-has}
+use Rattle.pairs.specs.Lists.{Lists}
 use Rattle.forms.specs.declared.rows.Level.{Level}
 use Rattle.sequence.specs.Gaps.{Gaps, wanted}
 use Rattle.sequence.specs.Changes.{begun, wroteOff}
@@ -23,9 +24,14 @@ use Rattle.state.specs.declared.refusal.Refusal.{Refusal}
 use Rattle.state.specs.declared.answers.Started.{Started}
 use Rattle.state.specs.declared.answers.Listed.{Listed}
 use Rattle.state.specs.declared.answers.WrittenOff.{WrittenOff}
-use Rattle.quotebox.specs.declared.record.Reading.{Reading}
+use Rattle.state.specs.declared.answers.Recorded.{Recorded}
+use Rattle.state.specs.declared.answers.Written.{Written}
+use Rattle.forms.specs.declared.forms.Form.{Form}
+use Rattle.forms.specs.declared.forms.Item.{Item}
+use Rattle.pairs.specs.NoSpreads.{noSpreads}
 use Rattle.state.specs.Memory.{Lent, lends, gapRowCells, gapRowsWanted, gapRowOf}
 use Rattle.state.specs.MemoryRows.{withGapRow}
+use Rattle.message.specs.ItemsLaws.{sound-headers}
 use Rattle.state.specs.Slots.{Slot, SlotListed, recordsWanted, SameBehind}
 use Rattle.state.specs.Places.{slotAt}
 use Rattle.state.specs.SlotsLaws.{slot-inside, slot-some}
@@ -37,11 +43,11 @@ use Rattle.quotebox.specs.Start.{startOf, GoodStart}
 use Rattle.quotebox.specs.StartActs.{startBroken, lentStarted, startedRow, startedRows, rowsStarted, recordsCleared}
 use Rattle.quotebox.specs.StartLaws.{start-exact, started-lengths, started-row}
 use Rattle.quotebox.specs.Calls.{listValues, runsPut, runValues, lowestRun, lentWrittenOff}
-use Rattle.quotebox.specs.CallRules.{gapsOfLetter, listRules, writeOffRules}
+use Rattle.quotebox.specs.CallRules.{gapsOfLetter, listRules, writeOffRules, noSpreadsRules}
 use Rattle.state.specs.Answers.{leftBy}
 use Rattle.quotebox.specs.CallsLaws.{off-left}
-use Rattle.quotebox.specs.CallPromises.{StartedBox, ListedRuns, WroteOffRun, ReadRecord}
-use Rattle.state.specs.AnswersLaws.{started-told, listed-told, written-off-told, recorded-told, refused-by, accepted-by}
+use Rattle.quotebox.specs.CallPromises.{StartedBox, ListedRuns, WroteOffRun, ReadsFor, PutNoSpreads}
+use Rattle.state.specs.AnswersLaws.{started-told, listed-told, written-off-told, recorded-told, written-told, refused-by, accepted-by}
 
 -- ---- one outcome
 
@@ -55,12 +61,13 @@ one-listed a b p q = (listed-told a b (p .answers ∙ sym (q .answers)), p .cell
 pub one-written-off : {lent lent′ lent″ : Lent} {letter : ℕ} (a b : WrittenOff) → WroteOffRun lent letter a lent′ → WroteOffRun lent letter b lent″ → (a ≡ b) × (lent′ ≡ lent″)
 one-written-off a b p q = (written-off-told a b (p .answers ∙ sym (q .answers)), p .left ∙ sym (q .left))
 
-pub one-reading : {lent : Lent} {key : List ℕ} {letter : ℕ} {level : Level} (a b : Reading)
-    → ReadRecord lent letter key level a → ReadRecord lent letter key level b → a ≡ b
-one-reading a b p q =
-    let answer = recorded-told (a .answer) (b .answer) (p .answers ∙ sym (q .answers)) in
-    let quote = p .quotes ∙ sym (q .quotes) in
-    λ i. record { answer = answer i; quote = quote i }
+-- of a contract's record and of a pair's
+pub one-read : {A : Type 0} {show : Form → List ℕ → A} {blank : A} {item : Item} {lent : Lent} {letter : ℕ} {key : List ℕ} {level : Level} {quote quote′ : A} (a b : Recorded)
+    → ReadsFor show blank item lent letter key level a quote → ReadsFor show blank item lent letter key level b quote′ → (a ≡ b) × (quote ≡ quote′)
+one-read a b p q = (recorded-told a b (p .answers ∙ sym (q .answers)), p .quotes ∙ sym (q .quotes))
+
+pub one-no-spreads : {list out out′ out″ : List ℕ} (a b : Written) → PutNoSpreads list out a out′ → PutNoSpreads list out b out″ → (a ≡ b) × (out′ ≡ out″)
+one-no-spreads a b p q = (written-told a b (p .answers ∙ sym (q .answers)), p .left ∙ sym (q .left))
 
 -- ---- a refused call: the first broken rule's refusal, and nothing changes
 
@@ -89,63 +96,69 @@ off-refusal {lent} {letter = letter} r p =
     let broken = refused-by (firstBroken (writeOffRules lent letter)) (runValues (lowestRun (gapsOfLetter lent letter))) r (p .answers) in
     (broken, p .left ∙ left-as _ r lent (lentWrittenOff lent letter) broken)
 
+pub no-spreads-refusal : {list out out′ : List ℕ} (r : Refusal) → PutNoSpreads list out (Written.Refused r) out′
+    → (firstBroken (noSpreadsRules list (length out)) ≡ some r) × (out′ ≡ out)
+no-spreads-refusal {list} {out} r p =
+    let broken = refused-by (firstBroken (noSpreadsRules list (length out))) (length (noSpreads list) ∷ []) r (p .answers) in
+    (broken, p .left ∙ left-as _ r out (sets out 0 (noSpreads list)) broken)
+
 -- ---- an accepted start
 
 module _ {lent lent′ : Lent} {starts : List ℕ} (p : StartedBox lent starts Started.Started lent′) where
-  abbrev list : List ℕ
-  list = lent .list
+  abbrev lists : Lists
+  lists = lent .lists
 
   held : startBroken lent starts ≡ none
   held = accepted-by (startBroken lent starts) [] [] (p .answers) .0
 
-  pub start-good : GoodStart list starts (length (lent .rows)) (length (lent .records))
-  start-good = start-exact list starts (length (lent .rows)) (length (lent .records)) .0 held
+  pub start-good : GoodStart lists starts (length (lent .rows)) (length (lent .records))
+  start-good = start-exact lists starts (length (lent .rows)) (length (lent .records)) .0 held
 
   pub start-left : lent′ ≡ lentStarted lent starts
   start-left = p .left ∙ left-new _ lent (lentStarted lent starts) held
 
-  rows-are : lent′ .rows ≡ startedRows (segmentsOf list) starts ++ drop (gapRowsWanted list) (lent .rows)
+  rows-are : lent′ .rows ≡ startedRows (segmentsOf (lists .contracts)) starts ++ drop (gapRowsWanted lists) (lent .rows)
   unfolding rowsStarted
   rows-are = ap (λ (l : Lent). l .rows) start-left
 
-  records-are : lent′ .records ≡ replicate (recordsWanted list) 0 ++ drop (recordsWanted list) (lent .records)
+  records-are : lent′ .records ≡ replicate (recordsWanted lists) 0 ++ drop (recordsWanted lists) (lent .records)
   unfolding recordsCleared
   records-are = ap (λ (l : Lent). l .records) start-left
 
   -- each listed segment's gaps are those of its start number
-  pub row-started : (i : ℕ) → i < segmentsOf list → gapRowOf (lent′ .rows) i ≡ startedRow (startOf starts i)
-  row-started i h = ap (λ (ns : List ℕ). gapRowOf ns i) rows-are ∙ started-row starts (segmentsOf list) (drop (gapRowsWanted list) (lent .rows)) i h
+  pub row-started : (i : ℕ) → i < segmentsOf (lists .contracts) → gapRowOf (lent′ .rows) i ≡ startedRow (startOf starts i)
+  row-started i h = ap (λ (ns : List ℕ). gapRowOf ns i) rows-are ∙ started-row starts (segmentsOf (lists .contracts)) (drop (gapRowsWanted lists) (lent .rows)) i h
 
-  pub gaps-started : (i : ℕ) → i < segmentsOf list → gapsOf (gapRowOf (lent′ .rows) i) ≡ begun (startOf starts i)
+  pub gaps-started : (i : ℕ) → i < segmentsOf (lists .contracts) → gapsOf (gapRowOf (lent′ .rows) i) ≡ begun (startOf starts i)
   gaps-started i h = ap gapsOf (row-started i h) ∙ laid-gaps (replicate gapRowCells 0) (begun (startOf starts i))
 
   -- what is left passes the checks of the calls that follow
   pub start-leaves : GoodState lent′
   start-leaves =
-      let same : lent′ .list ≡ list = ap (λ (l : Lent). l .list) start-left in
+      let same : lent′ .lists ≡ lists = ap (λ (l : Lent). l .lists) start-left in
       let good = start-good in
       let rows-lent = good .rows-lent in
       let records-lent = good .records-lent in
-      let rows-long : length (lent′ .rows) ≡ length (lent .rows) = ap length rows-are ∙ simp (length-append, started-lengths starts (segmentsOf list), length-drop) (omega arith) in
+      let rows-long : length (lent′ .rows) ≡ length (lent .rows) = ap length rows-are ∙ simp (length-append, started-lengths starts (segmentsOf (lists .contracts)), length-drop) (omega arith) in
       let records-long : length (lent′ .records) ≡ length (lent .records) = ap length records-are ∙ simp (length-append, length-replicate, length-drop) (omega arith) in
       record {
-        header = rw same (good .list-sound .header);
+        headers = rw same (sound-headers (good .lists-sound));
         rows-lent = rw (same, rows-long) rows-lent;
         records-lent = rw (same, records-long) records-lent;
         rows-sound = rw same λ i h. ap soundGapRow (row-started i h) ∙ laid-sound (replicate gapRowCells 0) (begun (startOf starts i)) refl (begun-sound (startOf starts i) (good .started i h));
       }
 
   -- every record is cleared, so that each contract reads "no record"
-  pub records-cleared : (k : ℕ) → k < recordsWanted list → getD (lent′ .records) k 0 ≡ 0
+  pub records-cleared : (k : ℕ) → k < recordsWanted lists → getD (lent′ .records) k 0 ≡ 0
   records-cleared k h =
-      let zeros : List ℕ = replicate (recordsWanted list) 0 in
-      let l : length zeros ≡ recordsWanted list = length-replicate (recordsWanted list) 0 in
+      let zeros : List ℕ = replicate (recordsWanted lists) 0 in
+      let l : length zeros ≡ recordsWanted lists = length-replicate (recordsWanted lists) 0 in
       ap (λ (ns : List ℕ). getD ns k 0) records-are
-      ∙ List·getD-append zeros (drop (recordsWanted list) (lent .records)) 0 k (omega arith)
-      ∙ getD-replicate (recordsWanted list) k 0 0 h
+      ∙ List·getD-append zeros (drop (recordsWanted lists) (lent .records)) 0 k (omega arith)
+      ∙ getD-replicate (recordsWanted lists) k 0 0 h
 
-  pub no-records : (slot : Slot) → SlotListed list slot → getD (lent′ .records) (slotAt list slot) 0 ≡ 0
-  no-records slot there = records-cleared (slotAt list slot) (omega (arith, slot-inside list slot there, slot-some slot))
+  pub no-records : (s : Slot) → SlotListed lists s → getD (lent′ .records) (slotAt lists s) 0 ≡ 0
+  no-records s there = records-cleared (slotAt lists s) (omega (arith, slot-inside lists (sound-headers (start-good .lists-sound)) s there, slot-some s))
 
 -- ---- an accepted listing
 
@@ -187,14 +200,14 @@ module _ {lent lent′ : Lent} {letter : ℕ} (first last : ℕ) (p : WroteOffRu
   unfolding writeOffRules
   segment-held = last-held (segmentRules lent letter) _ (off-held .0) .0
 
-  module _ (i : ℕ) (s : segmentOf (lent .list) letter ≡ some i) where
+  module _ (i : ℕ) (s : segmentOf (lent .lists .contracts) letter ≡ some i) where
     abbrev row : List ℕ
     row = gapRowOf (lent .rows) i
 
     abbrev off : List ℕ
     off = laid row (wroteOff (gapsOf row))
 
-    pub off-all : lent′ ≡ lends (lent .list) (withGapRow (lent .rows) i off) (lent .records)
+    pub off-all : lent′ ≡ lends (lent .lists) (withGapRow (lent .rows) i off) (lent .records)
     off-all = p .left ∙ left-new _ lent (lentWrittenOff lent letter) (off-held .0) ∙ off-left lent letter segment-held i s
 
     off-rows : lent′ .rows ≡ withGapRow (lent .rows) i off
@@ -228,10 +241,10 @@ module _ {lent lent′ : Lent} {letter : ℕ} (first last : ℕ) (p : WroteOffRu
         let long = length-with (lent .rows) i off room off-wide in
         rw off-all
         (record {
-          header = good .header;
+          headers = good .headers;
           rows-lent = rw long rows-lent;
           records-lent = good .records-lent;
-          rows-sound = sound-with (lent .rows) i off room off-wide (segmentsOf (lent .list)) (good .rows-sound) off-sound;
+          rows-sound = sound-with (lent .rows) i off room off-wide (segmentsOf (lent .lists .contracts)) (good .rows-sound) off-sound;
         })
 
 -- ---- no call writes past the cells wanted for state
@@ -239,21 +252,21 @@ module _ {lent lent′ : Lent} {letter : ℕ} (first last : ℕ) (p : WroteOffRu
 pub start-nothing-behind : {lent lent′ : Lent} {starts : List ℕ} (answer : Started) → StartedBox lent starts answer lent′ → SameBehind lent lent′
 start-nothing-behind (Started.Refused r) p = rw (start-refusal r p .1) (record { rows-behind = refl; records-behind = refl })
 start-nothing-behind {lent} {starts = starts} Started.Started p =
-    let list : List ℕ = lent .list in
+    let lists : Lists = lent .lists in
     record {
-      rows-behind = ap (drop (gapRowsWanted list)) (rows-are p) ∙ drop-at (startedRows (segmentsOf list) starts) _ (gapRowsWanted list) (started-lengths starts (segmentsOf list));
-      records-behind = ap (drop (recordsWanted list)) (records-are p) ∙ drop-at (replicate (recordsWanted list) 0) _ (recordsWanted list) (length-replicate (recordsWanted list) 0);
+      rows-behind = ap (drop (gapRowsWanted lists)) (rows-are p) ∙ drop-at (startedRows (segmentsOf (lists .contracts)) starts) _ (gapRowsWanted lists) (started-lengths starts (segmentsOf (lists .contracts)));
+      records-behind = ap (drop (recordsWanted lists)) (records-are p) ∙ drop-at (replicate (recordsWanted lists) 0) _ (recordsWanted lists) (length-replicate (recordsWanted lists) 0);
     }
 
 -- a write-off, whose records are not lent to be written
 pub off-nothing-behind : {lent lent′ : Lent} {letter : ℕ} (answer : WrittenOff) → WroteOffRun lent letter answer lent′ → SameBehind lent lent′
 off-nothing-behind (WrittenOff.Refused r) p = rw (off-refusal r p .1) (record { rows-behind = refl; records-behind = refl })
 off-nothing-behind {lent} {letter = letter} (WrittenOff.Removed first last) p =
-    let segment = is-some (segmentOf (lent .list) letter) (letter-listed lent letter (segment-held first last p)) in
+    let segment = is-some (segmentOf (lent .lists .contracts) letter) (letter-listed lent letter (segment-held first last p)) in
     let i : ℕ = segment .0 in
     let s = segment .1 in
     rw (off-all first last p i s)
     (record {
-      rows-behind = behind-kept (lent .rows) i (off first last p i s) (room first last p i s) (off-wide first last p i s) (gapRowsWanted (lent .list)) (omega (arith, segment-has (lent .list) letter i s .0));
+      rows-behind = behind-kept (lent .rows) i (off first last p i s) (room first last p i s) (off-wide first last p i s) (gapRowsWanted (lent .lists)) (omega (arith, segment-has (lent .lists .contracts) letter i s .0));
       records-behind = refl;
     })

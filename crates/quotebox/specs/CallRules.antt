@@ -3,18 +3,21 @@ use Prim.Native.Nat.{ℕ, _+_}
 use mathlib.Core.List.{List, [], _∷_, _++_}
 use lib.Dec.{leb, ltb}
 use lib.ListN.{length}
+use Rattle.pairs.specs.NoSpreads.{noSpreads}
+use Rattle.contracts.specs.SoundTests.{headerSound}
 use Rattle.sequence.specs.Gaps.{Gaps, wanted}
 use Rattle.sequence.specs.Row.{gapsOf}
-use Rattle.state.specs.declared.refusal.Refusal.the-variants.{Memory, NoGap, Contract}
+use Rattle.state.specs.declared.refusal.Refusal.the-variants.{Memory, NoGap, Contract, List as ListOf}
 use Rattle.state.specs.Refusals.{Rule}
 use Rattle.state.specs.State.{segmentRules}
 use Rattle.state.specs.Memory.{Lent, gapRowOfLetter}
+use Rattle.forms.specs.declared.forms.Item.{Item}
 use Rattle.message.specs.Tests.{isSome}
 use Rattle.message.specs.Message.{keyPlace}
 
 -- 01 "Sequence and gaps": the gaps of the segment of a letter
 unfoldable pub gapsOfLetter : Lent → ℕ → Gaps
-gapsOfLetter lent letter = gapsOf (gapRowOfLetter (lent .list) letter (lent .rows))
+gapsOfLetter lent letter = gapsOf (gapRowOfLetter (lent .lists) letter (lent .rows))
 
 -- 01, the order of checks and the table's row 15: "List gaps: 6, then 15": two cells a run
 unfoldable pub listRules : Lent → ℕ → ℕ → List Rule
@@ -32,6 +35,13 @@ writeOffRules lent letter =
     ++ (record { holds = ltb 0 (length (gapsOfLetter lent letter .runs)); refusal = NoGap } ∷ [])
 
 -- 01, the order of checks: "Record: 6, then 13"
-unfoldable pub recordRules : Lent → ℕ → List ℕ → List Rule
-recordRules lent letter key =
-    segmentRules lent letter ++ (record { holds = isSome (keyPlace (lent .list) letter key); refusal = Contract 0 } ∷ [])
+unfoldable pub recordRules : Item → Lent → ℕ → List ℕ → List Rule
+recordRules item lent letter key =
+    segmentRules lent letter ++ (record { holds = isSome (keyPlace item (lent .lists) letter key); refusal = Contract 0 } ∷ [])
+
+-- M-100: 16 where the contract list's header is not sound, as calls after start look at it, and 15 where there is no room
+unfoldable pub noSpreadsRules : List ℕ → ℕ → List Rule
+noSpreadsRules list room =
+    record { holds = headerSound list; refusal = ListOf }
+    ∷ record { holds = leb (length (noSpreads list)) room; refusal = Memory (length (noSpreads list)) }
+    ∷ []

@@ -29,6 +29,6 @@ lowestRun gaps = run (gaps .runs) 0
 -- 01 "Sequence and gaps": what a write-off leaves: the segment's row without its lowest run; every other row stays
 unfoldable pub lentWrittenOff : Lent → ℕ → Lent
 lentWrittenOff lent letter =
-    lends (lent .list)
-    (withGapRowOfLetter (lent .list) letter (lent .rows) (laid (gapRowOfLetter (lent .list) letter (lent .rows)) (wroteOff (gapsOfLetter lent letter))))
+    lends (lent .lists)
+    (withGapRowOfLetter (lent .lists) letter (lent .rows) (laid (gapRowOfLetter (lent .lists) letter (lent .rows)) (wroteOff (gapsOfLetter lent letter))))
     (lent .records)

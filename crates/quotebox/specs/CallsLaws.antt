@@ -28,7 +28,8 @@ use Rattle.state.specs.declared.refusal.Refusal.the-variants.{Memory, NoGap}
 use Rattle.forms.specs.declared.rows.Level.{Level}
 use Rattle.state.specs.declared.answers.Started.{Started}
 use Rattle.state.specs.declared.answers.Recorded.{Recorded}
-use Rattle.quotebox.specs.declared.record.Reading.{Reading}
+use Rattle.forms.specs.declared.forms.Form.{Form}
+use Rattle.forms.specs.declared.forms.Item.{Item}
 use Rattle.state.specs.declared.answers.Listed.{Listed}
 use Rattle.state.specs.declared.answers.WrittenOff.{WrittenOff}
 use Rattle.state.specs.Answers.{listedNumbers, answered, leftBy}
@@ -39,34 +40,34 @@ use Rattle.quotebox.specs.StartActs.{startBroken, lentStarted, rowsStart
 use Rattle.state.specs.State.{segmentRules}
 use Rattle.quotebox.specs.Calls.{listValues, runsPut, runValues, lowestRun, lentWrittenOff}
 use Rattle.quotebox.specs.CallRules.{gapsOfLetter, listRules, writeOffRules, recordRules}
-use Rattle.quotebox.specs.Record.{recordOfKey, recordNumber, recordValues, blank, quoteAt, quoteBeside, ReadsAt}
-use Rattle.quotebox.specs.CallPromises.{StartedBox, ListedRuns, WroteOffRun, ReadRecord}
+use Rattle.quotebox.specs.Record.{recordOfKey, recordNumber, recordValues, quoteAt, quoteBeside, ReadsAt}
+use Rattle.quotebox.specs.CallPromises.{StartedBox, ListedRuns, WroteOffRun, ReadsFor}
 
 -- ---- a record
 
-module _ (lent : Lent) (letter : ℕ) (key : List ℕ) (level : Level) where
+module _ {A : Type 0} (show : Form → List ℕ → A) (blank : A) (item : Item) (lent : Lent) (letter : ℕ) (key : List ℕ) (level : Level) where
   abbrev recordChecks : Option Refusal
-  recordChecks = firstBroken (recordRules lent letter key)
+  recordChecks = firstBroken (recordRules item lent letter key)
 
   abbrev values : ℕ → List ℕ
   values at = recordValues (recordNumber (lent .records) at)
 
-  pub record-refused : (r : Refusal) → recordChecks ≡ some r
-      → ReadRecord lent letter key level (record { answer = Recorded.Refused r; quote = blank })
+  pub record-refused : (r : Refusal) → recordChecks ≡ some r → ReadsFor show blank item lent letter key level (Recorded.Refused r) blank
   record-refused r e =
-      let at : ℕ = recordOfKey (lent .list) letter key level in
+      let at : ℕ = recordOfKey item (lent .lists) letter key level in
       record {
         answers = sym (ap (λ (o : Option Refusal). answered o (values at)) e);
-        quotes = sym (ap (λ (o : Option Refusal). quoteBeside o (quoteAt (lent .records) at level)) e);
+        quotes = sym (ap (λ (o : Option Refusal). quoteBeside blank o (quoteAt show blank item (lent .records) at level)) e);
       }
 
-  pub record-read : recordChecks ≡ none → {at : ℕ} → at ≡ recordOfKey (lent .list) letter key level → {reading : Reading}
-      → ReadsAt (lent .records) at level reading → ReadRecord lent letter key level reading
+  pub record-read : recordChecks ≡ none → {at : ℕ} → at ≡ recordOfKey item (lent .lists) letter key level → {answer : Recorded} {quote : A}
+      → ReadsAt show blank item (lent .records) at level answer quote → ReadsFor show blank item lent letter key level answer quote
   record-read e here own =
-      let at : ℕ = recordOfKey (lent .list) letter key level in
+      let at : ℕ = recordOfKey item (lent .lists) letter key level in
       record {
         answers = own .says ∙ ap (λ (k : ℕ). 0 ∷ values k) here ∙ sym (ap (λ (o : Option Refusal). answered o (values at)) e);
-        quotes = own .shows ∙ ap (λ (k : ℕ). quoteAt (lent .records) k level) here ∙ sym (ap (λ (o : Option Refusal). quoteBeside o (quoteAt (lent .records) at level)) e);
+        quotes = own .shows ∙ ap (λ (k : ℕ). quoteAt show blank item (lent .records) k level) here
+            ∙ sym (ap (λ (o : Option Refusal). quoteBeside blank o (quoteAt show blank item (lent .records) at level)) e);
       }
 
 -- ---- a start
@@ -79,12 +80,12 @@ module _ (lent : Lent) (starts : List ℕ) where
         left = sym (ap (λ (o : Option Refusal). leftBy o lent (lentStarted lent starts)) e);
       }
 
-  pub start-done : startBroken lent starts ≡ none → {rows′ records′ : List ℕ} → rows′ ≡ rowsStarted (lent .list) starts (lent .rows) → records′ ≡ recordsCleared (lent .list) (lent .records)
-      → StartedBox lent starts Started.Started (lends (lent .list) rows′ records′)
+  pub start-done : startBroken lent starts ≡ none → {rows′ records′ : List ℕ} → rows′ ≡ rowsStarted (lent .lists) starts (lent .rows) → records′ ≡ recordsCleared (lent .lists) (lent .records)
+      → StartedBox lent starts Started.Started (lends (lent .lists) rows′ records′)
   start-done e r s =
       record {
         answers = sym (ap (λ (o : Option Refusal). answered o []) e);
-        left = ap₂ (lends (lent .list)) r s ∙ sym (ap (λ (o : Option Refusal). leftBy o lent (lentStarted lent starts)) e);
+        left = ap₂ (lends (lent .lists)) r s ∙ sym (ap (λ (o : Option Refusal). leftBy o lent (lentStarted lent starts)) e);
       }
 
 module _ (lent : Lent) (letter : ℕ) where
@@ -114,7 +115,7 @@ module _ (lent : Lent) (letter : ℕ) where
           left = sym (ap (λ (o : Option Refusal). leftBy o lent (lentWrittenOff lent letter)) broken);
         }
 
-  module _ (e : firstBroken (segmentRules lent letter) ≡ none) (i : ℕ) (s : segmentOf (lent .list) letter ≡ some i) where
+  module _ (e : firstBroken (segmentRules lent letter) ≡ none) (i : ℕ) (s : segmentOf (lent .lists .contracts) letter ≡ some i) where
     pub gaps-are : gaps ≡ gapsOf (gapRowOf (lent .rows) i)
     unfolding gapsOfLetter
     gaps-are = ap (λ (o : Option ℕ). gapsOf (gapRowIn (lent .rows) o)) s
@@ -201,10 +202,10 @@ module _ (lent : Lent) (letter : ℕ) where
 
     -- ---- writing off
 
-    pub off-left : lentWrittenOff lent letter ≡ lends (lent .list) (withGapRow (lent .rows) i (laid (gapRowOf (lent .rows) i) (wroteOff (gapsOf (gapRowOf (lent .rows) i))))) (lent .records)
+    pub off-left : lentWrittenOff lent letter ≡ lends (lent .lists) (withGapRow (lent .rows) i (laid (gapRowOf (lent .rows) i) (wroteOff (gapsOf (gapRowOf (lent .rows) i))))) (lent .records)
     unfolding lentWrittenOff gapsOfLetter
     off-left =
-        ap (λ (o : Option ℕ). lends (lent .list) (withGapRowIn (lent .rows) (laid (gapRowIn (lent .rows) o) (wroteOff (gapsOf (gapRowIn (lent .rows) o)))) o) (lent .records)) s
+        ap (λ (o : Option ℕ). lends (lent .lists) (withGapRowIn (lent .rows) (laid (gapRowIn (lent .rows) o) (wroteOff (gapsOf (gapRowIn (lent .rows) o)))) o) (lent .records)) s
 
     off-holds : (r : Run) (rs : List Run) → gaps .runs ≡ r ∷ rs → firstBroken (writeOffRules lent letter) ≡ none
     unfolding writeOffRules
@@ -218,12 +219,12 @@ module _ (lent : Lent) (letter : ℕ) where
         last-broken (segmentRules lent letter) (record { holds = ltb 0 (length (gaps .runs)); refusal = NoGap }) e (rw g)
 
     pub off-removed : (first last : ℕ) (row′ : List ℕ) → WroteOff (gapRowOf (lent .rows) i) (row-off.Removed first last) row′
-        → WroteOffRun lent letter (WrittenOff.Removed first last) (lends (lent .list) (withGapRow (lent .rows) i row′) (lent .records))
+        → WroteOffRun lent letter (WrittenOff.Removed first last) (lends (lent .lists) (withGapRow (lent .rows) i row′) (lent .records))
     unfolding writeOffAnswer
     off-removed first last row′ own = go (gaps .runs) refl (own .says ∙ ap (λ (g : Gaps). lowest (g .runs)) (sym gaps-are))
       where
         go : (runs : List Run) → gaps .runs ≡ runs → 0 ∷ first ∷ last ∷ [] ≡ lowest (gaps .runs)
-            → WroteOffRun lent letter (WrittenOff.Removed first last) (lends (lent .list) (withGapRow (lent .rows) i row′) (lent .records))
+            → WroteOffRun lent letter (WrittenOff.Removed first last) (lends (lent .lists) (withGapRow (lent .rows) i row′) (lent .records))
         go [] g says = let no : 0 ∷ first ∷ last ∷ [] ≡ 17 ∷ [] = rw g at says in let z : _≡_ {A = ℕ} 0 1 = cc in absurd (omega arith)
         go (r ∷ rs) g says =
             let holds = off-holds r rs g in
@@ -233,7 +234,7 @@ module _ (lent : Lent) (letter : ℕ) where
                   same ∙ ap (λ (runs : List Run). 0 ∷ runValues (lowestRun (record { start = 0; highest = 0; runs = runs }))) (sym g)
                   ∙ sym (ap (λ (o : Option Refusal). answered o (runValues (lowestRun gaps))) holds);
               left =
-                  ap (λ (row : List ℕ). lends (lent .list) (withGapRow (lent .rows) i row) (lent .records)) (own .left)
+                  ap (λ (row : List ℕ). lends (lent .lists) (withGapRow (lent .rows) i row) (lent .records)) (own .left)
                   ∙ sym off-left
                   ∙ sym (ap (λ (o : Option Refusal). leftBy o lent (lentWrittenOff lent letter)) holds);
             }

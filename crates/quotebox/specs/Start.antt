@@ -1,4 +1,4 @@
--- A start: 01 "Sequence and gaps", and its order of checks: 16, 10, 15.
+-- A start: 01 "Sequence and gaps", and its order of checks: 16 for the contract list, 16 for the spread list, 10, 15.
 use Prim.Native.Nat.{ℕ, _≤_, _<_}
 use mathlib.Core.Bool.{Bool}
 use mathlib.Core.List.{List, _∷_}
@@ -6,8 +6,9 @@ use lib.Dec.{ltb}
 use lib.ListN.{getD}
 use Rattle.contracts.specs.Below.{allBelow}
 use Rattle.contracts.specs.File.{segmentsOf}
-use Rattle.contracts.specs.Sound.{SoundList}
 use Rattle.contracts.specs.SoundTests.{sound}
+use Rattle.pairs.specs.SpreadTests.{spreadsSound}
+use Rattle.pairs.specs.Lists.{Lists, SoundLists}
 use Rattle.state.specs.declared.refusal.Refusal.the-variants.{Numbering, List as ListOf}
 use Rattle.state.specs.Refusals.{Rule}
 use Rattle.state.specs.Memory.{gapRowsWanted}
@@ -22,19 +23,20 @@ startOf starts i = getD starts i 0
 unfoldable pub eachStarts : ℕ → List ℕ → Bool
 eachStarts n starts = allBelow n (λ i. ltb 0 (startOf starts i))
 
--- 01, the order of checks at start: 16, 10, 15, with so many cells lent
-unfoldable pub startRules : List ℕ → List ℕ → ℕ → ℕ → List Rule
-startRules list starts rows records =
-    record { holds = sound list; refusal = ListOf }
-    ∷ record { holds = eachStarts (segmentsOf list) starts; refusal = Numbering 0 }
-    ∷ memoryRules list rows records
+-- 01, the order of checks at start, M-100: 16, 16 for the spread list, 10, 15, with so many cells lent
+unfoldable pub startRules : Lists → List ℕ → ℕ → ℕ → List Rule
+startRules lists starts rows records =
+    record { holds = sound (lists .contracts); refusal = ListOf }
+    ∷ record { holds = spreadsSound (lists .contracts) (lists .pairs); refusal = ListOf }
+    ∷ record { holds = eachStarts (segmentsOf (lists .contracts)) starts; refusal = Numbering 0 }
+    ∷ memoryRules lists rows records
 
 -- 01, the table's rows 16, 10 and 15: a start that breaks no rule, with so many cells lent
-pub record GoodStart (list starts : List ℕ) (rows records : ℕ) : Type 0 where
+pub record GoodStart (lists : Lists) (starts : List ℕ) (rows records : ℕ) : Type 0 where
   -- 16
-  pub list-sound : SoundList list
+  pub lists-sound : SoundLists lists
   -- 10
-  pub started : (i : ℕ) → i < segmentsOf list → 0 < startOf starts i
+  pub started : (i : ℕ) → i < segmentsOf (lists .contracts) → 0 < startOf starts i
   -- 15
-  pub rows-lent : gapRowsWanted list ≤ rows
-  pub records-lent : recordsWanted list ≤ records
+  pub rows-lent : gapRowsWanted lists ≤ rows
+  pub records-lent : recordsWanted lists ≤ records

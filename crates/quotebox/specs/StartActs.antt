@@ -5,6 +5,7 @@ use mathlib.Core.Option.{Option}
 use lib.ListN.{length, drop, replicate}
 use Rattle.laws.specs.Rules.{firstBroken}
 use Rattle.contracts.specs.File.{segmentsOf}
+use Rattle.pairs.specs.Lists.{Lists}
 use Rattle.sequence.specs.Changes.{begun}
 use Rattle.sequence.specs.RowLaid.{laid}
 use Rattle.state.specs.declared.refusal.Refusal.{Refusal}
@@ -23,17 +24,17 @@ startedRows zero starts = []
 startedRows (suc n) starts = startedRows n starts ++ startedRow (startOf starts n)
 
 -- 01 "What may be asked": no call writes past its answer: every cell beyond those wanted stays
-unfoldable pub rowsStarted : List ℕ → List ℕ → List ℕ → List ℕ
-rowsStarted list starts rows = startedRows (segmentsOf list) starts ++ drop (gapRowsWanted list) rows
+unfoldable pub rowsStarted : Lists → List ℕ → List ℕ → List ℕ
+rowsStarted lists starts rows = startedRows (segmentsOf (lists .contracts)) starts ++ drop (gapRowsWanted lists) rows
 
 -- 01 "What may be asked": a contract with no update taken has no record; every cell beyond those wanted stays
-unfoldable pub recordsCleared : List ℕ → List ℕ → List ℕ
-recordsCleared list records = replicate (recordsWanted list) 0 ++ drop (recordsWanted list) records
+unfoldable pub recordsCleared : Lists → List ℕ → List ℕ
+recordsCleared lists records = replicate (recordsWanted lists) 0 ++ drop (recordsWanted lists) records
 
 -- 01, the order of checks at start: the first broken rule
 abbrev pub startBroken : Lent → List ℕ → Option Refusal
-startBroken lent starts = firstBroken (startRules (lent .list) starts (length (lent .rows)) (length (lent .records)))
+startBroken lent starts = firstBroken (startRules (lent .lists) starts (length (lent .rows)) (length (lent .records)))
 
 -- 01 "What may be asked": what a start leaves
 abbrev pub lentStarted : Lent → List ℕ → Lent
-lentStarted lent starts = lends (lent .list) (rowsStarted (lent .list) starts (lent .rows)) (recordsCleared (lent .list) (lent .records))
+lentStarted lent starts = lends (lent .lists) (rowsStarted (lent .lists) starts (lent .rows)) (recordsCleared (lent .lists) (lent .records))

@@ -17,6 +17,9 @@ use Rattle.contracts.specs.BelowLaws.{each-passes, all-pass}
 use Rattle.contracts.specs.File.{segmentsOf}
 use Rattle.contracts.specs.SoundTests.{sound}
 use Rattle.contracts.specs.SoundLaws.{sound-exact}
+use Rattle.pairs.specs.Lists.{Lists}
+use Rattle.pairs.specs.SpreadTests.{spreadsSound}
+use Rattle.pairs.specs.SpreadLaws.{spreads-exact}
 use Rattle.sequence.specs.Changes.{begun}
 use Rattle.sequence.specs.RowLaws.{laid-length}
 use Rattle.state.specs.declared.refusal.Refusal.the-variants.{Numbering, List as ListOf}
@@ -30,43 +33,50 @@ use Rattle.state.specs.StateLaws.{memory-lent}
 use Rattle.quotebox.specs.Start.{startOf, eachStarts, startRules, GoodStart}
 use Rattle.quotebox.specs.StartActs.{startedRow, startedRows}
 
-module _ (list starts : List ℕ) (rows records : ℕ) where
+module _ (lists : Lists) (starts : List ℕ) (rows records : ℕ) where
   abbrev numbers : Rule
-  numbers = record { holds = eachStarts (segmentsOf list) starts; refusal = Numbering 0 }
+  numbers = record { holds = eachStarts (segmentsOf (lists .contracts)) starts; refusal = Numbering 0 }
 
-  pub unsound-list : sound list ≡ false → firstBroken (startRules list starts rows records) ≡ some ListOf
+  pub unsound-list : sound (lists .contracts) ≡ false → firstBroken (startRules lists starts rows records) ≡ some ListOf
   unfolding startRules
   unsound-list h = rw h
 
-  pub no-start : sound list ≡ true → eachStarts (segmentsOf list) starts ≡ false → firstBroken (startRules list starts rows records) ≡ some (Numbering 0)
+  pub unsound-spreads : sound (lists .contracts) ≡ true → spreadsSound (lists .contracts) (lists .pairs) ≡ false → firstBroken (startRules lists starts rows records) ≡ some ListOf
   unfolding startRules
-  no-start h n = rw (h, n)
+  unsound-spreads h s = rw (h, s)
 
-  pub memory-decides : sound list ≡ true → eachStarts (segmentsOf list) starts ≡ true → firstBroken (startRules list starts rows records) ≡ firstBroken (memoryRules list rows records)
-  unfolding startRules
-  memory-decides h n = rw (h, n)
+  module _ (h : sound (lists .contracts) ≡ true) (s : spreadsSound (lists .contracts) (lists .pairs) ≡ true) where
+    pub no-start : eachStarts (segmentsOf (lists .contracts)) starts ≡ false → firstBroken (startRules lists starts rows records) ≡ some (Numbering 0)
+    unfolding startRules
+    no-start n = rw (h, s, n)
 
-  is-good : firstBroken (startRules list starts rows records) ≡ none → GoodStart list starts rows records
+    pub memory-decides : eachStarts (segmentsOf (lists .contracts)) starts ≡ true → firstBroken (startRules lists starts rows records) ≡ firstBroken (memoryRules lists rows records)
+    unfolding startRules
+    memory-decides n = rw (h, s, n)
+
+  is-good : firstBroken (startRules lists starts rows records) ≡ none → GoodStart lists starts rows records
   unfolding startRules eachStarts
   is-good e =
-      let h = none-hold (startRules list starts rows records) e in
-      let room = memory-lent list rows records (h .1 .1) in
+      let h = none-hold (startRules lists starts rows records) e in
+      let room = memory-lent lists rows records (h .1 .1 .1) in
+      let listed = sound-exact (lists .contracts) .0 (h .0) in
       record {
-        list-sound = sound-exact list .0 (h .0);
-        started = λ i l. ltb-true 0 (startOf starts i) (each-passes (λ j. ltb 0 (startOf starts j)) (segmentsOf list) (h .1 .0) i l);
+        lists-sound = record { contracts-sound = listed; pairs-sound = spreads-exact (lists .contracts) (lists .pairs) listed .0 (h .1 .0) };
+        started = λ i l. ltb-true 0 (startOf starts i) (each-passes (λ j. ltb 0 (startOf starts j)) (segmentsOf (lists .contracts)) (h .1 .1 .0) i l);
         rows-lent = room .0;
         records-lent = room .1;
       }
 
-  good-holds : GoodStart list starts rows records → firstBroken (startRules list starts rows records) ≡ none
+  good-holds : GoodStart lists starts rows records → firstBroken (startRules lists starts rows records) ≡ none
   unfolding eachStarts
   good-holds good =
-      memory-decides (sound-exact list .1 (good .list-sound))
-      (all-pass (λ j. ltb 0 (startOf starts j)) (segmentsOf list) (λ i h. lt-ltb 0 (startOf starts i) (good .started i h)))
-      ∙ rw (le-leb (gapRowsWanted list) rows (good .rows-lent), le-leb (recordsWanted list) records (good .records-lent))
+      memory-decides (sound-exact (lists .contracts) .1 (good .lists-sound .contracts-sound))
+      (spreads-exact (lists .contracts) (lists .pairs) (good .lists-sound .contracts-sound) .1 (good .lists-sound .pairs-sound))
+      (all-pass (λ j. ltb 0 (startOf starts j)) (segmentsOf (lists .contracts)) (λ i h. lt-ltb 0 (startOf starts i) (good .started i h)))
+      ∙ rw (le-leb (gapRowsWanted lists) rows (good .rows-lent), le-leb (recordsWanted lists) records (good .records-lent))
 
   -- a start is accepted exactly when it is good
-  pub start-exact : firstBroken (startRules list starts rows records) ≡ none ↔ GoodStart list starts rows records
+  pub start-exact : firstBroken (startRules lists starts rows records) ≡ none ↔ GoodStart lists starts rows records
   start-exact = (is-good, good-holds)
 
 -- ---- the rows that a start leaves

@@ -1,4 +1,5 @@
 // A segment's gaps: listing them, and writing off the lowest run.
+ghost use Rattle.pairs.specs.Lists.{lists};
 ghost use Rattle.state.specs.Memory.{lends};
 ghost use Rattle.quotebox.specs.CallPromises.{ListedRuns, WroteOffRun};
 use sequence::WriteOff;
@@ -9,14 +10,15 @@ use state::WrittenOff;
 
 pub fn list_gaps(
     list: &[u8],
+    spreads: &[u8],
     rows: &[u32],
     records: &[u64],
     letter: u8,
     cells: &mut [u32],
 ) -> Listed
-    ensures { λ r. ⌜ ListedRuns (lends (now (list .entry)) (now (rows .entry)) (now (records .entry))) letter (now (cells .entry)) r (now (cells .exit)) ⌝ }
+    ensures { λ r. ⌜ ListedRuns (lends (lists (now (list .entry)) (now (spreads .entry))) (now (rows .entry)) (now (records .entry))) letter (now (cells .entry)) r (now (cells .exit)) ⌝ }
 {
-    match state::check_segment(list, rows, records, letter) {
+    match state::check_segment(list, spreads, rows, records, letter) {
         Asked::Segment(segment) => {
             let row = state::row_of(rows, segment);
             match sequence::list(&row, cells) {
@@ -28,10 +30,16 @@ pub fn list_gaps(
     }
 }
 
-pub fn write_off(list: &[u8], rows: &mut [u32], records: &[u64], letter: u8) -> WrittenOff
-    ensures { λ r. ⌜ WroteOffRun (lends (now (list .entry)) (now (rows .entry)) (now (records .entry))) letter r (lends (now (list .entry)) (now (rows .exit)) (now (records .entry))) ⌝ }
+pub fn write_off(
+    list: &[u8],
+    spreads: &[u8],
+    rows: &mut [u32],
+    records: &[u64],
+    letter: u8,
+) -> WrittenOff
+    ensures { λ r. ⌜ WroteOffRun (lends (lists (now (list .entry)) (now (spreads .entry))) (now (rows .entry)) (now (records .entry))) letter r (lends (lists (now (list .entry)) (now (spreads .entry))) (now (rows .exit)) (now (records .entry))) ⌝ }
 {
-    match state::check_segment(list, rows, records, letter) {
+    match state::check_segment(list, spreads, rows, records, letter) {
         Asked::Segment(segment) => {
             let mut row = state::row_of(rows, segment);
             match sequence::write_off(&mut row) {

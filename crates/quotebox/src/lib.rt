@@ -1,6 +1,7 @@
 // The public calls over lent memory: those that are made here, and those of the crates below.
 mod gaps;
 mod record;
+mod spreads;
 mod starting;
 
 pub use batch::judge;
@@ -9,7 +10,10 @@ pub use gaps::list_gaps;
 pub use gaps::write_off;
 pub use layout::KEY_ROWS;
 pub use record::Reading;
+pub use record::SpreadReading;
 pub use record::read_record;
+pub use record::read_spread;
+pub use spreads::no_spreads;
 pub use starting::start;
 pub use state::Judged;
 pub use state::Listed;
@@ -22,3 +26,4 @@ pub use state::record_rows;
 pub use state::refusal_numbers;
 pub use writer::Code;
 pub use writer::write_message;
+pub use writer::write_spread;

@@ -1,17 +1,23 @@
-// A contract's record of a level: its number, then one cell a row from the market type on.
+// A contract's or a pair's record of a level: its number, then one cell for each row behind the key.
 ghost use mathlib.Core.Path.{_≡_};
 ghost use Prim.Native.Nat.{_+_, _<_};
 ghost use lib.ListN.{length};
+ghost use Rattle.pairs.specs.Lists.{lists};
+ghost use Rattle.quote.specs.Quote.{quoteOf};
+ghost use Rattle.quote.specs.Spread.{spreadQuoteOf};
 ghost use Rattle.state.specs.Memory.{lends};
 ghost use Rattle.state.specs.Places.{recordRows};
-ghost use Rattle.quotebox.specs.Record.{cellsAt, Finds, blank, ReadsAt};
-ghost use Rattle.quotebox.specs.CallPromises.{ReadRecord};
+ghost use Rattle.quotebox.specs.Record.{cellsAt, Finds, blank, blankSpread, ReadsAt};
+ghost use Rattle.quotebox.specs.CallPromises.{ReadRecord, ReadSpread};
 use contracts::Found;
 use layout::Form;
+use layout::Item;
 use layout::KEY_BYTES;
 use layout::Level;
 use layout::MOST_ROWS;
+use layout::PAIR_BYTES;
 use quote::Quote;
+use quote::SpreadQuote;
 use state::Asked;
 use state::Recorded;
 use state::Refusal;
@@ -22,6 +28,12 @@ pub struct Reading {
     pub quote: Quote,
 }
 
+// The same of a pair.
+pub struct SpreadReading {
+    pub answer: Recorded,
+    pub quote: SpreadQuote,
+}
+
 // Where the record that is asked for stands.
 enum Place {
     At(usize),
@@ -29,16 +41,17 @@ enum Place {
 }
 
 // The cells of a record by row: those of the key, and any behind the last row, are 0.
-fn cells_at(records: &[u64], at: usize, level: Level) -> [u64; MOST_ROWS]
-    requires { ⌜ at + recordRows level < length (now records) ⌝ }
-    ensures { λ r. ⌜ r ≡ cellsAt (now (records .entry)) at level ⌝ }
+fn cells_at(item: Item, records: &[u64], at: usize, level: Level) -> [u64; MOST_ROWS]
+    requires { ⌜ at + recordRows item level < length (now records) ⌝ }
+    ensures { λ r. ⌜ r ≡ cellsAt item (now (records .entry)) at level ⌝ }
 {
-    let count = state::record_rows(level);
+    let count = state::record_rows(item, level);
+    let key = layout::key_rows_of(item);
     let first = at + 1;
     let mut cells = [0u64; MOST_ROWS];
     let mut i = 0;
     while i < count {
-        cells[layout::KEY_ROWS + i] = records[first + i];
+        cells[key + i] = records[first + i];
         i += 1;
     }
     cells
@@ -46,30 +59,27 @@ fn cells_at(records: &[u64], at: usize, level: Level) -> [u64; MOST_ROWS]
 
 // The state, the letter's segment, and then the key: 13 where it isn't listed.
 fn find_record(
+    item: Item,
     list: &[u8],
+    spreads: &[u8],
     rows: &[u32],
     records: &[u64],
     letter: u8,
-    key: &[u8; KEY_BYTES],
+    key: &[u8],
     level: Level,
 ) -> Place
-    ensures { λ r. ⌜ Finds (lends (now (list .entry)) (now (rows .entry)) (now (records .entry))) letter (now (key .entry)) level r ⌝ }
+    ensures { λ r. ⌜ Finds item (lends (lists (now (list .entry)) (now (spreads .entry))) (now (rows .entry)) (now (records .entry))) letter (now (key .entry)) level r ⌝ }
 {
-    match state::check_segment(list, rows, records, letter) {
-        Asked::Segment(segment) => match contracts::place_of(
-            list,
-            contracts::CONTRACTS,
-            segment,
-            key,
-        ) {
-            Found::At(place) => {
-                Place::At(state::record_at(
-                    contracts::contracts_before(list, segment) + place,
-                    level,
-                ))
+    match state::check_segment(list, spreads, rows, records, letter) {
+        Asked::Segment(segment) => {
+            match message::find(list, spreads, item, Found::At(segment), key) {
+                Found::At(place) => {
+                    let fronts = state::fronts_of(list, spreads, segment);
+                    Place::At(state::record_at(fronts, item, place, level))
+                }
+                Found::Nowhere => Place::Refused(Refusal::Contract(0)),
             }
-            Found::Nowhere => Place::Refused(Refusal::Contract(0)),
-        },
+        }
         Asked::Refused(refusal) => Place::Refused(refusal),
     }
 }
@@ -81,9 +91,16 @@ fn blank() -> Quote
     quote::quote_of(Form::LevelTwo, &cells)
 }
 
+fn blank_spread() -> SpreadQuote
+    ensures { λ r. ⌜ r ≡ blankSpread ⌝ }
+{
+    let cells = [layout::NONE; MOST_ROWS];
+    quote::spread_quote_of(Form::PairTwo, &cells)
+}
+
 fn read_at(records: &[u64], at: usize, level: Level) -> Reading
-    requires { ⌜ at + recordRows level < length (now records) ⌝ }
-    ensures { λ r. ⌜ ReadsAt (now (records .entry)) at level r ⌝ }
+    requires { ⌜ at + recordRows Item.Contract level < length (now records) ⌝ }
+    ensures { λ r. ⌜ ReadsAt quoteOf blank Item.Contract (now (records .entry)) at level (r .answer) (r .quote) ⌝ }
 {
     let number = records[at];
     if number == 0 {
@@ -92,28 +109,85 @@ fn read_at(records: &[u64], at: usize, level: Level) -> Reading
             quote: blank(),
         };
     }
-    let cells = cells_at(records, at, level);
+    let cells = cells_at(Item::Contract, records, at, level);
     Reading {
         answer: Recorded::Record(number),
-        quote: quote::quote_of(layout::record_form(level), &cells),
+        quote: quote::quote_of(layout::record_form(Item::Contract, level), &cells),
+    }
+}
+
+fn read_spread_at(records: &[u64], at: usize, level: Level) -> SpreadReading
+    requires { ⌜ at + recordRows Item.Pair level < length (now records) ⌝ }
+    ensures { λ r. ⌜ ReadsAt spreadQuoteOf blankSpread Item.Pair (now (records .entry)) at level (r .answer) (r .quote) ⌝ }
+{
+    let number = records[at];
+    if number == 0 {
+        return SpreadReading {
+            answer: Recorded::NoRecord,
+            quote: blank_spread(),
+        };
+    }
+    let cells = cells_at(Item::Pair, records, at, level);
+    SpreadReading {
+        answer: Recorded::Record(number),
+        quote: quote::spread_quote_of(layout::record_form(Item::Pair, level), &cells),
     }
 }
 
 pub fn read_record(
     list: &[u8],
+    spreads: &[u8],
     rows: &[u32],
     records: &[u64],
     letter: u8,
     key: &[u8; KEY_BYTES],
     level: Level,
 ) -> Reading
-    ensures { λ r. ⌜ ReadRecord (lends (now (list .entry)) (now (rows .entry)) (now (records .entry))) letter (now (key .entry)) level r ⌝ }
+    ensures { λ r. ⌜ ReadRecord (lends (lists (now (list .entry)) (now (spreads .entry))) (now (rows .entry)) (now (records .entry))) letter (now (key .entry)) level r ⌝ }
 {
-    match find_record(list, rows, records, letter, key, level) {
+    match find_record(
+        Item::Contract,
+        list,
+        spreads,
+        rows,
+        records,
+        letter,
+        key,
+        level,
+    ) {
         Place::At(at) => read_at(records, at, level),
         Place::Refused(refusal) => Reading {
             answer: Recorded::Refused(refusal),
             quote: blank(),
+        },
+    }
+}
+
+pub fn read_spread(
+    list: &[u8],
+    spreads: &[u8],
+    rows: &[u32],
+    records: &[u64],
+    letter: u8,
+    pair: &[u8; PAIR_BYTES],
+    level: Level,
+) -> SpreadReading
+    ensures { λ r. ⌜ ReadSpread (lends (lists (now (list .entry)) (now (spreads .entry))) (now (rows .entry)) (now (records .entry))) letter (now (pair .entry)) level r ⌝ }
+{
+    match find_record(
+        Item::Pair,
+        list,
+        spreads,
+        rows,
+        records,
+        letter,
+        pair,
+        level,
+    ) {
+        Place::At(at) => read_spread_at(records, at, level),
+        Place::Refused(refusal) => SpreadReading {
+            answer: Recorded::Refused(refusal),
+            quote: blank_spread(),
         },
     }
 }

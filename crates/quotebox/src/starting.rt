@@ -3,6 +3,7 @@ ghost use mathlib.Core.Path.{_≡_};
 ghost use mathlib.Core.List.{_++_};
 ghost use Prim.Native.Nat.{_*_, _≤_};
 ghost use lib.ListN.{length, drop, replicate};
+ghost use Rattle.pairs.specs.Lists.{lists};
 ghost use Rattle.laws.specs.Rules.{firstBroken};
 ghost use Rattle.state.specs.Memory.{lends, gapRowCells};
 ghost use Rattle.state.specs.Answers.{checkedNumbers, checkedBy};
@@ -36,16 +37,19 @@ fn each_starts(starts: &[u32], segments: usize) -> bool
     true
 }
 
-fn check_start(list: &[u8], starts: &[u32], rows: usize, records: usize) -> Checked
-    ensures { λ r. ⌜ checkedNumbers r ≡ checkedBy (firstBroken (startRules (now (list .entry)) (now (starts .entry)) rows records)) ⌝ }
+fn check_start(list: &[u8], spreads: &[u8], starts: &[u32], rows: usize, records: usize) -> Checked
+    ensures { λ r. ⌜ checkedNumbers r ≡ checkedBy (firstBroken (startRules (lists (now (list .entry)) (now (spreads .entry))) (now (starts .entry)) rows records)) ⌝ }
 {
     if !contracts::sound(list, contracts::CONTRACTS) {
+        return Checked::Refused(Refusal::List);
+    }
+    if !pairs::spreads_sound(list, spreads) {
         return Checked::Refused(Refusal::List);
     }
     if !each_starts(starts, contracts::segments(list)) {
         return Checked::Refused(Refusal::Numbering(0));
     }
-    state::check_memory(list, rows, records)
+    state::check_memory(list, spreads, rows, records)
 }
 
 fn begin_rows(starts: &[u32], rows: &mut [u32], segments: usize)
@@ -72,13 +76,19 @@ fn clear(records: &mut [u64], cells: usize)
     }
 }
 
-pub fn start(list: &[u8], starts: &[u32], rows: &mut [u32], records: &mut [u64]) -> Started
-    ensures { λ r. ⌜ StartedBox (lends (now (list .entry)) (now (rows .entry)) (now (records .entry))) (now (starts .entry)) r (lends (now (list .entry)) (now (rows .exit)) (now (records .exit))) ⌝ }
+pub fn start(
+    list: &[u8],
+    spreads: &[u8],
+    starts: &[u32],
+    rows: &mut [u32],
+    records: &mut [u64],
+) -> Started
+    ensures { λ r. ⌜ StartedBox (lends (lists (now (list .entry)) (now (spreads .entry))) (now (rows .entry)) (now (records .entry))) (now (starts .entry)) r (lends (lists (now (list .entry)) (now (spreads .entry))) (now (rows .exit)) (now (records .exit))) ⌝ }
 {
-    match check_start(list, starts, rows.len(), records.len()) {
+    match check_start(list, spreads, starts, rows.len(), records.len()) {
         Checked::Good => {
             begin_rows(starts, rows, contracts::segments(list));
-            clear(records, state::RECORD * contracts::all_contracts(list));
+            clear(records, state::records_wanted(list, spreads));
             Started::Started
         }
         Checked::Refused(refusal) => Started::Refused(refusal),

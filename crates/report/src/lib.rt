@@ -65,6 +65,7 @@ fn put_segment(page: &mut [u8], used: usize, letter: u8, highest: u32, runs: &[u
 
 fn put_listed(
     list: &[u8],
+    spreads: &[u8],
     rows: [Run; lent::RUNS],
     records: &[u64],
     letter: u8,
@@ -75,7 +76,7 @@ fn put_listed(
     requires { ⌜ (used ≤ length (now page)) × (length (now cells) ≤ 128) ⌝ }
     ensures { λ r. ⌜ r ≤ length (now (page .entry)) ⌝ }
 {
-    match lent::list_gaps(list, rows, records, letter, cells) {
+    match lent::list_gaps(list, spreads, rows, records, letter, cells) {
         Listed::Runs(highest, runs) => {
             put_segment(page, used, letter, highest, console::runs_in(cells, runs))
         }
@@ -85,6 +86,7 @@ fn put_listed(
 
 fn put_segments(
     list: &[u8],
+    spreads: &[u8],
     rows: [Run; lent::RUNS],
     records: &[u64],
     page: &mut [u8],
@@ -99,7 +101,7 @@ fn put_segments(
     let mut i = 0;
     while i < segments {
         let letter = contracts::letter_at(list, i);
-        more = put_listed(list, rows, records, letter, &mut cells, page, more);
+        more = put_listed(list, spreads, rows, records, letter, &mut cells, page, more);
         i += 1;
     }
     more
@@ -108,6 +110,7 @@ fn put_segments(
 // The list: a heading, each segment in list order, and `end`.
 pub fn put_list(
     list: &[u8],
+    spreads: &[u8],
     rows: [Run; lent::RUNS],
     records: &[u64],
     page: &mut [u8],
@@ -117,6 +120,6 @@ pub fn put_list(
     ensures { λ r. ⌜ r ≤ length (now (page .entry)) ⌝ }
 {
     let used = put(page, used, b"segment highest missing\n");
-    let used = put_segments(list, rows, records, page, used);
+    let used = put_segments(list, spreads, rows, records, page, used);
     put(page, used, b"end\n")
 }

@@ -13,6 +13,7 @@ use Rattle.laws.specs.Order.{order}
 use Rattle.contracts.specs.BelowLaws.{all-same}
 use Rattle.contracts.specs.File.{segmentsOf}
 use Rattle.contracts.specs.Lookup.{segmentOf}
+use Rattle.pairs.specs.Lists.{Lists}
 use Rattle.contracts.specs.LookupLaws.{segment-has}
 use Rattle.contracts.specs.Sound.{Header}
 use Rattle.sequence.specs.RowLaid.{soundGapRow}
@@ -34,45 +35,45 @@ module _ (a z : List ℕ) (room : most ≤ length a) where
 
 -- more gap rows behind those that are lent
 abbrev pub longer : List ℕ → Lent → Lent
-longer z lent = lends (lent .list) (lent .rows ++ z) (lent .records)
+longer z lent = lends (lent .lists) (lent .rows ++ z) (lent .records)
 
-module _ (lent : Lent) (z : List ℕ) (room : most ≤ length (lent .rows)) (header : Header (lent .list)) where
-  abbrev list : List ℕ
-  list = lent .list
+module _ (lent : Lent) (z : List ℕ) (room : most ≤ length (lent .rows)) (header : Header (lent .lists .contracts)) where
+  abbrev lists : Lists
+  lists = lent .lists
 
   abbrev rows : List ℕ
   rows = lent .rows
 
-  few : segmentsOf list ≤ 2
+  few : segmentsOf (lists .contracts) ≤ 2
   few = header .few-segments
 
-  pub rows-within : gapRowsWanted list ≤ length rows
+  pub rows-within : gapRowsWanted lists ≤ length rows
   rows-within = omega (arith, few)
 
-  pub rows-lent : leb (gapRowsWanted list) (length (rows ++ z)) ≡ leb (gapRowsWanted list) (length rows)
+  pub rows-lent : leb (gapRowsWanted lists) (length (rows ++ z)) ≡ leb (gapRowsWanted lists) (length rows)
   rows-lent =
       let longer : length (rows ++ z) ≡ length rows + length z = length-append rows z in
-      le-leb (gapRowsWanted list) (length (rows ++ z)) (omega (arith, few, longer)) ∙ sym (le-leb (gapRowsWanted list) (length rows) rows-within)
+      le-leb (gapRowsWanted lists) (length (rows ++ z)) (omega (arith, few, longer)) ∙ sym (le-leb (gapRowsWanted lists) (length rows) rows-within)
 
   pub state-front : stateRules (longer z lent) ≡ stateRules lent
   state-front =
-      let sound : gapRowsSound (segmentsOf list) (rows ++ z) ≡ gapRowsSound (segmentsOf list) rows =
-      all-same (λ i. soundGapRow (gapRowOf (rows ++ z) i)) (λ i. soundGapRow (gapRowOf rows i)) (segmentsOf list) (λ i h. ap soundGapRow (row-front rows z room i (omega (arith, few)))) in
+      let sound : gapRowsSound (segmentsOf (lists .contracts)) (rows ++ z) ≡ gapRowsSound (segmentsOf (lists .contracts)) rows =
+      all-same (λ i. soundGapRow (gapRowOf (rows ++ z) i)) (λ i. soundGapRow (gapRowOf rows i)) (segmentsOf (lists .contracts)) (λ i h. ap soundGapRow (row-front rows z room i (omega (arith, few)))) in
       rw (rows-lent, sound)
 
-  pub letter-front : (letter : ℕ) → gapRowOfLetter list letter (rows ++ z) ≡ gapRowOfLetter list letter rows
-  letter-front letter = go (segmentOf list letter) refl
+  pub letter-front : (letter : ℕ) → gapRowOfLetter lists letter (rows ++ z) ≡ gapRowOfLetter lists letter rows
+  letter-front letter = go (segmentOf (lists .contracts) letter) refl
     where
-      go : (o : Option ℕ) → segmentOf list letter ≡ o → gapRowIn (rows ++ z) o ≡ gapRowIn rows o
+      go : (o : Option ℕ) → segmentOf (lists .contracts) letter ≡ o → gapRowIn (rows ++ z) o ≡ gapRowIn rows o
       go none e = refl
-      go (some i) e = row-front rows z room i (omega (arith, few, segment-has list letter i e .0))
+      go (some i) e = row-front rows z room i (omega (arith, few, segment-has (lists .contracts) letter i e .0))
 
-  pub with-front : (letter : ℕ) (row : List ℕ) → withGapRowOfLetter list letter (rows ++ z) row ≡ withGapRowOfLetter list letter rows row ++ z
-  with-front letter row = go (segmentOf list letter) refl
+  pub with-front : (letter : ℕ) (row : List ℕ) → withGapRowOfLetter lists letter (rows ++ z) row ≡ withGapRowOfLetter lists letter rows row ++ z
+  with-front letter row = go (segmentOf (lists .contracts) letter) refl
     where
-      go : (o : Option ℕ) → segmentOf list letter ≡ o → withGapRowIn (rows ++ z) row o ≡ withGapRowIn rows row o ++ z
+      go : (o : Option ℕ) → segmentOf (lists .contracts) letter ≡ o → withGapRowIn (rows ++ z) row o ≡ withGapRowIn rows row o ++ z
       go none e = refl
-      go (some i) e = put-front rows z room row i (omega (arith, few, segment-has list letter i e .0))
+      go (some i) e = put-front rows z room row i (omega (arith, few, segment-has (lists .contracts) letter i e .0))
 
 -- what holds of the front of the rows, whatever stands behind it, holds of all
 pub whole : (P : List ℕ → List ℕ → Type 0) → ((a z a′ : List ℕ) → most ≤ length a → P a a′ → P (a ++ z) (a′ ++ z))

@@ -18,12 +18,14 @@ use Rattle.state.specs.declared.answers.Started.{Started}
 use Rattle.state.specs.declared.answers.Judged.{Judged}
 use Rattle.state.specs.declared.answers.Listed.{Listed}
 use Rattle.state.specs.declared.answers.WrittenOff.{WrittenOff}
-use Rattle.quotebox.specs.declared.record.Reading.{Reading}
+use Rattle.state.specs.declared.answers.Recorded.{Recorded}
+use Rattle.forms.specs.declared.forms.Form.{Form}
+use Rattle.forms.specs.declared.forms.Item.{Item}
 use Rattle.state.specs.declared.refusal.Refusal.the-variants.{List as ListOf}
-use Rattle.state.specs.Answers.{startedNumbers, judgedNumbers, listedNumbers, writtenOffNumbers}
+use Rattle.state.specs.Answers.{startedNumbers, judgedNumbers, listedNumbers, writtenOffNumbers, recordedNumbers}
 use Rattle.state.specs.Memory.{lends}
-use Rattle.quotebox.specs.Record.{readingNumbers}
-use Rattle.quotebox.specs.CallPromises.{StartedBox, ListedRuns, WroteOffRun, ReadRecord}
+use Rattle.pairs.specs.Lists.{Lists}
+use Rattle.quotebox.specs.CallPromises.{StartedBox, ListedRuns, WroteOffRun, ReadsFor}
 use Rattle.batch.specs.Promises.{JudgedBatch, TookBatch}
 use Rattle.state.specs.Refusals.{refusalNumbers}
 use Rattle.runs.specs.declared.run.Run.{Run}
@@ -32,7 +34,7 @@ use Rattle.runs.specs.RowsLaws.{over-is, in-runs-enough, in-runs-other}
 use Rattle.runs.specs.FlatLaws.{flat-append, flat-take, flat-drop}
 use Rattle.runs.specs.FrontLaws.{whole}
 use Rattle.runs.specs.WholeLaws.{started-unlisted, started-front, judged-unlisted, judged-front, took-front, listed-unlisted, listed-front, wrote-unlisted, wrote-front, read-unlisted, read-front}
-use Rattle.runs.specs.Promises.{Over, StartedRuns, JudgedRuns, TookRuns, ListedGaps, WroteOffRuns, ReadRuns}
+use Rattle.runs.specs.Promises.{Over, StartedRuns, JudgedRuns, TookRuns, ListedGaps, WroteOffRuns, ReadsRuns}
 
 module _ (rows : List Run) where
   lent-rows : lent rows (array rows) ≡ take 132 rows
@@ -74,21 +76,21 @@ module _ (rows : List Run) where
       (whole P more (flat rows) (flat (lent rows runs)) (subst (λ (l : List ℕ). P l (flat (lent rows runs))) lent-numbers p))
 
   -- 15 for gap rows names as many runs
-  pub lent-told : (list numbers : List ℕ) → (headerSound list ≡ false → numbers ≡ refusalNumbers ListOf) → inRuns list (length (lent rows (array rows))) numbers ≡ inRuns list (length rows) numbers
-  lent-told list numbers unlisted =
+  pub lent-told : (lists : Lists) (numbers : List ℕ) → (headerSound (lists .contracts) ≡ false → numbers ≡ refusalNumbers ListOf) → inRuns (lists .contracts) (length (lent rows (array rows))) numbers ≡ inRuns (lists .contracts) (length rows) numbers
+  lent-told lists numbers unlisted =
       ⊎-elim
-      (λ (h : length rows ≤ 132). ap (λ (n : ℕ). inRuns list n numbers) (ap length lent-rows ∙ ap length (take-all 132 rows h)))
+      (λ (h : length rows ≤ 132). ap (λ (n : ℕ). inRuns (lists .contracts) n numbers) (ap length lent-rows ∙ ap length (take-all 132 rows h)))
       (λ (h : 132 < length rows).
       ⊎-elim
-      (λ (g : headerSound list ≡ true).
-      let few : segmentsOf list ≤ 2 = header-exact list .0 g .few-segments in
+      (λ (g : headerSound (lists .contracts) ≡ true).
+      let few : segmentsOf (lists .contracts) ≤ 2 = header-exact (lists .contracts) .0 g .few-segments in
       let long : length (lent rows (array rows)) ≡ 132 = ap length lent-rows ∙ length-take-le 132 rows (omega arith) in
-      in-runs-enough list (length (lent rows (array rows))) numbers (omega (arith, long, few)) ∙ sym (in-runs-enough list (length rows) numbers (omega (arith, few))))
-      (λ (g : headerSound list ≡ false).
-      let other : (n : ℕ) → inRuns list n numbers ≡ numbers =
-      λ n. ap (inRuns list n) (unlisted g) ∙ in-runs-other list n (refusalNumbers ListOf) (cc) ∙ sym (unlisted g) in
+      in-runs-enough (lists .contracts) (length (lent rows (array rows))) numbers (omega (arith, long, few)) ∙ sym (in-runs-enough (lists .contracts) (length rows) numbers (omega (arith, few))))
+      (λ (g : headerSound (lists .contracts) ≡ false).
+      let other : (n : ℕ) → inRuns (lists .contracts) n numbers ≡ numbers =
+      λ n. ap (inRuns (lists .contracts) n) (unlisted g) ∙ in-runs-other (lists .contracts) n (refusalNumbers ListOf) (cc) ∙ sym (unlisted g) in
       other (length (lent rows (array rows))) ∙ sym (other (length rows)))
-      (either (headerSound list)))
+      (either (headerSound (lists .contracts))))
       (order (length rows) 132)
 
 -- the numbers lent are looked at and no more
@@ -98,60 +100,61 @@ module _ (rows : List Run) where
 
 -- ---- each call
 
-module _ (list : List ℕ) (rows : List Run) where
+module _ (lists : Lists) (rows : List Run) where
   abbrev front : List Run
   front = lent rows (array rows)
 
   -- a promise that looks at the numbers lent and no further, by an answer that without a list is 16
   lent-over : {A : Type 0} (numbersOf : A → List ℕ) (promise : List ℕ → List ℕ → A → Type 0) → ((a z a′ : List ℕ) (core : A) → most ≤ length a → promise a a′ core → promise (a ++ z) (a′ ++ z) core)
-      → ((a a′ : List ℕ) (core : A) → headerSound list ≡ false → promise a a′ core → numbersOf core ≡ refusalNumbers ListOf)
-      → (runs : List Run) → length runs ≡ 132 → (answer : A) → Over numbersOf list front (lent rows runs) promise answer → Over numbersOf list rows (over runs rows) promise answer
+      → ((a a′ : List ℕ) (core : A) → headerSound (lists .contracts) ≡ false → promise a a′ core → numbersOf core ≡ refusalNumbers ListOf)
+      → (runs : List Run) → length runs ≡ 132 → (answer : A) → Over numbersOf (lists .contracts) front (lent rows runs) promise answer → Over numbersOf (lists .contracts) rows (over runs rows) promise answer
   lent-over numbersOf promise more unlisted runs long answer p = record {
     core = p .core;
     promised = lent-whole rows (λ a b. promise a b (p .core)) (λ a z a′ room q. more a z a′ (p .core) room q) runs long (p .promised);
-    answers = p .answers ∙ lent-told rows list (numbersOf (p .core)) (λ h. unlisted (flat front) (flat (lent rows runs)) (p .core) h (p .promised));
+    answers = p .answers ∙ lent-told rows lists (numbersOf (p .core)) (λ h. unlisted (flat front) (flat (lent rows runs)) (p .core) h (p .promised));
   }
 
   -- and that says nothing of numbers left
   seen-over : {A : Type 0} (numbersOf : A → List ℕ) (promise : List ℕ → A → Type 0) → ((a z : List ℕ) (core : A) → most ≤ length a → promise a core → promise (a ++ z) core)
-      → ((a : List ℕ) (core : A) → headerSound list ≡ false → promise a core → numbersOf core ≡ refusalNumbers ListOf)
-      → (answer : A) → Over numbersOf list front front (λ a b core. promise a core) answer → Over numbersOf list rows rows (λ a b core. promise a core) answer
+      → ((a : List ℕ) (core : A) → headerSound (lists .contracts) ≡ false → promise a core → numbersOf core ≡ refusalNumbers ListOf)
+      → (answer : A) → Over numbersOf (lists .contracts) front front (λ a b core. promise a core) answer → Over numbersOf (lists .contracts) rows rows (λ a b core. promise a core) answer
   seen-over numbersOf promise more unlisted answer p = record {
     core = p .core;
     promised = lent-seen rows (λ a. promise a (p .core)) (λ a z room q. more a z (p .core) room q) (p .promised);
-    answers = p .answers ∙ lent-told rows list (numbersOf (p .core)) (λ h. unlisted (flat front) (p .core) h (p .promised));
+    answers = p .answers ∙ lent-told rows lists (numbersOf (p .core)) (λ h. unlisted (flat front) (p .core) h (p .promised));
   }
 
   module _ (records : List ℕ) where
     pub started-runs : (starts : List ℕ) (answer : Started) (runs : List Run) (records′ : List ℕ) → length runs ≡ 132
-        → StartedRuns list starts front records answer (lent rows runs) records′ → StartedRuns list starts rows records answer (over runs rows) records′
+        → StartedRuns lists starts front records answer (lent rows runs) records′ → StartedRuns lists starts rows records answer (over runs rows) records′
     started-runs starts answer runs records′ long =
-        lent-over startedNumbers (λ ns ns′ core. StartedBox (lends list ns records) starts core (lends list ns′ records′)) (λ a z a′ core room q. started-front (lends list a records) z room starts core q)
-        (λ a a′ core h q. started-unlisted (lends list a records) h starts core q) runs long answer
+        lent-over startedNumbers (λ ns ns′ core. StartedBox (lends lists ns records) starts core (lends lists ns′ records′)) (λ a z a′ core room q. started-front (lends lists a records) z room starts core q)
+        (λ a a′ core h q. started-unlisted (lends lists a records) h starts core q) runs long answer
 
-    pub judged-runs : (batch : List ℕ) (answer : Judged) → JudgedRuns list front records batch answer → JudgedRuns list rows records batch answer
+    pub judged-runs : (batch : List ℕ) (answer : Judged) → JudgedRuns lists front records batch answer → JudgedRuns lists rows records batch answer
     judged-runs batch answer =
-        seen-over judgedNumbers (λ ns core. JudgedBatch (lends list ns records) batch core) (λ a z core room q. judged-front (lends list a records) z room batch core q)
-        (λ a core h q. judged-unlisted (lends list a records) h batch core q) answer
+        seen-over judgedNumbers (λ ns core. JudgedBatch (lends lists ns records) batch core) (λ a z core room q. judged-front (lends lists a records) z room batch core q)
+        (λ a core h q. judged-unlisted (lends lists a records) h batch core q) answer
 
     pub took-runs : (batch : List ℕ) (answer : Judged) (runs : List Run) (records′ : List ℕ) → length runs ≡ 132
-        → TookRuns list front records batch answer (lent rows runs) records′ → TookRuns list rows records batch answer (over runs rows) records′
+        → TookRuns lists front records batch answer (lent rows runs) records′ → TookRuns lists rows records batch answer (over runs rows) records′
     took-runs batch answer runs records′ long =
-        lent-over judgedNumbers (λ ns ns′ core. TookBatch (lends list ns records) batch core (lends list ns′ records′)) (λ a z a′ core room q. took-front (lends list a records) z room batch core q)
-        (λ a a′ core h q. judged-unlisted (lends list a records) h batch core (record { answers = q .answers })) runs long answer
+        lent-over judgedNumbers (λ ns ns′ core. TookBatch (lends lists ns records) batch core (lends lists ns′ records′)) (λ a z a′ core room q. took-front (lends lists a records) z room batch core q)
+        (λ a a′ core h q. judged-unlisted (lends lists a records) h batch core (record { answers = q .answers })) runs long answer
 
     module _ (letter : ℕ) where
-      pub listed-gaps : (cells : List ℕ) (answer : Listed) (cells′ : List ℕ) → ListedGaps list front records letter cells answer cells′ → ListedGaps list rows records letter cells answer cells′
+      pub listed-gaps : (cells : List ℕ) (answer : Listed) (cells′ : List ℕ) → ListedGaps lists front records letter cells answer cells′ → ListedGaps lists rows records letter cells answer cells′
       listed-gaps cells answer cells′ =
-          seen-over listedNumbers (λ ns core. ListedRuns (lends list ns records) letter cells core cells′) (λ a z core room q. listed-front (lends list a records) z room letter core q)
-          (λ a core h q. listed-unlisted (lends list a records) h letter core q) answer
+          seen-over listedNumbers (λ ns core. ListedRuns (lends lists ns records) letter cells core cells′) (λ a z core room q. listed-front (lends lists a records) z room letter core q)
+          (λ a core h q. listed-unlisted (lends lists a records) h letter core q) answer
 
-      pub wrote-off-runs : (answer : WrittenOff) (runs : List Run) → length runs ≡ 132 → WroteOffRuns list front records letter answer (lent rows runs) → WroteOffRuns list rows records letter answer (over runs rows)
+      pub wrote-off-runs : (answer : WrittenOff) (runs : List Run) → length runs ≡ 132 → WroteOffRuns lists front records letter answer (lent rows runs) → WroteOffRuns lists rows records letter answer (over runs rows)
       wrote-off-runs answer runs long =
-          lent-over writtenOffNumbers (λ ns ns′ core. WroteOffRun (lends list ns records) letter core (lends list ns′ records)) (λ a z a′ core room q. wrote-front (lends list a records) z room letter core q)
-          (λ a a′ core h q. wrote-unlisted (lends list a records) h letter core q) runs long answer
+          lent-over writtenOffNumbers (λ ns ns′ core. WroteOffRun (lends lists ns records) letter core (lends lists ns′ records)) (λ a z a′ core room q. wrote-front (lends lists a records) z room letter core q)
+          (λ a a′ core h q. wrote-unlisted (lends lists a records) h letter core q) runs long answer
 
-      pub read-runs : (key : List ℕ) (level : Level) (reading : Reading) → ReadRuns list front records letter key level reading → ReadRuns list rows records letter key level reading
-      read-runs key level reading =
-          seen-over readingNumbers (λ ns core. ReadRecord (lends list ns records) letter key level core × (reading .quote ≡ core .quote))
-          (λ a z core room q. (read-front (lends list a records) z room letter core (q .0), q .1)) (λ a core h q. read-unlisted (lends list a records) h letter core (q .0)) reading
+      pub read-runs : {A : Type 0} {show : Form → List ℕ → A} {blank quote : A} {item : Item} (key : List ℕ) (level : Level) (answer : Recorded)
+          → ReadsRuns show blank item lists front records letter key level answer quote → ReadsRuns show blank item lists rows records letter key level answer quote
+      read-runs {show = show} {blank} {quote} {item} key level answer =
+          seen-over recordedNumbers (λ ns core. ReadsFor show blank item (lends lists ns records) letter key level core quote)
+          (λ a z core room q. read-front (lends lists a records) z room letter core q) (λ a core h q. read-unlisted (lends lists a records) h letter core q) answer

@@ -7,18 +7,28 @@ use mathlib.Core.List.{List}
 use lib.ListN.{length}
 use Rattle.contracts.specs.File.{segmentsOf}
 use Rattle.contracts.specs.SoundTests.{headerSound, sound}
+use Rattle.pairs.specs.SpreadTests.{spreadHeaderSound, spreadsSound}
+use Rattle.pairs.specs.Lists.{Lists}
 use Rattle.forms.specs.declared.rows.Level.{Level}
 use Rattle.state.specs.declared.answers.Started.{Started}
 use Rattle.state.specs.declared.answers.Judged.{Judged}
 use Rattle.state.specs.declared.answers.Listed.{Listed}
 use Rattle.state.specs.declared.answers.WrittenOff.{WrittenOff}
 use Rattle.quotebox.specs.declared.record.Reading.{Reading}
-use Rattle.state.specs.Answers.{startedNumbers, judgedNumbers, listedNumbers, writtenOffNumbers}
+use Rattle.state.specs.Answers.{startedNumbers, judgedNumbers, listedNumbers, writtenOffNumbers, recordedNumbers}
 use Rattle.state.specs.Memory.{lends}
 use Rattle.batch.specs.Promises.{JudgedBatch, TookBatch}
-use Rattle.quotebox.specs.CallPromises.{StartedBox, ListedRuns, WroteOffRun, ReadRecord}
-use Rattle.quotebox.specs.Record.{readingNumbers}
+use Rattle.quotebox.specs.declared.record.SpreadReading.{SpreadReading}
+use Rattle.state.specs.declared.answers.Recorded.{Recorded}
+use Rattle.quotebox.specs.CallPromises.{StartedBox, ListedRuns, WroteOffRun, ReadsFor}
+use Rattle.quotebox.specs.Record.{blank, blankSpread}
+use Rattle.quote.specs.Quote.{quoteOf}
+use Rattle.quote.specs.Spread.{spreadQuoteOf}
+use Rattle.forms.specs.declared.forms.Form.{Form}
+use Rattle.forms.specs.declared.forms.Item.{Item}
+use Rattle.forms.specs.declared.forms.Item.the-variants.{Contract, Pair}
 use Rattle.quotebox.specs.Start.{eachStarts}
+use Rattle.history.specs.Shown.{QuoteFor, shown, blankFor}
 use Rattle.runs.specs.declared.run.Run.{Run}
 use Rattle.runs.specs.Rows.{flat, inRuns}
 
@@ -30,36 +40,49 @@ pub record Over {A : Type 0} (numbersOf : A → List ℕ) (list : List ℕ) (row
   pub answers : numbersOf answer ≡ inRuns list (length rows) (numbersOf core)
 
 -- 01 "What may be asked": start
-abbrev pub StartedRuns : (list starts : List ℕ) (rows : List Run) (records : List ℕ) (answer : Started) (rows′ : List Run) (records′ : List ℕ) → Type 0
-StartedRuns list starts rows records answer rows′ records′ = Over startedNumbers list rows rows′ (λ ns ns′ core. StartedBox (lends list ns records) starts core (lends list ns′ records′)) answer
+abbrev pub StartedRuns : (lists : Lists) (starts : List ℕ) (rows : List Run) (records : List ℕ) (answer : Started) (rows′ : List Run) (records′ : List ℕ) → Type 0
+StartedRuns lists starts rows records answer rows′ records′ = Over startedNumbers (lists .contracts) rows rows′ (λ ns ns′ core. StartedBox (lends lists ns records) starts core (lends lists ns′ records′)) answer
 
 -- 01 "What may be asked": judge a batch without change
-abbrev pub JudgedRuns : (list : List ℕ) (rows : List Run) (records batch : List ℕ) (answer : Judged) → Type 0
-JudgedRuns list rows records batch answer = Over judgedNumbers list rows rows (λ ns ns′ core. JudgedBatch (lends list ns records) batch core) answer
+abbrev pub JudgedRuns : (lists : Lists) (rows : List Run) (records batch : List ℕ) (answer : Judged) → Type 0
+JudgedRuns lists rows records batch answer = Over judgedNumbers (lists .contracts) rows rows (λ ns ns′ core. JudgedBatch (lends lists ns records) batch core) answer
 
 -- 01 "What may be asked": take a batch
-abbrev pub TookRuns : (list : List ℕ) (rows : List Run) (records batch : List ℕ) (answer : Judged) (rows′ : List Run) (records′ : List ℕ) → Type 0
-TookRuns list rows records batch answer rows′ records′ = Over judgedNumbers list rows rows′ (λ ns ns′ core. TookBatch (lends list ns records) batch core (lends list ns′ records′)) answer
+abbrev pub TookRuns : (lists : Lists) (rows : List Run) (records batch : List ℕ) (answer : Judged) (rows′ : List Run) (records′ : List ℕ) → Type 0
+TookRuns lists rows records batch answer rows′ records′ = Over judgedNumbers (lists .contracts) rows rows′ (λ ns ns′ core. TookBatch (lends lists ns records) batch core (lends lists ns′ records′)) answer
 
 -- 01 "What may be asked": list gaps; its runs stand in lent cells, two a run
-abbrev pub ListedGaps : (list : List ℕ) (rows : List Run) (records : List ℕ) (letter : ℕ) (cells : List ℕ) (answer : Listed) (cells′ : List ℕ) → Type 0
-ListedGaps list rows records letter cells answer cells′ = Over listedNumbers list rows rows (λ ns ns′ core. ListedRuns (lends list ns records) letter cells core cells′) answer
+abbrev pub ListedGaps : (lists : Lists) (rows : List Run) (records : List ℕ) (letter : ℕ) (cells : List ℕ) (answer : Listed) (cells′ : List ℕ) → Type 0
+ListedGaps lists rows records letter cells answer cells′ = Over listedNumbers (lists .contracts) rows rows (λ ns ns′ core. ListedRuns (lends lists ns records) letter cells core cells′) answer
 
 -- 01 "What may be asked": write off the lowest run
-abbrev pub WroteOffRuns : (list : List ℕ) (rows : List Run) (records : List ℕ) (letter : ℕ) (answer : WrittenOff) (rows′ : List Run) → Type 0
-WroteOffRuns list rows records letter answer rows′ = Over writtenOffNumbers list rows rows′ (λ ns ns′ core. WroteOffRun (lends list ns records) letter core (lends list ns′ records)) answer
+abbrev pub WroteOffRuns : (lists : Lists) (rows : List Run) (records : List ℕ) (letter : ℕ) (answer : WrittenOff) (rows′ : List Run) → Type 0
+WroteOffRuns lists rows records letter answer rows′ = Over writtenOffNumbers (lists .contracts) rows rows′ (λ ns ns′ core. WroteOffRun (lends lists ns records) letter core (lends lists ns′ records)) answer
 
--- 01 "What may be asked": read a record
-abbrev pub ReadRuns : (list : List ℕ) (rows : List Run) (records : List ℕ) (letter : ℕ) (key : List ℕ) (level : Level) (reading : Reading) → Type 0
-ReadRuns list rows records letter key level reading =
-    Over readingNumbers list rows rows (λ ns ns′ core. ReadRecord (lends list ns records) letter key level core × (reading .quote ≡ core .quote)) reading
+-- 01 "What may be asked", M-100: read a record, of a contract or of a pair
+abbrev pub ReadsRuns : {A : Type 0} (show : Form → List ℕ → A) (blank : A) (item : Item) (lists : Lists) (rows : List Run) (records : List ℕ) (letter : ℕ) (key : List ℕ) (level : Level) (answer : Recorded) (quote : A) → Type 0
+ReadsRuns show blank item lists rows records letter key level answer quote =
+    Over recordedNumbers (lists .contracts) rows rows (λ ns ns′ core. ReadsFor show blank item (lends lists ns records) letter key level core quote) answer
+
+-- 01 "What may be asked": a contract's record
+abbrev pub ReadRuns : (lists : Lists) (rows : List Run) (records : List ℕ) (letter : ℕ) (key : List ℕ) (level : Level) (reading : Reading) → Type 0
+ReadRuns lists rows records letter key level reading = ReadsRuns quoteOf blank Contract lists rows records letter key level (reading .answer) (reading .quote)
+
+-- M-100: a pair's record
+abbrev pub ReadSpreadRuns : (lists : Lists) (rows : List Run) (records : List ℕ) (letter : ℕ) (pair : List ℕ) (level : Level) (reading : SpreadReading) → Type 0
+ReadSpreadRuns lists rows records letter pair level reading = ReadsRuns spreadQuoteOf blankSpread Pair lists rows records letter pair level (reading .answer) (reading .quote)
+
+-- 01, the order of checks, M-100: 16 is not given for either list
+abbrev pub HeadersPass : Lists → Type 0
+HeadersPass lists = (headerSound (lists .contracts) ≡ true) × (spreadHeaderSound (lists .contracts) (lists .pairs) ≡ true)
 
 -- 01, the order of checks: a call on these runs that no rule before 15 refuses, and the numbers of its answer
-pub data UpToMemory (list : List ℕ) (rows : List Run) : List ℕ → Type 0 where
-  starts : {starts records records′ : List ℕ} {rows′ : List Run} {answer : Started} → sound list ≡ true → eachStarts (segmentsOf list) starts ≡ true
-      → StartedRuns list starts rows records answer rows′ records′ → UpToMemory list rows (startedNumbers answer)
-  judges : {records batch : List ℕ} {answer : Judged} → headerSound list ≡ true → JudgedRuns list rows records batch answer → UpToMemory list rows (judgedNumbers answer)
-  takes : {records batch records′ : List ℕ} {rows′ : List Run} {answer : Judged} → headerSound list ≡ true → TookRuns list rows records batch answer rows′ records′ → UpToMemory list rows (judgedNumbers answer)
-  lists : {records cells cells′ : List ℕ} {letter : ℕ} {answer : Listed} → headerSound list ≡ true → ListedGaps list rows records letter cells answer cells′ → UpToMemory list rows (listedNumbers answer)
-  writes-off : {records : List ℕ} {letter : ℕ} {rows′ : List Run} {answer : WrittenOff} → headerSound list ≡ true → WroteOffRuns list rows records letter answer rows′ → UpToMemory list rows (writtenOffNumbers answer)
-  reads : {records key : List ℕ} {letter : ℕ} {level : Level} {reading : Reading} → headerSound list ≡ true → ReadRuns list rows records letter key level reading → UpToMemory list rows (readingNumbers reading)
+pub data UpToMemory (lists : Lists) (rows : List Run) : List ℕ → Type 0 where
+  starts : {starts records records′ : List ℕ} {rows′ : List Run} {answer : Started} → sound (lists .contracts) ≡ true → spreadsSound (lists .contracts) (lists .pairs) ≡ true
+      → eachStarts (segmentsOf (lists .contracts)) starts ≡ true → StartedRuns lists starts rows records answer rows′ records′ → UpToMemory lists rows (startedNumbers answer)
+  judges : {records batch : List ℕ} {answer : Judged} → HeadersPass lists → JudgedRuns lists rows records batch answer → UpToMemory lists rows (judgedNumbers answer)
+  takes : {records batch records′ : List ℕ} {rows′ : List Run} {answer : Judged} → HeadersPass lists → TookRuns lists rows records batch answer rows′ records′ → UpToMemory lists rows (judgedNumbers answer)
+  lists-gaps : {records cells cells′ : List ℕ} {letter : ℕ} {answer : Listed} → HeadersPass lists → ListedGaps lists rows records letter cells answer cells′ → UpToMemory lists rows (listedNumbers answer)
+  writes-off : {records : List ℕ} {letter : ℕ} {rows′ : List Run} {answer : WrittenOff} → HeadersPass lists → WroteOffRuns lists rows records letter answer rows′ → UpToMemory lists rows (writtenOffNumbers answer)
+  reads : {item : Item} {quote : QuoteFor item} {records key : List ℕ} {letter : ℕ} {level : Level} {answer : Recorded} → HeadersPass lists
+      → ReadsRuns (shown item) (blankFor item) item lists rows records letter key level answer quote → UpToMemory lists rows (recordedNumbers answer)

@@ -28,10 +28,13 @@ use Rattle.state.specs.declared.answers.Started.{Started}
 use Rattle.state.specs.declared.answers.Judged.{Judged}
 use Rattle.state.specs.declared.answers.Listed.{Listed}
 use Rattle.state.specs.declared.answers.WrittenOff.{WrittenOff}
-use Rattle.quotebox.specs.declared.record.Reading.{Reading}
+use Rattle.state.specs.declared.answers.Recorded.{Recorded}
+use Rattle.forms.specs.declared.forms.Form.{Form}
+use Rattle.forms.specs.declared.forms.Item.{Item}
+use Rattle.pairs.specs.Lists.{Lists}
 use Rattle.state.specs.declared.refusal.Refusal.{Refusal}
 use Rattle.state.specs.declared.refusal.Refusal.the-variants.{Code, Contract, Memory, NoGap, List as ListOf}
-use Rattle.state.specs.Answers.{startedNumbers, judgedNumbers, listedNumbers, writtenOffNumbers, answered, leftBy}
+use Rattle.state.specs.Answers.{startedNumbers, judgedNumbers, listedNumbers, writtenOffNumbers, recordedNumbers, answered, leftBy}
 use Rattle.turns.specs.Turns.{Acted, acted, refused, messagesAct, actedNumbers}
 use Rattle.batch.specs.Batch.{batchRules, batchLetter, countOf, batchData}
 use Rattle.batch.specs.Acts.{unlessBroken, batchActs, lentAfter}
@@ -39,8 +42,8 @@ use Rattle.state.specs.Memory.{Lent, lends, gapRowOfLetter, gapRowsWanted}
 use Rattle.state.specs.MemoryRows.{withGapRowOfLetter}
 use Rattle.quotebox.specs.Calls.{listValues, runsPut, runValues, lowestRun, lentWrittenOff}
 use Rattle.quotebox.specs.CallRules.{gapsOfLetter, listRules, writeOffRules, recordRules}
-use Rattle.quotebox.specs.CallPromises.{StartedBox, ListedRuns, WroteOffRun, ReadRecord}
-use Rattle.quotebox.specs.Record.{readingNumbers, recordOfKey, recordNumber, recordValues, quoteAt, quoteBeside}
+use Rattle.quotebox.specs.CallPromises.{StartedBox, ListedRuns, WroteOffRun, ReadsFor}
+use Rattle.quotebox.specs.Record.{recordOfKey, recordNumber, recordValues, quoteAt, quoteBeside}
 use Rattle.batch.specs.Promises.{JudgedBatch, TookBatch}
 use Rattle.quotebox.specs.Start.{startRules}
 use Rattle.quotebox.specs.StartActs.{startBroken, startedRows, rowsStarted, recordsCleared, lentStarted}
@@ -66,7 +69,7 @@ heads {A} list bad good =
 
 -- ---- where it isn't, every call answers 16, whatever rule stands behind
 
-module _ (lent : Lent) (h : headerSound (lent .list) ≡ false) where
+module _ (lent : Lent) (h : headerSound (lent .lists .contracts) ≡ false) where
   acts-unlisted : (batch : List ℕ) → batchActs lent batch ≡ refused ListOf
   unfolding batchActs
   acts-unlisted batch = rw h
@@ -77,7 +80,7 @@ module _ (lent : Lent) (h : headerSound (lent .list) ≡ false) where
   start-unlisted : (starts : List ℕ) → startBroken lent starts ≡ some ListOf
   unfolding startRules
   start-unlisted starts =
-      ⊎-elim (λ (s : sound (lent .list) ≡ true). absurd (true≢false (sym (sound-header contracts (lent .list) s) ∙ h))) (λ (s : sound (lent .list) ≡ false). rw s) (either (sound (lent .list)))
+      ⊎-elim (λ (s : sound (lent .lists .contracts) ≡ true). absurd (true≢false (sym (sound-header contracts (lent .lists .contracts) s) ∙ h))) (λ (s : sound (lent .lists .contracts) ≡ false). rw s) (either (sound (lent .lists .contracts)))
 
   pub started-unlisted : (starts : List ℕ) {lent′ : Lent} (answer : Started) → StartedBox lent starts answer lent′ → startedNumbers answer ≡ refusalNumbers ListOf
   started-unlisted starts answer p = p .answers ∙ told-as _ [] (start-unlisted starts)
@@ -95,9 +98,9 @@ module _ (lent : Lent) (h : headerSound (lent .list) ≡ false) where
     unfolding writeOffRules
     off-unlisted = rules-unlisted (record { holds = ltb 0 (length (gapsOfLetter lent letter .runs)); refusal = NoGap } ∷ [])
 
-    record-unlisted : (key : List ℕ) → firstBroken (recordRules lent letter key) ≡ some ListOf
+    record-unlisted : (item : Item) (key : List ℕ) → firstBroken (recordRules item lent letter key) ≡ some ListOf
     unfolding recordRules
-    record-unlisted key = rules-unlisted (record { holds = isSome (keyPlace (lent .list) letter key); refusal = Contract 0 } ∷ [])
+    record-unlisted item key = rules-unlisted (record { holds = isSome (keyPlace item (lent .lists) letter key); refusal = Contract 0 } ∷ [])
 
     pub listed-unlisted : {cells cells′ : List ℕ} (answer : Listed) → ListedRuns lent letter cells answer cells′ → listedNumbers answer ≡ refusalNumbers ListOf
     listed-unlisted {cells} answer p = p .answers ∙ told-as _ _ (list-unlisted (length cells))
@@ -105,14 +108,15 @@ module _ (lent : Lent) (h : headerSound (lent .list) ≡ false) where
     pub wrote-unlisted : {lent′ : Lent} (answer : WrittenOff) → WroteOffRun lent letter answer lent′ → writtenOffNumbers answer ≡ refusalNumbers ListOf
     wrote-unlisted answer p = p .answers ∙ told-as _ _ off-unlisted
 
-    pub read-unlisted : {key : List ℕ} {level : Level} (reading : Reading) → ReadRecord lent letter key level reading → readingNumbers reading ≡ refusalNumbers ListOf
-    read-unlisted {key} reading p = p .answers ∙ told-as _ _ (record-unlisted key)
+    pub read-unlisted : {A : Type 0} {show : Form → List ℕ → A} {blank quote : A} {item : Item} {key : List ℕ} {level : Level} (answer : Recorded)
+        → ReadsFor show blank item lent letter key level answer quote → recordedNumbers answer ≡ refusalNumbers ListOf
+    read-unlisted {item = item} {key} answer p = p .answers ∙ told-as _ _ (record-unlisted item key)
 
 -- ---- what stands behind the front is neither looked at nor changed
 
 module _ (lent : Lent) (z : List ℕ) (room : most ≤ length (lent .rows)) where
-  abbrev list : List ℕ
-  list = lent .list
+  abbrev lists : Lists
+  lists = lent .lists
 
   abbrev all : Lent
   all = longer z lent
@@ -123,19 +127,19 @@ module _ (lent : Lent) (z : List ℕ) (room : most ≤ length (lent .rows)) wher
     acts-front : batchActs all batch ≡ batchActs lent batch
     unfolding batchActs
     acts-front =
-        heads list (λ h. acts-unlisted all h batch ∙ sym (acts-unlisted lent h batch))
+        heads (lists .contracts) (λ h. acts-unlisted all h batch ∙ sym (acts-unlisted lent h batch))
         (λ header. ap₂ from (state-front lent z room header) (letter-front lent z room header (batchLetter batch)))
       where
         from : List Rule → List ℕ → Acted
         from rules row =
             unlessBroken (firstBroken (rules ++ batchRules batch))
-            (messagesAct (countOf batch) list (batchLetter batch) 0 (record { row = row; records = lent .records; taken = 0; old = 0; heartbeats = 0 }) (batchData batch))
+            (messagesAct (countOf batch) lists (batchLetter batch) 0 (record { row = row; records = lent .records; taken = 0; old = 0; heartbeats = 0 }) (batchData batch))
 
     acted-left : lentAfter all (batchLetter batch) (batchActs lent batch) ≡ longer z (lentAfter lent (batchLetter batch) (batchActs lent batch))
-    acted-left = heads list (λ h. rw (acts-unlisted lent h batch)) (λ header. go header (batchActs lent batch))
+    acted-left = heads (lists .contracts) (λ h. rw (acts-unlisted lent h batch)) (λ header. go header (batchActs lent batch))
       where
-        go : Header list → (acts : Acted) → lentAfter all (batchLetter batch) acts ≡ longer z (lentAfter lent (batchLetter batch) acts)
-        go header (acted box) = ap (λ (rows : List ℕ). lends list rows (box .records)) (with-front lent z room header (batchLetter batch) (box .row))
+        go : Header (lists .contracts) → (acts : Acted) → lentAfter all (batchLetter batch) acts ≡ longer z (lentAfter lent (batchLetter batch) acts)
+        go header (acted box) = ap (λ (rows : List ℕ). lends lists rows (box .records)) (with-front lent z room header (batchLetter batch) (box .row))
         go header (refused refusal) = refl
 
     pub judged-front : (answer : Judged) → JudgedBatch lent batch answer → JudgedBatch all batch answer
@@ -152,18 +156,18 @@ module _ (lent : Lent) (z : List ℕ) (room : most ≤ length (lent .rows)) wher
   module _ (starts : List ℕ) where
     broken-front : startBroken all starts ≡ startBroken lent starts
     unfolding startRules
-    broken-front = heads list (λ h. start-unlisted all h starts ∙ sym (start-unlisted lent h starts)) (λ header. rw (rows-lent lent z room header))
+    broken-front = heads (lists .contracts) (λ h. start-unlisted all h starts ∙ sym (start-unlisted lent h starts)) (λ header. rw (rows-lent lent z room header))
 
-    rows-left : Header list → lentStarted all starts ≡ longer z (lentStarted lent starts)
+    rows-left : Header (lists .contracts) → lentStarted all starts ≡ longer z (lentStarted lent starts)
     unfolding rowsStarted
     rows-left header =
-        ap (λ (rows : List ℕ). lends list rows (recordsCleared list (lent .records)))
-        (ap (λ (l : List ℕ). startedRows (segmentsOf list) starts ++ l) (drop-append-le (gapRowsWanted list) (lent .rows) z (rows-within lent z room header))
-        ∙ sym (append-assoc (startedRows (segmentsOf list) starts) (drop (gapRowsWanted list) (lent .rows)) z))
+        ap (λ (rows : List ℕ). lends lists rows (recordsCleared lists (lent .records)))
+        (ap (λ (l : List ℕ). startedRows (segmentsOf (lists .contracts)) starts ++ l) (drop-append-le (gapRowsWanted lists) (lent .rows) z (rows-within lent z room header))
+        ∙ sym (append-assoc (startedRows (segmentsOf (lists .contracts)) starts) (drop (gapRowsWanted lists) (lent .rows)) z))
 
     started-left : leftBy (startBroken lent starts) all (lentStarted all starts) ≡ longer z (leftBy (startBroken lent starts) lent (lentStarted lent starts))
     started-left =
-        heads list (λ h. rw (start-unlisted lent h starts))
+        heads (lists .contracts) (λ h. rw (start-unlisted lent h starts))
         (λ header. left-longer z (startBroken lent starts) lent (lentStarted lent starts) (lentStarted all starts) (rows-left header))
 
     pub started-front : {lent′ : Lent} (answer : Started) → StartedBox lent starts answer lent′ → StartedBox all starts answer (longer z lent′)
@@ -175,31 +179,31 @@ module _ (lent : Lent) (z : List ℕ) (room : most ≤ length (lent .rows)) wher
   -- the calls for a segment
 
   module _ (letter : ℕ) where
-    rules-front : Header list → segmentRules all letter ≡ segmentRules lent letter
+    rules-front : Header (lists .contracts) → segmentRules all letter ≡ segmentRules lent letter
     unfolding segmentRules
-    rules-front header = ap (λ (rules : List Rule). rules ++ (record { holds = isSome (segmentOf list letter); refusal = Code 0 } ∷ [])) (state-front lent z room header)
+    rules-front header = ap (λ (rules : List Rule). rules ++ (record { holds = isSome (segmentOf (lists .contracts) letter); refusal = Code 0 } ∷ [])) (state-front lent z room header)
 
-    gaps-front : Header list → gapsOfLetter all letter ≡ gapsOfLetter lent letter
+    gaps-front : Header (lists .contracts) → gapsOfLetter all letter ≡ gapsOfLetter lent letter
     unfolding gapsOfLetter
     gaps-front header = rw (letter-front lent z room header letter)
 
-    list-front : Header list → (cells : ℕ) → listRules all letter cells ≡ listRules lent letter cells
+    list-front : Header (lists .contracts) → (cells : ℕ) → listRules all letter cells ≡ listRules lent letter cells
     unfolding listRules
     list-front header cells =
         ap₂ (λ (rules : List Rule) (gaps : Gaps). rules ++ (record { holds = leb (wanted (gaps .runs)) cells; refusal = Memory (wanted (gaps .runs)) } ∷ []))
         (rules-front header) (gaps-front header)
 
-    off-front : Header list → writeOffRules all letter ≡ writeOffRules lent letter
+    off-front : Header (lists .contracts) → writeOffRules all letter ≡ writeOffRules lent letter
     unfolding writeOffRules
     off-front header = ap₂ (λ (rules : List Rule) (gaps : Gaps). rules ++ (record { holds = ltb 0 (length (gaps .runs)); refusal = NoGap } ∷ [])) (rules-front header) (gaps-front header)
 
-    record-front : Header list → (key : List ℕ) → recordRules all letter key ≡ recordRules lent letter key
+    record-front : Header (lists .contracts) → (item : Item) (key : List ℕ) → recordRules item all letter key ≡ recordRules item lent letter key
     unfolding recordRules
-    record-front header key = ap (λ (rules : List Rule). rules ++ (record { holds = isSome (keyPlace list letter key); refusal = Contract 0 } ∷ [])) (rules-front header)
+    record-front header item key = ap (λ (rules : List Rule). rules ++ (record { holds = isSome (keyPlace item lists letter key); refusal = Contract 0 } ∷ [])) (rules-front header)
 
     pub listed-front : {cells cells′ : List ℕ} (answer : Listed) → ListedRuns lent letter cells answer cells′ → ListedRuns all letter cells answer cells′
     listed-front {cells} answer p =
-        heads list
+        heads (lists .contracts)
         (λ h. record {
           answers = listed-unlisted lent h letter answer p ∙ sym (told-as _ _ (list-unlisted all h letter (length cells)));
           cells-left = p .cells-left ∙ left-as _ cells _ (list-unlisted lent h letter (length cells)) ∙ sym (left-as _ cells _ (list-unlisted all h letter (length cells)));
@@ -209,25 +213,26 @@ module _ (lent : Lent) (z : List ℕ) (room : most ≤ length (lent .rows)) wher
           cells-left = p .cells-left ∙ ap₂ (λ (rules : List Rule) (gaps : Gaps). leftBy (firstBroken rules) cells (runsPut gaps cells)) (sym (list-front header (length cells))) (sym (gaps-front header));
         })
 
-    pub read-front : {key : List ℕ} {level : Level} (reading : Reading) → ReadRecord lent letter key level reading → ReadRecord all letter key level reading
-    read-front {key} {level} reading p =
-        let same : firstBroken (recordRules lent letter key) ≡ firstBroken (recordRules all letter key) =
-        heads list (λ h. record-unlisted lent h letter key ∙ sym (record-unlisted all h letter key)) (λ header. ap firstBroken (sym (record-front header key))) in
+    pub read-front : {A : Type 0} {show : Form → List ℕ → A} {blank quote : A} {item : Item} {key : List ℕ} {level : Level} (answer : Recorded)
+        → ReadsFor show blank item lent letter key level answer quote → ReadsFor show blank item all letter key level answer quote
+    read-front {show = show} {blank} {item = item} {key} {level} answer p =
+        let same : firstBroken (recordRules item lent letter key) ≡ firstBroken (recordRules item all letter key) =
+        heads (lists .contracts) (λ h. record-unlisted lent h letter item key ∙ sym (record-unlisted all h letter item key)) (λ header. ap firstBroken (sym (record-front header item key))) in
         record {
-          answers = p .answers ∙ ap (λ (o : Option Refusal). answered o (recordValues (recordNumber (lent .records) (recordOfKey list letter key level)))) same;
-          quotes = p .quotes ∙ ap (λ (o : Option Refusal). quoteBeside o (quoteAt (lent .records) (recordOfKey list letter key level) level)) same;
+          answers = p .answers ∙ ap (λ (o : Option Refusal). answered o (recordValues (recordNumber (lent .records) (recordOfKey item lists letter key level)))) same;
+          quotes = p .quotes ∙ ap (λ (o : Option Refusal). quoteBeside blank o (quoteAt show blank item (lent .records) (recordOfKey item lists letter key level) level)) same;
         }
 
-    off-left : Header list → lentWrittenOff all letter ≡ longer z (lentWrittenOff lent letter)
+    off-left : Header (lists .contracts) → lentWrittenOff all letter ≡ longer z (lentWrittenOff lent letter)
     unfolding lentWrittenOff
     off-left header =
-        ap (λ (rows : List ℕ). lends list rows (lent .records))
-        (ap₂ (λ (row : List ℕ) (gaps : Gaps). withGapRowOfLetter list letter (lent .rows ++ z) (laid row (wroteOff gaps))) (letter-front lent z room header letter) (gaps-front header)
-        ∙ with-front lent z room header letter (laid (gapRowOfLetter list letter (lent .rows)) (wroteOff (gapsOfLetter lent letter))))
+        ap (λ (rows : List ℕ). lends lists rows (lent .records))
+        (ap₂ (λ (row : List ℕ) (gaps : Gaps). withGapRowOfLetter lists letter (lent .rows ++ z) (laid row (wroteOff gaps))) (letter-front lent z room header letter) (gaps-front header)
+        ∙ with-front lent z room header letter (laid (gapRowOfLetter lists letter (lent .rows)) (wroteOff (gapsOfLetter lent letter))))
 
     pub wrote-front : {lent′ : Lent} (answer : WrittenOff) → WroteOffRun lent letter answer lent′ → WroteOffRun all letter answer (longer z lent′)
     wrote-front answer p =
-        heads list
+        heads (lists .contracts)
         (λ h. record {
           answers = wrote-unlisted lent h letter answer p ∙ sym (told-as _ _ (off-unlisted all h letter));
           left = ap (longer z) (p .left ∙ left-as _ lent _ (off-unlisted lent h letter)) ∙ sym (left-as _ all _ (off-unlisted all h letter));

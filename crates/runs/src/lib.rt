@@ -9,6 +9,7 @@ mod run;
 pub use calls::judge;
 pub use calls::list_gaps;
 pub use calls::read_record;
+pub use calls::read_spread;
 pub use calls::start;
 pub use calls::take;
 pub use calls::write_off;

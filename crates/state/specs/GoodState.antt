@@ -5,7 +5,7 @@ use mathlib.Core.Bool.{true}
 use mathlib.Core.List.{List}
 use lib.ListN.{length}
 use Rattle.contracts.specs.File.{segmentsOf}
-use Rattle.contracts.specs.Sound.{Header}
+use Rattle.pairs.specs.Lists.{Headers}
 use Rattle.sequence.specs.RowLaid.{soundGapRow}
 use Rattle.state.specs.Memory.{Lent, gapRowsWanted, gapRowOf}
 use Rattle.state.specs.Slots.{recordsWanted}
@@ -13,9 +13,9 @@ use Rattle.state.specs.Slots.{recordsWanted}
 -- 01, the table's rows 16, 15 and 18: what calls after start are handed is such that none of the three is given
 pub record GoodState (lent : Lent) : Type 0 where
   -- 16
-  pub header : Header (lent .list)
+  pub headers : Headers (lent .lists)
   -- 15
-  pub rows-lent : gapRowsWanted (lent .list) ≤ length (lent .rows)
-  pub records-lent : recordsWanted (lent .list) ≤ length (lent .records)
+  pub rows-lent : gapRowsWanted (lent .lists) ≤ length (lent .rows)
+  pub records-lent : recordsWanted (lent .lists) ≤ length (lent .records)
   -- 18
-  pub rows-sound : (i : ℕ) → i < segmentsOf (lent .list) → soundGapRow (gapRowOf (lent .rows) i) ≡ true
+  pub rows-sound : (i : ℕ) → i < segmentsOf (lent .lists .contracts) → soundGapRow (gapRowOf (lent .rows) i) ≡ true

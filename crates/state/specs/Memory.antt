@@ -1,29 +1,30 @@
--- Lent memory: the contract list, gap rows of 132 numbers a listed segment, and records (`Slots`); all in list order.
+-- Lent memory: the lists, gap rows of 132 numbers a listed segment, and records (`Slots`); all in list order.
 use Prim.Native.Nat.{ℕ, _*_}
 use mathlib.Core.List.{List, []}
 use mathlib.Core.Option.{Option, none, some}
 use lib.ListN.{take, drop}
 use Rattle.contracts.specs.File.{segmentsOf}
 use Rattle.contracts.specs.Lookup.{segmentOf}
+use Rattle.pairs.specs.Lists.{Lists}
 use Rattle.sequence.specs.Row.{cells}
 
 -- 01 "What may be asked": what a call is lent: "Calls after start are handed the list, gap rows and records again"
 pub record Lent : Type 0 where
-  pub list : List ℕ
+  pub lists : Lists
   pub rows : List ℕ
   pub records : List ℕ
 
--- lent memory: the three that are lent, as one
-abbrev pub lends : List ℕ → List ℕ → List ℕ → Lent
-lends list rows records = record { list = list; rows = rows; records = records }
+-- lent memory: what is lent, as one
+abbrev pub lends : Lists → List ℕ → List ℕ → Lent
+lends lists rows records = record { lists = lists; rows = rows; records = records }
 
 -- lent memory: the cells of a gap row
 abbrev pub gapRowCells : ℕ
 gapRowCells = cells
 
 -- 01 "What may be asked": the cells wanted for state, "a number that the lists' counts alone fix": of gap rows
-abbrev pub gapRowsWanted : List ℕ → ℕ
-gapRowsWanted list = gapRowCells * segmentsOf list
+abbrev pub gapRowsWanted : Lists → ℕ
+gapRowsWanted lists = gapRowCells * segmentsOf (lists .contracts)
 
 -- lent memory: the gap row of segment i
 abbrev pub gapRowOf : List ℕ → ℕ → List ℕ
@@ -35,5 +36,5 @@ gapRowIn rows none = []
 gapRowIn rows (some segment) = gapRowOf rows segment
 
 -- lent memory: the gap row of the segment that has the letter
-abbrev pub gapRowOfLetter : List ℕ → ℕ → List ℕ → List ℕ
-gapRowOfLetter list letter rows = gapRowIn rows (segmentOf list letter)
+abbrev pub gapRowOfLetter : Lists → ℕ → List ℕ → List ℕ
+gapRowOfLetter lists letter rows = gapRowIn rows (segmentOf (lists .contracts) letter)

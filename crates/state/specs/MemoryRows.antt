@@ -4,6 +4,7 @@ use mathlib.Core.Bool.{Bool}
 use mathlib.Core.List.{List, _++_}
 use mathlib.Core.Option.{Option, none, some}
 use lib.ListN.{take, drop}
+use Rattle.pairs.specs.Lists.{Lists}
 use Rattle.contracts.specs.Below.{allBelow}
 use Rattle.contracts.specs.Lookup.{segmentOf}
 use Rattle.sequence.specs.RowLaid.{soundGapRow}
@@ -23,5 +24,5 @@ withGapRowIn rows row none = rows
 withGapRowIn rows row (some segment) = withGapRow rows segment row
 
 -- lent memory: the gap rows with another row for the segment that has the letter
-abbrev pub withGapRowOfLetter : List ℕ → ℕ → List ℕ → List ℕ → List ℕ
-withGapRowOfLetter list letter rows row = withGapRowIn rows row (segmentOf list letter)
+abbrev pub withGapRowOfLetter : Lists → ℕ → List ℕ → List ℕ → List ℕ
+withGapRowOfLetter lists letter rows row = withGapRowIn rows row (segmentOf (lists .contracts) letter)

@@ -1,43 +1,49 @@
--- Slots: the records that there are, one for each listed contract and level, and how many cells they have.
+-- Slots: the records that there are, one for each listed contract or pair and level, and how many cells they have.
 use Prim.Native.Nat.{ℕ, _+_, _-_, _*_, _<_}
 use mathlib.Core.Path.{_≡_}
 use mathlib.Core.List.{List}
 use mathlib.Core.Option.{Option, none, some}
 use lib.ListN.{drop}
+use Rattle.pairs.specs.Lists.{Lists}
 use Rattle.contracts.specs.File.{segmentsOf, countAt, contractsOf}
 use Rattle.forms.specs.declared.rows.Level.{Level}
 use Rattle.forms.specs.declared.rows.Level.the-variants.{One, Two}
 use Rattle.forms.specs.declared.forms.Subject.{Subject}
-use Rattle.forms.specs.declared.forms.Subject.the-variants.{Nothing, Contract}
+use Rattle.forms.specs.declared.forms.Subject.the-variants.{Nothing, Of}
+use Rattle.forms.specs.declared.forms.Item.{Item}
+use Rattle.forms.specs.declared.forms.Item.the-variants.{Contract, Pair}
+use Rattle.message.specs.Items.{fileOf}
 use Rattle.state.specs.Memory.{Lent, gapRowsWanted}
 
--- 01 "What may be asked": a record's slot: that of a contract, by its segment and its place there, and of a level
+-- 01 "What may be asked", M-100: a record's slot: that of a contract or a pair, by its segment and its place there, and of a level
 pub data Slot : Type 0 where
-  contract : ℕ → ℕ → Level → Slot
+  slot : Item → ℕ → ℕ → Level → Slot
 
--- 01 "What may be asked": a slot of a listed contract
-abbrev pub SlotListed : List ℕ → Slot → Type 0
-SlotListed list (contract i place level) = (i < segmentsOf list) × (place < countAt list i)
+-- 01 "What may be asked", M-100: a slot of what is listed
+abbrev pub SlotListed : Lists → Slot → Type 0
+SlotListed lists (slot item i place level) = (i < segmentsOf (lists .contracts)) × (place < countAt (fileOf item lists) i)
 
--- lent memory: the cells of a contract's record of a level: its number, then a cell a row (`cells-by-rows`)
-abbrev pub levelCells : Level → ℕ
-levelCells One = 15
-levelCells Two = 33
+-- lent memory: the cells of a record of a level: its number, then a cell for each row behind the key (`cells-by-rows`)
+abbrev pub levelCells : Item → Level → ℕ
+levelCells Contract One = 15
+levelCells Contract Two = 33
+levelCells Pair One = 10
+levelCells Pair Two = 28
 
--- lent memory: the cells of a contract's records
-abbrev pub contractCells : ℕ
-contractCells = levelCells One + levelCells Two
+-- lent memory: the cells of a contract's records, and of a pair's
+abbrev pub itemCells : Item → ℕ
+itemCells item = levelCells item One + levelCells item Two
 
 -- 01 "What may be asked": the cells wanted for state, "a number that the lists' counts alone fix": of records
-abbrev pub recordsWanted : List ℕ → ℕ
-recordsWanted list = contractCells * contractsOf list
+abbrev pub recordsWanted : Lists → ℕ
+recordsWanted lists = itemCells Contract * contractsOf (lists .contracts) + itemCells Pair * contractsOf (lists .pairs)
 
 -- 01 "What may be asked": "no call writes past its answer": every cell behind those wanted for state is as it was
 pub record SameBehind (lent lent′ : Lent) : Type 0 where
-  pub rows-behind : drop (gapRowsWanted (lent .list)) (lent′ .rows) ≡ drop (gapRowsWanted (lent .list)) (lent .rows)
-  pub records-behind : drop (recordsWanted (lent .list)) (lent′ .records) ≡ drop (recordsWanted (lent .list)) (lent .records)
+  pub rows-behind : drop (gapRowsWanted (lent .lists)) (lent′ .rows) ≡ drop (gapRowsWanted (lent .lists)) (lent .rows)
+  pub records-behind : drop (recordsWanted (lent .lists)) (lent′ .records) ≡ drop (recordsWanted (lent .lists)) (lent .records)
 
--- 01 "Sequence and gaps": the slot of what a message of segment i tells of, at a place of its list
+-- 01 "Sequence and gaps": the slot of what a message of segment i tells of, at a place of its file
 abbrev pub slotFor : Subject → ℕ → ℕ → Option Slot
 slotFor Nothing i place = none
-slotFor (Contract level) i place = some (contract i place level)
+slotFor (Of item level) i place = some (slot item i place level)

@@ -1,6 +1,6 @@
 -- Laws of the state: the cells wanted, when its checks refuse nothing, and what a good state gives.
 use Prim.Native.Nat.{ℕ, _+_, _*_, _≤_, _<_}
-use mathlib.Core.Path.{_≡_, refl, ap, sym, _∙_}
+use mathlib.Core.Path.{_≡_, refl, ap, ap₂, sym, _∙_}
 use mathlib.Core.Bool.{true, false, true≢false}
 use mathlib.Core.Logic.{_↔_}
 use mathlib.Core.List.{List, [], _∷_, _++_}
@@ -17,6 +17,10 @@ use Rattle.contracts.specs.HeaderLaws.{header-exact}
 use Rattle.contracts.specs.Lookup.{segmentOf}
 use Rattle.contracts.specs.LookupLaws.{segment-has}
 use Rattle.contracts.specs.SoundTests.{headerSound}
+use Rattle.pairs.specs.SpreadTests.{spreadHeaderSound}
+use Rattle.pairs.specs.SpreadLaws.{spread-header-exact}
+use Rattle.forms.specs.declared.forms.Item.the-variants.{Contract, Pair}
+use Rattle.pairs.specs.Lists.{Lists}
 use Rattle.sequence.specs.RowLaid.{soundGapRow}
 use Rattle.message.specs.Tests.{isSome}
 use Rattle.state.specs.declared.refusal.Refusal.{Refusal}
@@ -27,30 +31,37 @@ use Rattle.state.specs.Memory.{Lent, gapRowCells, gapRowsWanted, gapRowO
 use Rattle.state.specs.MemoryRows.{gapRowsSound}
 use Rattle.state.specs.AnswersLaws.{accepted-by, refused-by}
 use Rattle.state.specs.State.{stateRules, memoryRules, segmentRules, segmentValues, Asks}
-use Rattle.state.specs.Slots.{recordsWanted, contractCells}
+use Rattle.state.specs.Slots.{recordsWanted, itemCells}
 use Rattle.state.specs.GoodState.{GoodState}
 
 -- ---- the cells wanted
 
--- 01 "What may be asked": "at most 1,024 a gap row and 2,048 a record": a contract's two records together have no more
-pub cells-few : (gapRowCells ≤ 1024) × (contractCells ≤ 2048)
-cells-few = (omega arith, omega arith)
+-- 01 "What may be asked": "at most 1,024 a gap row and 2,048 a record": the two records of a contract together have no more, nor have a pair's
+pub cells-few : (gapRowCells ≤ 1024) × (itemCells Contract ≤ 2048) × (itemCells Pair ≤ 2048)
+cells-few = (omega arith, omega arith, omega arith)
 
-module _ (list other : List ℕ) (segments : segmentsOf list ≡ segmentsOf other) (counts : (i : ℕ) → i < segmentsOf list → countAt list i ≡ countAt other i) where
-  same-contracts : contractsOf list ≡ contractsOf other
-  same-contracts =
-      before-sum list (segmentsOf list) (omega arith)
-      ∙ sum-same (countAt list) (countAt other) (segmentsOf list) counts
-      ∙ ap (λ (n : ℕ). sumBelow n (countAt other)) segments
-      ∙ sym (before-sum other (segmentsOf other) (omega arith))
+-- the counts of a file alone: of its segments, and of each the keys
+abbrev SameCounts : List ℕ → List ℕ → Type 0
+SameCounts file other = (segmentsOf file ≡ segmentsOf other) × ((i : ℕ) → i < segmentsOf file → countAt file i ≡ countAt other i)
 
-  -- 01 "What may be asked": "a number that the lists' counts alone fix": lists of the same counts want the same
-  pub counts-fix : (gapRowsWanted list ≡ gapRowsWanted other) × (recordsWanted list ≡ recordsWanted other)
-  counts-fix = (ap (λ (n : ℕ). gapRowCells * n) segments, ap (λ (n : ℕ). contractCells * n) same-contracts)
+same-keys : (file other : List ℕ) → SameCounts file other → contractsOf file ≡ contractsOf other
+same-keys file other counts =
+    before-sum file (segmentsOf file) (omega arith)
+    ∙ sum-same (countAt file) (countAt other) (segmentsOf file) (counts .1)
+    ∙ ap (λ (n : ℕ). sumBelow n (countAt other)) (counts .0)
+    ∙ sym (before-sum other (segmentsOf other) (omega arith))
+
+-- 01 "What may be asked": "a number that the lists' counts alone fix": lists of the same counts want the same
+pub counts-fix : (lists other : Lists) → SameCounts (lists .contracts) (other .contracts) → SameCounts (lists .pairs) (other .pairs)
+    → (gapRowsWanted lists ≡ gapRowsWanted other) × (recordsWanted lists ≡ recordsWanted other)
+counts-fix lists other same pairs = (
+  ap (λ (n : ℕ). gapRowCells * n) (same .0),
+  ap₂ (λ (n m : ℕ). itemCells Contract * n + itemCells Pair * m) (same-keys (lists .contracts) (other .contracts) same) (same-keys (lists .pairs) (other .pairs) pairs),
+)
 
 -- 15 in its two places
-pub memory-lent : (list : List ℕ) (rows records : ℕ) → Hold (memoryRules list rows records) → (gapRowsWanted list ≤ rows) × (recordsWanted list ≤ records)
-memory-lent list rows records h = (leb-true (gapRowsWanted list) rows (h .0), leb-true (recordsWanted list) records (h .1 .0))
+pub memory-lent : (lists : Lists) (rows records : ℕ) → Hold (memoryRules lists rows records) → (gapRowsWanted lists ≤ rows) × (recordsWanted lists ≤ records)
+memory-lent lists rows records h = (leb-true (gapRowsWanted lists) rows (h .0), leb-true (recordsWanted lists) records (h .1 .0))
 
 pub is-some : (o : Option ℕ) → isSome o ≡ true → (i : ℕ) × (o ≡ some i)
 is-some none e = absurd (true≢false (sym e))
@@ -62,34 +73,38 @@ one-value (some j) i e = cc
 
 -- a segment that may be asked for
 abbrev pub AskedFor : Lent → ℕ → ℕ → Type 0
-AskedFor lent letter i = (firstBroken (segmentRules lent letter) ≡ none) × (segmentOf (lent .list) letter ≡ some i)
+AskedFor lent letter i = (firstBroken (segmentRules lent letter) ≡ none) × (segmentOf (lent .lists .contracts) letter ≡ some i)
 
 module _ (lent : Lent) where
   abbrev soundness : Rule
-  soundness = record { holds = gapRowsSound (segmentsOf (lent .list)) (lent .rows); refusal = State }
+  soundness = record { holds = gapRowsSound (segmentsOf (lent .lists .contracts)) (lent .rows); refusal = State }
 
   abbrev memory : List Rule
-  memory = memoryRules (lent .list) (length (lent .rows)) (length (lent .records))
+  memory = memoryRules (lent .lists) (length (lent .rows)) (length (lent .records))
 
   abbrev behind : List Rule
   behind = memory ++ (soundness ∷ [])
 
   -- ---- the first broken rule, check by check
 
-  pub list-broken : headerSound (lent .list) ≡ false → firstBroken (stateRules lent) ≡ some ListOf
+  pub list-broken : headerSound (lent .lists .contracts) ≡ false → firstBroken (stateRules lent) ≡ some ListOf
   list-broken h = rw h
 
-  module _ (h : headerSound (lent .list) ≡ true) where
+  pub spreads-broken : headerSound (lent .lists .contracts) ≡ true → spreadHeaderSound (lent .lists .contracts) (lent .lists .pairs) ≡ false
+      → firstBroken (stateRules lent) ≡ some ListOf
+  spreads-broken h s = rw (h, s)
+
+  module _ (h : headerSound (lent .lists .contracts) ≡ true) (s : spreadHeaderSound (lent .lists .contracts) (lent .lists .pairs) ≡ true) where
     header-holds : firstBroken (stateRules lent) ≡ firstBroken behind
-    header-holds = rw h
+    header-holds = rw (h, s)
 
     pub memory-broken : (r : Refusal) → firstBroken memory ≡ some r → firstBroken (stateRules lent) ≡ some r
     memory-broken r e = header-holds ∙ front-broken memory (soundness ∷ []) r e
 
-    pub row-broken : firstBroken memory ≡ none → gapRowsSound (segmentsOf (lent .list)) (lent .rows) ≡ false → firstBroken (stateRules lent) ≡ some State
+    pub row-broken : firstBroken memory ≡ none → gapRowsSound (segmentsOf (lent .lists .contracts)) (lent .rows) ≡ false → firstBroken (stateRules lent) ≡ some State
     row-broken e s = header-holds ∙ last-broken memory soundness e s
 
-    pub state-holds : firstBroken memory ≡ none → gapRowsSound (segmentsOf (lent .list)) (lent .rows) ≡ true → firstBroken (stateRules lent) ≡ none
+    pub state-holds : firstBroken memory ≡ none → gapRowsSound (segmentsOf (lent .lists .contracts)) (lent .rows) ≡ true → firstBroken (stateRules lent) ≡ none
     state-holds e s = header-holds ∙ last-holds memory soundness e s
 
   -- ---- 16, 15 and 18 are not given exactly where the state is good
@@ -97,18 +112,25 @@ module _ (lent : Lent) where
   pub state-exact : Hold (stateRules lent) ↔ GoodState lent
   state-exact = (
     (λ h. record {
-      header = header-exact (lent .list) .0 (h .0);
-      rows-lent = leb-true (gapRowsWanted (lent .list)) (length (lent .rows)) (h .1 .0);
-      records-lent = leb-true (recordsWanted (lent .list)) (length (lent .records)) (h .1 .1 .0);
-      rows-sound = each-passes (λ i. soundGapRow (gapRowOf (lent .rows) i)) (segmentsOf (lent .list)) (h .1 .1 .1 .0);
+      headers =
+          record {
+            contracts-header = header-exact (lent .lists .contracts) .0 (h .0);
+            pairs-header = spread-header-exact (lent .lists .contracts) (lent .lists .pairs) .0 (h .1 .0);
+          };
+      rows-lent = leb-true (gapRowsWanted (lent .lists)) (length (lent .rows)) (h .1 .1 .0);
+      records-lent = leb-true (recordsWanted (lent .lists)) (length (lent .records)) (h .1 .1 .1 .0);
+      rows-sound = each-passes (λ i. soundGapRow (gapRowOf (lent .rows) i)) (segmentsOf (lent .lists .contracts)) (h .1 .1 .1 .1 .0);
     }),
     (λ g. (
-      header-exact (lent .list) .1 (g .header),
+      header-exact (lent .lists .contracts) .1 (g .headers .contracts-header),
       (
-        le-leb (gapRowsWanted (lent .list)) (length (lent .rows)) (g .rows-lent),
+        spread-header-exact (lent .lists .contracts) (lent .lists .pairs) .1 (g .headers .pairs-header),
         (
-          le-leb (recordsWanted (lent .list)) (length (lent .records)) (g .records-lent),
-          (all-pass (λ i. soundGapRow (gapRowOf (lent .rows) i)) (segmentsOf (lent .list)) (g .rows-sound), tt),
+          le-leb (gapRowsWanted (lent .lists)) (length (lent .rows)) (g .rows-lent),
+          (
+            le-leb (recordsWanted (lent .lists)) (length (lent .records)) (g .records-lent),
+            (all-pass (λ i. soundGapRow (gapRowOf (lent .rows) i)) (segmentsOf (lent .lists .contracts)) (g .rows-sound), tt),
+          ),
         ),
       ),
     )),
@@ -124,17 +146,17 @@ module _ (lent : Lent) where
 
   module _ (letter : ℕ) where
     abbrev listed : Rule
-    listed = record { holds = isSome (segmentOf (lent .list) letter); refusal = Code 0 }
+    listed = record { holds = isSome (segmentOf (lent .lists .contracts) letter); refusal = Code 0 }
 
     pub state-broken : (r : Refusal) → firstBroken (stateRules lent) ≡ some r → firstBroken (segmentRules lent letter) ≡ some r
     unfolding segmentRules
     state-broken r e = front-broken (stateRules lent) (listed ∷ []) r e
 
-    pub letter-broken : firstBroken (stateRules lent) ≡ none → segmentOf (lent .list) letter ≡ none → firstBroken (segmentRules lent letter) ≡ some (Code 0)
+    pub letter-broken : firstBroken (stateRules lent) ≡ none → segmentOf (lent .lists .contracts) letter ≡ none → firstBroken (segmentRules lent letter) ≡ some (Code 0)
     unfolding segmentRules
     letter-broken e n = last-broken (stateRules lent) listed e (rw n)
 
-    pub segment-holds : firstBroken (stateRules lent) ≡ none → (i : ℕ) → segmentOf (lent .list) letter ≡ some i → firstBroken (segmentRules lent letter) ≡ none
+    pub segment-holds : firstBroken (stateRules lent) ≡ none → (i : ℕ) → segmentOf (lent .lists .contracts) letter ≡ some i → firstBroken (segmentRules lent letter) ≡ none
     unfolding segmentRules
     segment-holds e i s = last-holds (stateRules lent) listed e (rw s)
 
@@ -142,13 +164,13 @@ module _ (lent : Lent) where
     unfolding segmentRules
     state-held e = is-good (last-held (stateRules lent) listed e .0)
 
-    pub letter-listed : firstBroken (segmentRules lent letter) ≡ none → isSome (segmentOf (lent .list) letter) ≡ true
+    pub letter-listed : firstBroken (segmentRules lent letter) ≡ none → isSome (segmentOf (lent .lists .contracts) letter) ≡ true
     unfolding segmentRules
     letter-listed e = last-held (stateRules lent) listed e .1
 
     -- what is answered of it
 
-    pub asks-segment : firstBroken (segmentRules lent letter) ≡ none → (i : ℕ) → segmentOf (lent .list) letter ≡ some i → Asks lent letter (asked.Segment i)
+    pub asks-segment : firstBroken (segmentRules lent letter) ≡ none → (i : ℕ) → segmentOf (lent .lists .contracts) letter ≡ some i → Asks lent letter (asked.Segment i)
     asks-segment e i s = rw (e, s)
 
     pub asks-refused : (r : Refusal) → firstBroken (segmentRules lent letter) ≡ some r → Asks lent letter (asked.Refused r)
@@ -156,16 +178,16 @@ module _ (lent : Lent) where
 
     pub asked-segment : (i : ℕ) → Asks lent letter (asked.Segment i) → AskedFor lent letter i
     asked-segment i a =
-        let t = accepted-by (firstBroken (segmentRules lent letter)) (segmentValues (segmentOf (lent .list) letter)) (i ∷ []) a in
-        (t .0, one-value (segmentOf (lent .list) letter) i (t .1))
+        let t = accepted-by (firstBroken (segmentRules lent letter)) (segmentValues (segmentOf (lent .lists .contracts) letter)) (i ∷ []) a in
+        (t .0, one-value (segmentOf (lent .lists .contracts) letter) i (t .1))
 
     pub asked-refused : (r : Refusal) → Asks lent letter (asked.Refused r) → firstBroken (segmentRules lent letter) ≡ some r
-    asked-refused r a = refused-by (firstBroken (segmentRules lent letter)) (segmentValues (segmentOf (lent .list) letter)) r a
+    asked-refused r a = refused-by (firstBroken (segmentRules lent letter)) (segmentValues (segmentOf (lent .lists .contracts) letter)) r a
 
     -- the row of a segment that is asked for is there, and sound
-    module _ (e : firstBroken (segmentRules lent letter) ≡ none) (i : ℕ) (s : segmentOf (lent .list) letter ≡ some i) where
-      inside : i < segmentsOf (lent .list)
-      inside = segment-has (lent .list) letter i s .0
+    module _ (e : firstBroken (segmentRules lent letter) ≡ none) (i : ℕ) (s : segmentOf (lent .lists .contracts) letter ≡ some i) where
+      inside : i < segmentsOf (lent .lists .contracts)
+      inside = segment-has (lent .lists .contracts) letter i s .0
 
       pub row-there : gapRowCells * i + gapRowCells ≤ length (lent .rows)
       row-there = let room = state-held e .rows-lent in let h = inside in omega arith

@@ -3,6 +3,7 @@ ghost use mathlib.Core.Path.{_≡_};
 ghost use Prim.Native.Nat.{_*_, _≤_};
 ghost use lib.ListN.{length};
 ghost use Rattle.laws.specs.Rules.{firstBroken};
+ghost use Rattle.pairs.specs.Lists.{lists};
 ghost use Rattle.state.specs.Memory.{lends, gapRowCells};
 ghost use Rattle.state.specs.MemoryRows.{gapRowsSound};
 ghost use Rattle.state.specs.Answers.{checkedNumbers, checkedBy};
@@ -23,14 +24,14 @@ pub enum Asked {
 }
 
 // 15 for gap rows and then for records, by the numbers of cells lent.
-pub fn check_memory(list: &[u8], rows: usize, records: usize) -> Checked
-    ensures { λ r. ⌜ checkedNumbers r ≡ checkedBy (firstBroken (memoryRules (now (list .entry)) rows records)) ⌝ }
+pub fn check_memory(list: &[u8], spreads: &[u8], rows: usize, records: usize) -> Checked
+    ensures { λ r. ⌜ checkedNumbers r ≡ checkedBy (firstBroken (memoryRules (lists (now (list .entry)) (now (spreads .entry))) rows records)) ⌝ }
 {
     let rows_wanted = sequence::CELLS * contracts::segments(list);
     if rows < rows_wanted {
         return Checked::Refused(Refusal::Memory(rows_wanted));
     }
-    let records_wanted = records::RECORD * contracts::all_contracts(list);
+    let records_wanted = records::records_wanted(list, spreads);
     if records < records_wanted {
         return Checked::Refused(Refusal::Memory(records_wanted));
     }
@@ -54,13 +55,16 @@ fn rows_sound(rows: &[u32], segments: usize) -> bool
     true
 }
 
-pub fn check_state(list: &[u8], rows: &[u32], records: &[u64]) -> Checked
-    ensures { λ r. ⌜ checkedNumbers r ≡ checkedBy (firstBroken (stateRules (lends (now (list .entry)) (now (rows .entry)) (now (records .entry))))) ⌝ }
+pub fn check_state(list: &[u8], spreads: &[u8], rows: &[u32], records: &[u64]) -> Checked
+    ensures { λ r. ⌜ checkedNumbers r ≡ checkedBy (firstBroken (stateRules (lends (lists (now (list .entry)) (now (spreads .entry))) (now (rows .entry)) (now (records .entry))))) ⌝ }
 {
     if !contracts::header_sound(list, contracts::CONTRACTS) {
         return Checked::Refused(Refusal::List);
     }
-    match check_memory(list, rows.len(), records.len()) {
+    if !pairs::spread_header_sound(list, spreads) {
+        return Checked::Refused(Refusal::List);
+    }
+    match check_memory(list, spreads, rows.len(), records.len()) {
         Checked::Good => {
             if rows_sound(rows, contracts::segments(list)) {
                 return Checked::Good;
@@ -72,10 +76,16 @@ pub fn check_state(list: &[u8], rows: &[u32], records: &[u64]) -> Checked
 }
 
 // The state, and then the segment of a letter: 6 where it isn't listed.
-pub fn check_segment(list: &[u8], rows: &[u32], records: &[u64], letter: u8) -> Asked
-    ensures { λ r. ⌜ Asks (lends (now (list .entry)) (now (rows .entry)) (now (records .entry))) letter r ⌝ }
+pub fn check_segment(
+    list: &[u8],
+    spreads: &[u8],
+    rows: &[u32],
+    records: &[u64],
+    letter: u8,
+) -> Asked
+    ensures { λ r. ⌜ Asks (lends (lists (now (list .entry)) (now (spreads .entry))) (now (rows .entry)) (now (records .entry))) letter r ⌝ }
 {
-    match check_state(list, rows, records) {
+    match check_state(list, spreads, rows, records) {
         Checked::Good => match contracts::segment_of(list, letter) {
             Found::At(segment) => Asked::Segment(segment),
             Found::Nowhere => Asked::Refused(Refusal::Code(0)),

@@ -1,5 +1,5 @@
 -- The stores of a batch's updates on scratch memory: the words of the inner contracts.
-use Prim.Native.Nat.{ℕ, zero, suc, _+_, _*_, _≤_, _<_}
+use Prim.Native.Nat.{ℕ, zero, suc, _+_, _*_, _^_, _≤_, _<_}
 use mathlib.Core.Path.{_≡_}
 use mathlib.Core.List.{List, _∷_}
 use mathlib.Core.Logic.{_⊎_}
@@ -7,15 +7,18 @@ use lib.ListN.{length, getD, take, drop}
 use lib.Seq.{sets}
 use Rattle.forms.specs.declared.rows.Level.the-variants.{Two}
 use Rattle.forms.specs.declared.forms.Subject.{Subject}
-use Rattle.forms.specs.declared.forms.Subject.the-variants.{Nothing, Contract}
+use Rattle.forms.specs.declared.forms.Subject.the-variants.{Nothing, Of}
+use Rattle.forms.specs.declared.forms.Item.{Item}
+use Rattle.forms.specs.declared.forms.Item.the-variants.{Contract}
 use Rattle.state.specs.Slots.{levelCells}
-use Rattle.state.specs.Places.{recordAt, recordOf}
+use Rattle.state.specs.declared.records.Fronts.{Fronts}
+use Rattle.state.specs.Places.{recordAt, recordOf, frontIn}
 use Rattle.stores.specs.Stored.{stored}
 
--- a word of our own: the cells of a store: its record's place, how many cells the record has, and those of a level 2 record, which
--- has the most
+-- a word of our own: the cells of a store: its record's place, how many cells the record has, and those of a contract's level 2 record,
+-- which has the most
 abbrev pub storeCells : ℕ
-storeCells = 2 + levelCells Two
+storeCells = 2 + levelCells Contract Two
 
 -- a word of our own: store i
 abbrev pub storeOf : List ℕ → ℕ → List ℕ
@@ -36,7 +39,7 @@ made (suc n) stores records = madeOf (storeOf stores n) (made n stores records)
 
 -- a word of our own: a store's record lies within so many cells
 abbrev pub Fits : ℕ → List ℕ → Type 0
-Fits cells kept = (0 < getD kept 1 0) × (getD kept 1 0 ≤ levelCells Two) × (getD kept 0 0 + getD kept 1 0 ≤ cells)
+Fits cells kept = (0 < getD kept 1 0) × (getD kept 1 0 ≤ levelCells Contract Two) × (getD kept 0 0 + getD kept 1 0 ≤ cells)
 
 -- a word of our own: the records of the first so many stores do
 abbrev pub AllFit : ℕ → ℕ → List ℕ → Type 0
@@ -44,7 +47,7 @@ AllFit cells n stores = (i : ℕ) → i < n → Fits cells (storeOf stores i)
 
 -- 01 "The message": the bytes of the shortest update
 abbrev pub leastUpdate : ℕ
-leastUpdate = 249
+leastUpdate = 227
 
 -- a word of our own: so many cells have room for every update that so many bytes can hold
 pub record Room (cells long : ℕ) : Type 0 where
@@ -58,10 +61,15 @@ StoreKept stores kept at number cells kept′ stores′ =
     ((length stores < storeCells * kept + storeCells) × (kept′ ≡ kept) × (stores′ ≡ stores))
     ⊎ ((storeCells * kept + storeCells ≤ length stores) × (kept′ ≡ suc kept) × (stores′ ≡ sets stores (storeCells * kept) (at ∷ suc (length cells) ∷ number ∷ cells)))
 
--- a word of our own: the store of an update of the contract at a place among all, by what it tells of
-abbrev pub KeptFor : Subject → List ℕ → ℕ → ℕ → ℕ → List ℕ → ℕ → List ℕ → Type 0
-KeptFor Nothing stores kept n number cells kept′ stores′ = (kept′ ≡ kept) × (stores′ ≡ stores)
-KeptFor (Contract level) stores kept n number cells kept′ stores′ = StoreKept stores kept (recordAt n level) number (recordOf level cells) kept′ stores′
+-- a word of our own: a usize holds what is added to where records begin
+abbrev pub Near : Fronts → Type 0
+Near fronts = (item : Item) → frontIn fronts item < 2 ^ 40
+
+-- a word of our own: the store of an update of what is listed at a place of its segment, by what it tells of
+abbrev pub KeptFor : Subject → List ℕ → ℕ → Fronts → ℕ → ℕ → List ℕ → ℕ → List ℕ → Type 0
+KeptFor Nothing stores kept fronts place number cells kept′ stores′ = (kept′ ≡ kept) × (stores′ ≡ stores)
+KeptFor (Of item level) stores kept fronts place number cells kept′ stores′ =
+    StoreKept stores kept (recordAt item (frontIn fronts item) place level) number (recordOf item level cells) kept′ stores′
 
 -- a word of our own: what a message of so many bytes changes of the records, the stores kept after it make, where an update has
 -- room

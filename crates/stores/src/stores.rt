@@ -5,14 +5,16 @@ ghost use lib.ListN.{length};
 ghost use lib.Seq.{sets};
 ghost use Rattle.forms.specs.Forms.{subjectOf};
 ghost use Rattle.forms.specs.Sizes.{mostRows};
-ghost use Rattle.state.specs.Places.{recordOf, recordAt};
-ghost use Rattle.stores.specs.Stores.{storeCells, StoreKept, KeptFor, Fits, AllFit, storedAt, madeOf, made};
+ghost use Rattle.state.specs.Places.{recordOf};
+ghost use Rattle.stores.specs.Stores.{storeCells, StoreKept, Near, KeptFor, Fits, AllFit, storedAt, madeOf, made};
 use layout::Form;
+use layout::Item;
 use layout::Level;
 use layout::Subject;
+use state::Fronts;
 
 // The cells of a store: its record's place, how many cells the record has, and those: the number, then at most 32 rows.
-pub const STORE: usize = 2 + state::LEVEL_TWO;
+pub const STORE: usize = 2 + state::CONTRACT_TWO;
 
 fn put(cells: &mut [u64], at: usize, part: &[u64])
     requires { ⌜ at + length (now part) ≤ length (now cells) ⌝ }
@@ -29,42 +31,48 @@ fn put(cells: &mut [u64], at: usize, part: &[u64])
 fn keep(
     stores: &mut [u64],
     kept: usize,
-    contract: usize,
+    slot: usize,
+    item: Item,
     level: Level,
     number: u32,
     cells: &[u64],
 ) -> usize
-    requires { ⌜ (storeCells * kept ≤ length (now stores)) × (contract < 65536) × (length (now cells) ≡ mostRows) ⌝ }
-    ensures { λ r. ⌜ StoreKept (now (stores .entry)) kept (recordAt contract level) number (recordOf level (now (cells .entry))) r (now (stores .exit)) ⌝ }
+    requires { ⌜ (storeCells * kept ≤ length (now stores)) × (length (now cells) ≡ mostRows) ⌝ }
+    ensures { λ r. ⌜ StoreKept (now (stores .entry)) kept slot number (recordOf item level (now (cells .entry))) r (now (stores .exit)) ⌝ }
 {
     let at = STORE * kept;
     if stores.len() - at < STORE {
         return kept;
     }
-    let rows = state::record_rows(level);
-    let end = layout::KEY_ROWS + rows;
-    stores[at] = state::record_at(contract, level) as u64;
+    let rows = state::record_rows(item, level);
+    let first = layout::key_rows_of(item);
+    let end = first + rows;
+    stores[at] = slot as u64;
     stores[at + 1] = rows as u64 + 1;
     stores[at + 2] = number as u64;
-    put(stores, at + 3, &cells[layout::KEY_ROWS..end]);
+    put(stores, at + 3, &cells[first..end]);
     kept + 1
 }
 
-// By what the update tells of.
+// By what the update tells of: the records of its segment begin at `fronts`.
 pub fn keep_update(
     stores: &mut [u64],
     kept: usize,
-    contract: usize,
+    fronts: Fronts,
+    place: usize,
     form: Form,
     number: u32,
     cells: &[u64],
 ) -> usize
-    requires { ⌜ (storeCells * kept ≤ length (now stores)) × (contract < 65536) × (length (now cells) ≡ mostRows) ⌝ }
-    ensures { λ r. ⌜ KeptFor (subjectOf form) (now (stores .entry)) kept contract number (now (cells .entry)) r (now (stores .exit)) ⌝ }
+    requires { ⌜ (storeCells * kept ≤ length (now stores)) × Near fronts × (place < 65536) × (length (now cells) ≡ mostRows) ⌝ }
+    ensures { λ r. ⌜ KeptFor (subjectOf form) (now (stores .entry)) kept fronts place number (now (cells .entry)) r (now (stores .exit)) ⌝ }
 {
     match layout::subject_of(form) {
         Subject::Nothing => kept,
-        Subject::Contract(level) => keep(stores, kept, contract, level, number, cells),
+        Subject::Of(item, level) => {
+            let slot = state::record_at(fronts, item, place, level);
+            keep(stores, kept, slot, item, level, number, cells)
+        }
     }
 }
 

@@ -5,9 +5,8 @@ use mathlib.Core.Bool.{Bool, true, false}
 use mathlib.Core.List.{List, [], _∷_}
 use mathlib.Core.Option.{Option, some}
 use lib.ListN.{length}
-use Rattle.contracts.specs.File.{contractsBefore}
 use Rattle.contracts.specs.Lookup.{segmentOf}
-use Rattle.contracts.specs.Sound.{Header}
+use Rattle.pairs.specs.Lists.{Lists, Headers}
 use Rattle.sequence.specs.RowLaid.{soundGapRow}
 use Rattle.message.specs.Fields.{lengthOf}
 use Rattle.turns.specs.declared.act.Act.{Act}
@@ -20,6 +19,8 @@ use Rattle.state.specs.Answers.{judgedNumbers}
 use Rattle.state.specs.Refusals.{refusalNumbers}
 use Rattle.turns.specs.Turns.{Box, Acted, acted, refused, numberActs, messageActs, messagesAct, actedNumbers}
 use Rattle.state.specs.Slots.{recordsWanted}
+use Rattle.state.specs.declared.records.Fronts.{Fronts}
+use Rattle.state.specs.Places.{FrontsOf}
 use Rattle.stores.specs.Stores.{storeCells, made, AllFit, Room, Keeps}
 
 -- 01 "What may be asked": what becomes of a message, as one of those taken, old and heartbeats; or its refusal
@@ -77,42 +78,42 @@ pub record NumberActs (row : List ℕ) (i number : ℕ) (act : Act) (row′ : Li
       → numberActs (boxAt row records counts) i number changed ≡ actedAs act (boxAt row′ (changedBy act changed records) (counted act counts))
   pub sound : soundGapRow row′ ≡ true
 
--- a word of our own: so many contracts stand in front of a segment, where there is one
-abbrev pub InFront : List ℕ → Option ℕ → ℕ → Type 0
-InFront list segment before = (i : ℕ) → segment ≡ some i → before ≡ contractsBefore list i
+-- a word of our own: where the records of a segment begin, where there is one
+abbrev pub InFront : Lists → Option ℕ → Fronts → Type 0
+InFront lists segment fronts = (i : ℕ) → segment ≡ some i → FrontsOf lists i fronts
 
--- a word of our own: the list, a letter's contracts, a gap row and scratch memory for stores, of which some are kept
-pub record Ready (list : List ℕ) (letter : ℕ) (segment : Option ℕ) (before : ℕ) (row stores : List ℕ) (kept : ℕ) : Type 0 where
-  pub header : Header list
-  pub segment-is : segment ≡ segmentOf list letter
-  pub before-is : InFront list (segmentOf list letter) before
+-- a word of our own: the lists, where a letter's records begin, a gap row and scratch memory for stores, of which some are kept
+pub record Ready (lists : Lists) (letter : ℕ) (segment : Option ℕ) (fronts : Fronts) (row stores : List ℕ) (kept : ℕ) : Type 0 where
+  pub headers : Headers lists
+  pub segment-is : segment ≡ segmentOf (lists .contracts) letter
+  pub fronts-are : InFront lists (segmentOf (lists .contracts) letter) fronts
   pub sound : soundGapRow row ≡ true
   pub within : storeCells * kept ≤ length stores
 
 -- a word of our own: message i acts, whatever the records and counts are
-pub record MessageActs (list : List ℕ) (letter : ℕ) (row stores : List ℕ) (kept i : ℕ) (bytes : List ℕ) (step : Step) (row′ stores′ : List ℕ) : Type 0 where
-  pub says : (records : List ℕ) → actNumbers (step .act) ≡ actedNumbers (messageActs list letter (boxAt row records none) i bytes)
+pub record MessageActs (lists : Lists) (letter : ℕ) (row stores : List ℕ) (kept i : ℕ) (bytes : List ℕ) (step : Step) (row′ stores′ : List ℕ) : Type 0 where
+  pub says : (records : List ℕ) → actNumbers (step .act) ≡ actedNumbers (messageActs lists letter (boxAt row records none) i bytes)
   pub changes : List ℕ → List ℕ
   pub acts : (records : List ℕ) (counts : Counts)
-      → messageActs list letter (boxAt row records counts) i bytes ≡ actedAs (step .act) (boxAt row′ (changes records) (counted (step .act) counts))
+      → messageActs lists letter (boxAt row records counts) i bytes ≡ actedAs (step .act) (boxAt row′ (changes records) (counted (step .act) counts))
   pub sound : soundGapRow row′ ≡ true
   pub length-is : step .length ≡ lengthOf bytes
   pub inside : passed (step .act) ≡ true → step .length ≤ length bytes
-  pub keeps : Keeps (recordsWanted list) (step .length) stores kept changes (step .kept) stores′
+  pub keeps : Keeps (recordsWanted lists) (step .length) stores kept changes (step .kept) stores′
 
 -- a word of our own: a box that so many messages leave: its row, and its records as the stores make them
-pub record Left (list : List ℕ) (room : Type 0) (records : List ℕ) (box : Box) (kept : ℕ) (row′ stores′ : List ℕ) : Type 0 where
+pub record Left (lists : Lists) (room : Type 0) (records : List ℕ) (box : Box) (kept : ℕ) (row′ stores′ : List ℕ) : Type 0 where
   pub row-is : box .row ≡ row′
   pub sound : soundGapRow row′ ≡ true
   pub records-are : room → box .records ≡ made kept stores′ records
-  pub fit : AllFit (recordsWanted list) kept stores′
+  pub fit : AllFit (recordsWanted lists) kept stores′
   pub within : storeCells * kept ≤ length stores′
 
 -- a word of our own: so many messages are judged, whatever the records are
-pub record JudgedMessages (list : List ℕ) (letter : ℕ) (row : List ℕ) (cells : ℕ) (bytes : List ℕ) (count : ℕ) (turn : InTurn) (row′ stores′ : List ℕ) : Type 0 where
-  pub answers : (records : List ℕ) → judgedNumbers (turn .answer) ≡ actedNumbers (messagesAct count list letter 0 (boxAt row records none) bytes)
-  pub leaves : (records : List ℕ) (box : Box) → messagesAct count list letter 0 (boxAt row records none) bytes ≡ acted box
-      → Left list (Room cells (length bytes)) records box (turn .kept) row′ stores′
+pub record JudgedMessages (lists : Lists) (letter : ℕ) (row : List ℕ) (cells : ℕ) (bytes : List ℕ) (count : ℕ) (turn : InTurn) (row′ stores′ : List ℕ) : Type 0 where
+  pub answers : (records : List ℕ) → judgedNumbers (turn .answer) ≡ actedNumbers (messagesAct count lists letter 0 (boxAt row records none) bytes)
+  pub leaves : (records : List ℕ) (box : Box) → messagesAct count lists letter 0 (boxAt row records none) bytes ≡ acted box
+      → Left lists (Room cells (length bytes)) records box (turn .kept) row′ stores′
 
 -- a word of our own: what the messages are answered, and how many stores are kept
 pub record Turned (answer : Judged) (kept : ℕ) (turn : InTurn) : Type 0 where

@@ -4,6 +4,7 @@ use mathlib.Core.Path.{_≡_, refl, ap, sym, _∙_}
 use mathlib.Core.Bool.{true, false≢true}
 use mathlib.Core.List.{List}
 use lib.ListN.{length}
+use Rattle.pairs.specs.Lists.{Lists}
 use Rattle.sequence.specs.declared.Taken.{Taken}
 use Rattle.sequence.specs.Changes.{after}
 use Rattle.sequence.specs.GapsLaws.{took-taken, took-old, taken-exactly, old-exactly, full-exactly}
@@ -56,27 +57,27 @@ module _ (row row′ : List ℕ) (i number : ℕ) (sound : soundGapRow row ≡ t
       record { says = λ changed records. simp (e .0, e .1); acts = λ changed records counts. simp (e .0, e .1); sound = took-row sound t }
 
 -- what a message is decides what it does
-module _ (list : List ℕ) (letter : ℕ) (bytes : List ℕ) (message : Message) (is : message ≡ messageOf list letter bytes) {w : What} (e : message .what ≡ w) where
-  what-is : messageOf list letter bytes .what ≡ w
+module _ (lists : Lists) (letter : ℕ) (bytes : List ℕ) (message : Message) (is : message ≡ messageOf lists letter bytes) {w : What} (e : message .what ≡ w) where
+  what-is : messageOf lists letter bytes .what ≡ w
   what-is = ap (λ (m : Message). m .what) (sym is) ∙ e
 
-  pub acts-as : (box : Box) (i : ℕ) → messageActs list letter box i bytes ≡ whatActs list letter box i w (message .cells)
+  pub acts-as : (box : Box) (i : ℕ) → messageActs lists letter box i bytes ≡ whatActs lists letter box i w (message .cells)
   unfolding messageActs
   acts-as box i = rw (what-is, is)
 
   whole : message .length ≡ lengthOf bytes
-  whole = ap (λ (m : Message). m .length) is ∙ length-is list letter bytes
+  whole = ap (λ (m : Message). m .length) is ∙ length-is lists letter bytes
 
   inside : verdictOf w ≡ Good → message .length ≤ length bytes
-  inside g = rw is (all-there list letter bytes (ap verdictOf what-is ∙ g))
+  inside g = rw is (all-there lists letter bytes (ap verdictOf what-is ∙ g))
 
   module _ (row stores : List ℕ) (kept i : ℕ) where
     -- a message that is numbered
     pub numbered : (a : Act) (number : ℕ) (changed : List ℕ → List ℕ) → verdictOf w ≡ Good
-        → ((box : Box) → whatActs list letter box i w (message .cells) ≡ numberActs box i number changed)
+        → ((box : Box) → whatActs lists letter box i w (message .cells) ≡ numberActs box i number changed)
         → (row′ : List ℕ) → NumberActs row i number a row′
-        → (kept′ : ℕ) (stores′ : List ℕ) → Keeps (recordsWanted list) (message .length) stores kept (changedBy a changed) kept′ stores′
-        → MessageActs list letter row stores kept i bytes (record { act = a; length = message .length; kept = kept′ }) row′ stores′
+        → (kept′ : ℕ) (stores′ : List ℕ) → Keeps (recordsWanted lists) (message .length) stores kept (changedBy a changed) kept′ stores′
+        → MessageActs lists letter row stores kept i bytes (record { act = a; length = message .length; kept = kept′ }) row′ stores′
     numbered a number changed g by row′ n kept′ stores′ k =
         record {
           says = λ records. n .says changed records ∙ ap actedNumbers (sym (acts-as (boxAt row records none) i ∙ by (boxAt row records none)));
@@ -89,10 +90,10 @@ module _ (list : List ℕ) (letter : ℕ) (bytes : List ℕ) (message : Message)
         }
 
     module _ (sound : soundGapRow row ≡ true) (within : storeCells * kept ≤ length stores) where
-      none-changed : Keeps (recordsWanted list) (message .length) stores kept (λ records. records) kept stores
-      none-changed = none-kept (recordsWanted list) (message .length) stores kept within (λ records. records) (λ records. refl)
+      none-changed : Keeps (recordsWanted lists) (message .length) stores kept (λ records. records) kept stores
+      none-changed = none-kept (recordsWanted lists) (message .length) stores kept within (λ records. records) (λ records. refl)
 
-      pub heartbeat-acts : w ≡ what.Heartbeat → MessageActs list letter row stores kept i bytes (record { act = act.Heartbeat; length = message .length; kept = kept }) row stores
+      pub heartbeat-acts : w ≡ what.Heartbeat → MessageActs lists letter row stores kept i bytes (record { act = act.Heartbeat; length = message .length; kept = kept }) row stores
       heartbeat-acts h =
           record {
             says = λ records. rw (acts-as (boxAt row records none) i, h);
@@ -105,7 +106,7 @@ module _ (list : List ℕ) (letter : ℕ) (bytes : List ℕ) (message : Message)
           }
 
       pub bad-acts : (fault : Fault) → w ≡ what.Bad fault → (refusal : Refusal) → refusalNumbers refusal ≡ inMessage i (faultNumbers fault)
-          → MessageActs list letter row stores kept i bytes (record { act = act.Refused refusal; length = message .length; kept = kept }) row stores
+          → MessageActs lists letter row stores kept i bytes (record { act = act.Refused refusal; length = message .length; kept = kept }) row stores
       bad-acts fault h refusal f =
           record {
             says = λ records. rw (acts-as (boxAt row records none) i, h) (f ∙ sym (fault-numbers fault i));

@@ -8,6 +8,7 @@ use native.Mathlib.Omega.{arith}
 use borrow.Author.Tests.{eq-eqb, ne-eqb}
 use lib.ListN.{length, drop, take, length-drop}
 use lib.Seq.{drop-drop, take-all}
+use Rattle.pairs.specs.Lists.{Lists}
 use Rattle.sequence.specs.RowLaid.{soundGapRow}
 use Rattle.message.specs.Fields.{lengthOf}
 use Rattle.turns.specs.declared.act.Act.{Act}
@@ -35,24 +36,24 @@ turned-told {answer} {turn = turn} t = λ i. record { answer = judged-told (turn
 pub not-both : {refusal : Refusal} {box : Box} → refused refusal ≡ acted box → ⊥
 not-both e = let z : _≡_ {A = ℕ} 0 1 = cc in omega arith
 
-module _ (list : List ℕ) (letter : ℕ) where
+module _ (lists : Lists) (letter : ℕ) where
   module _ (more i : ℕ) (box : Box) (bytes : List ℕ) where
-    pub messages-next : (box′ : Box) → messageActs list letter box i bytes ≡ acted box′
-        → messagesAct (suc more) list letter i box bytes ≡ messagesAct more list letter (suc i) box′ (drop (lengthOf bytes) bytes)
+    pub messages-next : (box′ : Box) → messageActs lists letter box i bytes ≡ acted box′
+        → messagesAct (suc more) lists letter i box bytes ≡ messagesAct more lists letter (suc i) box′ (drop (lengthOf bytes) bytes)
     unfolding messagesAct
     messages-next box′ e = rw e
 
-    pub messages-refused : (refusal : Refusal) → messageActs list letter box i bytes ≡ refused refusal
-        → messagesAct (suc more) list letter i box bytes ≡ refused refusal
+    pub messages-refused : (refusal : Refusal) → messageActs lists letter box i bytes ≡ refused refusal
+        → messagesAct (suc more) lists letter i box bytes ≡ refused refusal
     unfolding messagesAct
     messages-refused refusal e = rw e
 
   module _ (i : ℕ) (box : Box) (bytes : List ℕ) where
-    pub messages-end : length bytes ≡ 0 → messagesAct 0 list letter i box bytes ≡ acted box
+    pub messages-end : length bytes ≡ 0 → messagesAct 0 lists letter i box bytes ≡ acted box
     unfolding messagesAct
     messages-end e = rw (eq-eqb (length bytes) 0 e)
 
-    pub messages-over : 0 < length bytes → messagesAct 0 list letter i box bytes ≡ refused Count
+    pub messages-over : 0 < length bytes → messagesAct 0 lists letter i box bytes ≡ refused Count
     unfolding messagesAct
     messages-over h = rw (ne-eqb (length bytes) 0 (λ e. omega arith))
 
@@ -74,21 +75,21 @@ counted-one (Refused refusal) counts e = absurd (false≢true e)
 pub rest-is : (bytes : List ℕ) (at : ℕ) → at ≤ length bytes → take (length bytes - at) (drop at bytes) ≡ drop at bytes
 rest-is bytes at h = take-all (length bytes - at) (drop at bytes) (omega (arith, length-drop at bytes))
 
-module _ (list : List ℕ) (letter : ℕ) (row₀ : List ℕ) (cells : ℕ) (bytes : List ℕ) (count : ℕ) where
+module _ (lists : Lists) (letter : ℕ) (row₀ : List ℕ) (cells : ℕ) (bytes : List ℕ) (count : ℕ) where
   abbrev acts : List ℕ → Acted
-  acts records = messagesAct count list letter 0 (boxAt row₀ records none) bytes
+  acts records = messagesAct count lists letter 0 (boxAt row₀ records none) bytes
 
   -- all messages before message i have passed, and left this row, these stores and these counts
   pub record Going (row stores : List ℕ) (kept : ℕ) (counts : Counts) (at i : ℕ) : Type 0 where
     pub changes : List ℕ → List ℕ
-    pub so-far : (records : List ℕ) → acts records ≡ messagesAct (count - i) list letter i (boxAt row (changes records) counts) (drop at bytes)
+    pub so-far : (records : List ℕ) → acts records ≡ messagesAct (count - i) lists letter i (boxAt row (changes records) counts) (drop at bytes)
     pub makes : Room cells (length bytes) → (records : List ℕ) → made kept stores records ≡ changes records
-    pub fit : AllFit (recordsWanted list) kept stores
+    pub fit : AllFit (recordsWanted lists) kept stores
     pub few : leastUpdate * kept ≤ at
     pub within : storeCells * kept ≤ cells
 
   -- a refused batch leaves no box
-  refused-judged : (refusal : Refusal) (row″ stores″ : List ℕ) → ((records : List ℕ) → acts records ≡ refused refusal) → JudgedMessages list letter row₀ cells bytes count (turnOf (judged.Refused refusal) 0) row″ stores″
+  refused-judged : (refusal : Refusal) (row″ stores″ : List ℕ) → ((records : List ℕ) → acts records ≡ refused refusal) → JudgedMessages lists letter row₀ cells bytes count (turnOf (judged.Refused refusal) 0) row″ stores″
   refused-judged refusal row″ stores″ e =
       record { answers = λ records. sym (ap actedNumbers (e records)); leaves = λ records box f. absurd (not-both (sym (e records) ∙ f)) }
 
@@ -97,7 +98,7 @@ module _ (list : List ℕ) (letter : ℕ) (row₀ : List ℕ) (cells : ℕ) (byt
       let e : count ≡ count - 0 = omega arith in
       record {
         changes = λ records. records;
-        so-far = λ records. ap (λ (n : ℕ). messagesAct n list letter 0 (boxAt row₀ records none) bytes) e;
+        so-far = λ records. ap (λ (n : ℕ). messagesAct n lists letter 0 (boxAt row₀ records none) bytes) e;
         makes = λ room records. refl;
         fit = λ i h. absurd (omega arith);
         few = omega arith;
@@ -105,11 +106,11 @@ module _ (list : List ℕ) (letter : ℕ) (row₀ : List ℕ) (cells : ℕ) (byt
       }
 
   module _ (row stores : List ℕ) (kept : ℕ) (counts : Counts) (at i : ℕ) (going : Going row stores kept counts at i) where
-    module _ (h : i < count) (step : Step) (row′ stores′ : List ℕ) (m : MessageActs list letter row stores kept i (drop at bytes) step row′ stores′) where
-      turn : (records : List ℕ) → acts records ≡ messagesAct (suc (count - (i + 1))) list letter i (boxAt row (going .changes records) counts) (drop at bytes)
+    module _ (h : i < count) (step : Step) (row′ stores′ : List ℕ) (m : MessageActs lists letter row stores kept i (drop at bytes) step row′ stores′) where
+      turn : (records : List ℕ) → acts records ≡ messagesAct (suc (count - (i + 1))) lists letter i (boxAt row (going .changes records) counts) (drop at bytes)
       turn records =
           let one-left : count - i ≡ suc (count - (i + 1)) = omega arith in
-          going .so-far records ∙ ap (λ (n : ℕ). messagesAct n list letter i (boxAt row (going .changes records) counts) (drop at bytes)) one-left
+          going .so-far records ∙ ap (λ (n : ℕ). messagesAct n lists letter i (boxAt row (going .changes records) counts) (drop at bytes)) one-left
 
       module _ (lent : length stores ≡ cells) (p : passed (step .act) ≡ true) (fits : at + step .length ≤ length bytes) where
         -- the bytes that are left show that an update has room
@@ -122,7 +123,7 @@ module _ (list : List ℕ) (letter : ℕ) (row₀ : List ℕ) (cells : ℕ) (byt
               changes = λ records. m .changes (going .changes records);
               so-far = λ records.
                   turn records
-                  ∙ messages-next list letter (count - (i + 1)) i (boxAt row (going .changes records) counts) (drop at bytes) _ (m .acts (going .changes records) counts ∙ passed-acts (step .act) _ p)
+                  ∙ messages-next lists letter (count - (i + 1)) i (boxAt row (going .changes records) counts) (drop at bytes) _ (m .acts (going .changes records) counts ∙ passed-acts (step .act) _ p)
                   ∙ rw (add-one i, m .length-is, drop-drop (lengthOf (drop at bytes)) at bytes);
               makes = λ room records. m .keeps .makes (room-here room) records ∙ ap (m .changes) (going .makes room records);
               fit = m .keeps .fit (going .fit);
@@ -130,25 +131,25 @@ module _ (list : List ℕ) (letter : ℕ) (row₀ : List ℕ) (cells : ℕ) (byt
               within = omega (arith, m .keeps .within);
             }
 
-      pub going-refused : (refusal : Refusal) → step .act ≡ Refused refusal → (row″ stores″ : List ℕ) → JudgedMessages list letter row₀ cells bytes count (turnOf (judged.Refused refusal) 0) row″ stores″
+      pub going-refused : (refusal : Refusal) → step .act ≡ Refused refusal → (row″ stores″ : List ℕ) → JudgedMessages lists letter row₀ cells bytes count (turnOf (judged.Refused refusal) 0) row″ stores″
       going-refused refusal e row″ stores″ =
           refused-judged refusal row″ stores″
           (λ records. turn records
-          ∙ messages-refused list letter (count - (i + 1)) i (boxAt row (going .changes records) counts) (drop at bytes) refusal (rw e at (m .acts (going .changes records) counts)))
+          ∙ messages-refused lists letter (count - (i + 1)) i (boxAt row (going .changes records) counts) (drop at bytes) refusal (rw e at (m .acts (going .changes records) counts)))
 
     module _ (h : count ≤ i) where
-      ended : (records : List ℕ) → acts records ≡ messagesAct 0 list letter i (boxAt row (going .changes records) counts) (drop at bytes)
+      ended : (records : List ℕ) → acts records ≡ messagesAct 0 lists letter i (boxAt row (going .changes records) counts) (drop at bytes)
       ended records =
           let none-left : count - i ≡ 0 = omega arith in
-          going .so-far records ∙ ap (λ (n : ℕ). messagesAct n list letter i (boxAt row (going .changes records) counts) (drop at bytes)) none-left
+          going .so-far records ∙ ap (λ (n : ℕ). messagesAct n lists letter i (boxAt row (going .changes records) counts) (drop at bytes)) none-left
 
-      pub going-over : at < length bytes → (row″ stores″ : List ℕ) → JudgedMessages list letter row₀ cells bytes count (turnOf (judged.Refused Count) 0) row″ stores″
-      going-over l row″ stores″ = refused-judged Count row″ stores″ (λ records. ended records ∙ messages-over list letter i _ (drop at bytes) (omega (arith, length-drop at bytes)))
+      pub going-over : at < length bytes → (row″ stores″ : List ℕ) → JudgedMessages lists letter row₀ cells bytes count (turnOf (judged.Refused Count) 0) row″ stores″
+      going-over l row″ stores″ = refused-judged Count row″ stores″ (λ records. ended records ∙ messages-over lists letter i _ (drop at bytes) (omega (arith, length-drop at bytes)))
 
       pub going-ends : length bytes ≤ at → soundGapRow row ≡ true → length stores ≡ cells
-          → JudgedMessages list letter row₀ cells bytes count (turnOf (judged.Accepted (counts .taken) (counts .old) (counts .heartbeats)) kept) row stores
+          → JudgedMessages lists letter row₀ cells bytes count (turnOf (judged.Accepted (counts .taken) (counts .old) (counts .heartbeats)) kept) row stores
       going-ends l s lent =
-          let end : (records : List ℕ) → acts records ≡ acted (boxAt row (going .changes records) counts) = λ records. ended records ∙ messages-end list letter i _ (drop at bytes) (omega (arith, length-drop at bytes)) in
+          let end : (records : List ℕ) → acts records ≡ acted (boxAt row (going .changes records) counts) = λ records. ended records ∙ messages-end lists letter i _ (drop at bytes) (omega (arith, length-drop at bytes)) in
           record {
             answers = λ records. sym (ap actedNumbers (end records));
             leaves = λ records box e.

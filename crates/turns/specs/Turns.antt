@@ -6,8 +6,9 @@ use mathlib.Core.Option.{Option}
 use lib.Dec.{eqb}
 use lib.ListN.{length, drop}
 use Rattle.forms.specs.declared.forms.Subject.{Subject}
-use Rattle.forms.specs.declared.forms.Subject.the-variants.{Nothing, Contract}
+use Rattle.forms.specs.declared.forms.Subject.the-variants.{Nothing, Of}
 use Rattle.forms.specs.Forms.{subjectOf}
+use Rattle.pairs.specs.Lists.{Lists}
 use Rattle.contracts.specs.Lookup.{segmentOf}
 use Rattle.sequence.specs.Gaps.{takes}
 use Rattle.sequence.specs.Changes.{full, after}
@@ -59,14 +60,14 @@ numberActs box i number changed =
     }))
 
 -- 01 "Sequence and gaps": what an update taken changes of the records, by what it tells of
-abbrev pub updated : List ℕ → Option ℕ → ℕ → Subject → ℕ → List ℕ → List ℕ → List ℕ
-updated list segment place Nothing number cells = λ records. records
-updated list segment place (Contract level) number cells = stored (slotAt list (slotIn segment place level)) number (recordOf level cells)
+abbrev pub updated : Lists → Option ℕ → ℕ → Subject → ℕ → List ℕ → List ℕ → List ℕ
+updated lists segment place Nothing number cells = λ records. records
+updated lists segment place (Of item level) number cells = stored (slotAt lists (slotIn item segment place level)) number (recordOf item level cells)
 
 -- 01 "Sequence and gaps": message i acts: a heartbeat changes nothing
-abbrev pub whatActs : List ℕ → ℕ → Box → ℕ → What → List ℕ → Acted
-whatActs list letter box i (Bad fault) cells = refused (ofFault fault i)
-whatActs list letter box i Heartbeat cells =
+abbrev pub whatActs : Lists → ℕ → Box → ℕ → What → List ℕ → Acted
+whatActs lists letter box i (Bad fault) cells = refused (ofFault fault i)
+whatActs lists letter box i Heartbeat cells =
     acted (record {
       row = box .row;
       records = box .records;
@@ -74,14 +75,14 @@ whatActs list letter box i Heartbeat cells =
       old = box .old;
       heartbeats = suc (box .heartbeats);
     })
-whatActs list letter box i (PassedOver number) cells = numberActs box i number (λ records. records)
-whatActs list letter box i (Update number form place) cells =
-    numberActs box i number (updated list (segmentOf list letter) place (subjectOf form) number cells)
+whatActs lists letter box i (PassedOver number) cells = numberActs box i number (λ records. records)
+whatActs lists letter box i (Update number form place) cells =
+    numberActs box i number (updated lists (segmentOf (lists .contracts) letter) place (subjectOf form) number cells)
 
 -- 01 "The message": what acts is what the bytes are read as
-unfoldable pub messageActs : List ℕ → ℕ → Box → ℕ → List ℕ → Acted
-messageActs list letter box i bytes =
-    whatActs list letter box i (messageOf list letter bytes .what) (messageOf list letter bytes .cells)
+unfoldable pub messageActs : Lists → ℕ → Box → ℕ → List ℕ → Acted
+messageActs lists letter box i bytes =
+    whatActs lists letter box i (messageOf lists letter bytes .what) (messageOf lists letter bytes .cells)
 
 -- 01, the order of checks: what comes next acts on the box, unless a refusal has come
 abbrev pub next : Acted → (Box → Acted) → Acted
@@ -90,10 +91,10 @@ next (acted box) more = more box
 
 -- 01 "Sequence and gaps": "Messages of one batch act in turn": so many messages act in turn from message i on, each where the
 -- one before it ends; last, bytes left over (4)
-unfoldable pub messagesAct : ℕ → List ℕ → ℕ → ℕ → Box → List ℕ → Acted
-messagesAct zero list letter i box bytes = cond (eqb (length bytes) 0) (acted box) (refused Count)
-messagesAct (suc more) list letter i box bytes =
-    next (messageActs list letter box i bytes) (λ box′. messagesAct more list letter (suc i) box′ (drop (lengthOf bytes) bytes))
+unfoldable pub messagesAct : ℕ → Lists → ℕ → ℕ → Box → List ℕ → Acted
+messagesAct zero lists letter i box bytes = cond (eqb (length bytes) 0) (acted box) (refused Count)
+messagesAct (suc more) lists letter i box bytes =
+    next (messageActs lists letter box i bytes) (λ box′. messagesAct more lists letter (suc i) box′ (drop (lengthOf bytes) bytes))
 
 -- 01 "What may be asked": an accepted batch answers how many messages were taken, old and heartbeats
 abbrev pub actedNumbers : Acted → List ℕ

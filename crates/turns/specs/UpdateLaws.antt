@@ -7,22 +7,24 @@ use native.Mathlib.Nat.{min-le-left}
 use native.Mathlib.Omega.{arith}
 use lib.ListN.{length, take, drop, length-take, length-drop}
 use lib.Seq.{sets}
-use Rattle.contracts.specs.File.{contractsBefore, contractsOf}
-use Rattle.contracts.specs.Habits.{contracts}
-use Rattle.contracts.specs.HeaderLaws.{contracts-few}
-use Rattle.contracts.specs.Lookup.{segmentOf, placeIn}
+use Rattle.contracts.specs.File.{countAt}
+use Rattle.contracts.specs.Lookup.{segmentOf}
 use Rattle.contracts.specs.LookupLaws.{segment-has, key-at-place}
-use Rattle.contracts.specs.RecordsLaws.{record-kept}
-use Rattle.contracts.specs.Sound.{Header}
+use Rattle.pairs.specs.Lists.{Lists, Headers}
 use Rattle.forms.specs.declared.rows.Level.{Level}
 use Rattle.forms.specs.declared.rows.Level.the-variants.{One, Two}
 use Rattle.forms.specs.declared.forms.Form.{Form}
-use Rattle.forms.specs.Forms.{namedRows, rowsOf, recordForm, subjectOf}
+use Rattle.forms.specs.declared.forms.Item.{Item}
+use Rattle.forms.specs.declared.forms.Item.the-variants.{Contract, Pair}
+use Rattle.forms.specs.Forms.{namedRows, rowsOf, recordForm, subjectOf, keyRowsOf}
+use Rattle.forms.specs.FormsLaws.{record-form}
 use Rattle.forms.specs.Rows.{messageLength}
-use Rattle.forms.specs.Sizes.{mostRows, keyRowCount}
+use Rattle.forms.specs.Sizes.{mostRows}
 use Rattle.message.specs.declared.body.What.the-variants as what
 use Rattle.message.specs.CallerLaws.{IsUpdate, update-told, head-good, cells-stored}
-use Rattle.message.specs.Message.{Message, TellsOfContract, messageKey}
+use Rattle.message.specs.Message.{Message, TellsOf, messageKey, placeIn}
+use Rattle.message.specs.Items.{fileOf, habitOf}
+use Rattle.message.specs.ItemsLaws.{habit-few, header-of, segments-of}
 use Rattle.message.specs.Reads.{cellsBy, cellsRead, rowsRead, messageOf}
 use Rattle.message.specs.MessageLaws.{key-found, length-is}
 use Rattle.message.specs.Numbers.{verdictOf}
@@ -30,102 +32,115 @@ use Rattle.turns.specs.declared.act.Act.{Act}
 use Rattle.turns.specs.declared.act.Act.the-variants.{Taken}
 use Rattle.turns.specs.Acts.{InFront, changedBy}
 use Rattle.turns.specs.Turns.{updated}
-use Rattle.state.specs.Slots.{Slot, contract, recordsWanted}
-use Rattle.state.specs.Places.{slotAt, slotIn, recordOf, recordRows, recordAt}
-use Rattle.state.specs.SlotsLaws.{contract-form, record-inside, record-long, rows-kept, rows-few}
-use Rattle.stores.specs.Stores.{storeCells, leastUpdate, KeptFor, Keeps}
+use Rattle.state.specs.Slots.{Slot, slot, SlotListed, recordsWanted}
+use Rattle.state.specs.declared.records.Fronts.{Fronts}
+use Rattle.state.specs.Places.{slotAt, slotIn, recordOf, recordRows, recordAt, frontIn}
+use Rattle.state.specs.SlotsLaws.{slot-inside, cells-by-rows, record-long, rows-kept, rows-few}
+use Rattle.stores.specs.Stores.{storeCells, leastUpdate, Near, KeptFor, Keeps}
 use Rattle.stores.specs.StoresLaws.{one-kept}
 
-least-long : (level : Level) → leastUpdate ≤ messageLength (rowsOf (recordForm level))
+least-long : (item : Item) (level : Level) → leastUpdate ≤ messageLength (rowsOf (recordForm item level))
 unfolding rowsOf namedRows
-least-long One = omega arith
-least-long Two = omega arith
+least-long Contract One = omega arith
+least-long Contract Two = omega arith
+least-long Pair One = omega arith
+least-long Pair Two = omega arith
 
 -- whatever the cells, a record has no more than its rows
-record-most : (level : Level) (cells : List ℕ) → length (recordOf level cells) ≤ recordRows level
-record-most level cells =
-    let rows : ℕ = length (rowsOf (recordForm level)) in
-    omega (arith, length-drop keyRowCount (take rows cells), length-take rows cells, min-le-left rows (length cells), rows-kept level)
+record-most : (item : Item) (level : Level) (cells : List ℕ) → length (recordOf item level cells) ≤ recordRows item level
+record-most item level cells =
+    let rows : ℕ = length (rowsOf (recordForm item level)) in
+    omega (arith, length-drop (keyRowsOf item) (take rows cells), length-take rows cells, min-le-left rows (length cells), rows-kept item level)
 
--- ---- an update's contract is listed
+-- ---- what an update tells of is listed
 
-module _ (list : List ℕ) (letter : ℕ) (bytes : List ℕ) {number : ℕ} {form : Form} {place : ℕ} (e : messageOf list letter bytes .what ≡ what.Update number form place) where
-  told : IsUpdate list letter bytes number form place
-  told = update-told list letter bytes (ap verdictOf e) number form place e
+module _ (lists : Lists) (headers : Headers lists) (letter : ℕ) (bytes : List ℕ) {number : ℕ} {form : Form} {place : ℕ} (e : messageOf lists letter bytes .what ≡ what.Update number form place) where
+  pub told : IsUpdate lists letter bytes number form place
+  told = update-told lists letter bytes (ap verdictOf e) number form place e
 
-  pub level-of : TellsOfContract form
-  level-of = told .tells
+  abbrev pub item-of : Item
+  item-of = told .item
+
+  pub tells-of : TellsOf item-of form
+  tells-of = told .tells
 
   abbrev level : Level
-  level = level-of .0
+  level = tells-of .0
 
-  found : (segment : ℕ) × (segmentOf list letter ≡ some segment) × (placeIn list segment (messageKey bytes) ≡ some place)
-  found = key-found list letter (messageKey bytes) place (told .place-is)
+  pub found : (segment : ℕ) × (segmentOf (lists .contracts) letter ≡ some segment) × (placeIn item-of lists segment (messageKey item-of bytes) ≡ some place)
+  found = key-found item-of lists letter (messageKey item-of bytes) place (told .place-is)
 
-  -- an update's slot is a listed contract's
-  abbrev slot : Slot
-  slot = slotIn (segmentOf list letter) place level
+  -- an update's slot is one of what is listed
+  abbrev slotHere : Slot
+  slotHere = slotIn item-of (segmentOf (lists .contracts) letter) place level
 
-  slot-is : slot ≡ contract (found .0) place level
-  slot-is = ap (λ (o : Option ℕ). slotIn o place level) (found .1)
+  slot-is : slotHere ≡ slot item-of (found .0) place level
+  slot-is = ap (λ (o : Option ℕ). slotIn item-of o place level) (found .1)
 
-  contract-listed : contractsBefore list (found .0) + place < contractsOf list
-  contract-listed =
-      let f = found in
-      let kept = record-kept list (f .0) place (record { segment = segment-has list letter (f .0) (f .1) .0; place = key-at-place contracts list (f .0) (messageKey bytes) place (f .2) .0 }) in
-      omega (arith, kept)
+  place-under : place < countAt (fileOf item-of lists) (found .0)
+  place-under = let f = found in key-at-place (habitOf item-of) (fileOf item-of lists) (f .0) (messageKey item-of bytes) place (f .2) .0
+
+  pub slot-listed : SlotListed lists (slot item-of (found .0) place level)
+  slot-listed = (segment-has (lists .contracts) letter (found .0) (found .1) .0, place-under)
 
   -- so its record, number and rows, lies in the cells wanted
-  pub record-wanted : (cells : List ℕ) → slotAt list slot + suc (length (recordOf level cells)) ≤ recordsWanted list
+  pub record-wanted : (cells : List ℕ) → slotAt lists slotHere + suc (length (recordOf item-of level cells)) ≤ recordsWanted lists
   record-wanted cells =
       rw slot-is
-      (omega (arith, contract-listed, record-inside (contractsBefore list (found .0) + place) level, record-most level cells))
+      (omega (arith, slot-inside lists headers (slot item-of (found .0) place level) slot-listed, record-most item-of level cells, cells-by-rows item-of level))
 
 -- ---- its store is kept
 
-module _ (list : List ℕ) (letter before : ℕ) (header : Header list) (before-is : InFront list (segmentOf list letter) before) (bytes : List ℕ) (message : Message) (is : message ≡ messageOf list letter bytes)
+module _ (lists : Lists) (headers : Headers lists) (letter : ℕ) (fronts : Fronts) (fronts-are : InFront lists (segmentOf (lists .contracts) letter) fronts) (bytes : List ℕ) (message : Message) (is : message ≡ messageOf lists letter bytes)
     {number : ℕ} {form : Form} {place : ℕ} (e : message .what ≡ what.Update number form place) where
-  what-is : messageOf list letter bytes .what ≡ what.Update number form place
+  what-is : messageOf lists letter bytes .what ≡ what.Update number form place
   what-is = ap (λ (m : Message). m .what) (sym is) ∙ e
 
+  abbrev item : Item
+  item = item-of lists headers letter bytes what-is
+
   abbrev own : Level
-  own = level list letter bytes what-is
+  own = level lists headers letter bytes what-is
 
-  own-form : form ≡ recordForm own
-  own-form = contract-form form own (level-of list letter bytes what-is .1)
+  own-form : form ≡ recordForm item own
+  own-form = record-form form item own (tells-of lists headers letter bytes what-is .1)
 
-  in-front : before ≡ contractsBefore list (found list letter bytes what-is .0)
-  in-front = let f = found list letter bytes what-is in before-is (f .0) (f .1)
+  slot-there : recordAt item (frontIn fronts item) place own ≡ slotAt lists (slotIn item (segmentOf (lists .contracts) letter) place own)
+  slot-there =
+      let f = found lists headers letter bytes what-is in
+      ap (λ (n : ℕ). recordAt item n place own) (fronts-are (f .0) (f .1) .are item) ∙ sym (ap (slotAt lists) (slot-is lists headers letter bytes what-is))
 
-  slot-there : recordAt (before + place) own ≡ slotAt list (slotIn (segmentOf list letter) place own)
-  slot-there = ap (λ (n : ℕ). recordAt (n + place) own) in-front ∙ sym (ap (slotAt list) (slot-is list letter bytes what-is))
+  pub fronts-near : Near fronts
+  fronts-near = let f = found lists headers letter bytes what-is in fronts-are (f .0) (f .1) .small
 
-  inside : before + place < contractsOf list
-  inside = omega (arith, in-front, contract-listed list letter bytes what-is)
-
-  pub contract-few : before + place < 65536
-  contract-few = omega (arith, inside, contracts-few list header)
+  pub place-few : place < 65536
+  place-few =
+      let f = found lists headers letter bytes what-is in
+      let i : ℕ = f .0 in
+      let inside = segment-has (lists .contracts) letter i (f .1) .0 in
+      omega (arith, place-under lists headers letter bytes what-is, habit-few item (header-of lists headers item .few-keys i (rw (segments-of lists headers item) inside)))
 
   least : leastUpdate ≤ message .length
-  least = rw (ap (λ (m : Message). m .length) is ∙ length-is list letter bytes ∙ told list letter bytes what-is .length-is, own-form) (least-long own)
+  least = rw (ap (λ (m : Message). m .length) is ∙ length-is lists letter bytes ∙ told lists headers letter bytes what-is .length-is, own-form) (least-long item own)
 
   -- of the lent cells in which its rows are stored its record is kept
-  record-there : (cells cells′ : List ℕ) → cells′ ≡ sets cells 0 (cellsRead list letter bytes) → length cells′ ≡ mostRows → recordOf own cells′ ≡ recordOf own (message .cells)
+  record-there : (cells cells′ : List ℕ) → cells′ ≡ sets cells 0 (cellsRead lists letter bytes) → length cells′ ≡ mostRows → recordOf item own cells′ ≡ recordOf item own (message .cells)
   unfolding cellsRead
   record-there cells cells′ there wide =
       let good = ap verdictOf what-is in
-      let rows : cells′ ≡ sets cells 0 (rowsRead bytes .cells) = there ∙ ap (λ h. sets cells 0 (cellsBy h bytes)) (head-good list letter bytes good) in
-      let same = cells-stored list letter bytes good cells cells′ rows wide number form place what-is in
-      ap (drop keyRowCount) ((rw own-form at same) ∙ ap (λ (m : Message). take (length (rowsOf (recordForm own))) (m .cells)) (sym is))
+      let rows : cells′ ≡ sets cells 0 (rowsRead bytes .cells) = there ∙ ap (λ h. sets cells 0 (cellsBy h bytes)) (head-good lists letter bytes good) in
+      let same = cells-stored lists letter bytes good cells cells′ rows wide number form place what-is in
+      ap (drop (keyRowsOf item)) ((rw own-form at same) ∙ ap (λ (m : Message). take (length (rowsOf (recordForm item own))) (m .cells)) (sym is))
 
   -- where it is taken
   pub update-kept : (a : Act) → a ≡ Taken → (stores : List ℕ) (kept : ℕ) → storeCells * kept ≤ length stores
-      → (cells cells′ : List ℕ) → cells′ ≡ sets cells 0 (cellsRead list letter bytes) → length cells′ ≡ mostRows
-      → (kept′ : ℕ) (stores′ : List ℕ) → KeptFor (subjectOf form) stores kept (before + place) number cells′ kept′ stores′
-      → Keeps (recordsWanted list) (message .length) stores kept (changedBy a (updated list (segmentOf list letter) place (subjectOf form) number (message .cells))) kept′ stores′
+      → (cells cells′ : List ℕ) → cells′ ≡ sets cells 0 (cellsRead lists letter bytes) → length cells′ ≡ mostRows
+      → (kept′ : ℕ) (stores′ : List ℕ) → KeptFor (subjectOf form) stores kept fronts place number cells′ kept′ stores′
+      → Keeps (recordsWanted lists) (message .length) stores kept (changedBy a (updated lists (segmentOf (lists .contracts) letter) place (subjectOf form) number (message .cells))) kept′ stores′
   update-kept a taken stores kept within cells cells′ there wide kept′ stores′ k =
-      let long = record-long own cells′ wide in
-      let subject = level-of list letter bytes what-is .1 in
+      let long = record-long item own cells′ wide in
+      let subject = tells-of lists headers letter bytes what-is .1 in
+      let wanted = record-wanted lists headers letter bytes what-is cells′ in
       rw (taken, subject, ← slot-there, ← record-there cells cells′ there wide)
-      (one-kept (recordsWanted list) (message .length) stores kept within (recordAt (before + place) own) number (recordOf own cells′)
-      (omega (arith, long, rows-few own)) least (omega (arith, long, inside, record-inside (before + place) own)) kept′ stores′ (rw subject at k))
+      (one-kept (recordsWanted lists) (message .length) stores kept within (recordAt item (frontIn fronts item) place own) number (recordOf item own cells′)
+      (omega (arith, long, rows-few item own)) least (omega (arith, wanted, slot-there)) kept′ stores′ (rw subject at k))

@@ -3,6 +3,7 @@ ghost use mathlib.Core.Path.{_≡_};
 ghost use mathlib.Core.Bool.{true};
 ghost use Prim.Native.Nat.{_<_};
 ghost use Rattle.contracts.specs.Answers.{placeOf};
+ghost use Rattle.pairs.specs.Lists.{lists};
 ghost use Rattle.sequence.specs.RowLaid.{soundGapRow};
 ghost use Rattle.turns.specs.Acts.{counted, none, total, Ready, NumberActs, MessageActs, JudgedMessages, Turned};
 ghost use lib.ListN.{length};
@@ -10,6 +11,7 @@ use contracts::Found;
 use layout::MOST_ROWS;
 use message::What;
 use sequence::Taken;
+use state::Fronts;
 use state::Judged;
 use state::Refusal;
 
@@ -52,12 +54,13 @@ fn number_acts(row: &mut [u32; sequence::CELLS], i: usize, number: u32) -> Act
     }
 }
 
-// Message i, which begins here; `before` contracts stand in front of its segment, and `cells` is for its rows.
+// Message i, which begins here; its segment's records begin at `fronts`, and `cells` is for its rows.
 fn message_acts(
     list: &[u8],
+    spreads: &[u8],
     letter: u8,
     segment: Found,
-    before: usize,
+    fronts: Fronts,
     row: &mut [u32; sequence::CELLS],
     stores: &mut [u64],
     kept: usize,
@@ -65,10 +68,10 @@ fn message_acts(
     bytes: &[u8],
     cells: &mut [u64; MOST_ROWS],
 ) -> Step
-    requires { ⌜ Ready (now list) letter (placeOf segment) before (now row) (now stores) kept ⌝ }
-    ensures { λ r. ⌜ MessageActs (now (list .entry)) letter (now (row .entry)) (now (stores .entry)) kept i (now (bytes .entry)) r (now (row .exit)) (now (stores .exit)) ⌝ }
+    requires { ⌜ Ready (lists (now list) (now spreads)) letter (placeOf segment) fronts (now row) (now stores) kept ⌝ }
+    ensures { λ r. ⌜ MessageActs (lists (now (list .entry)) (now (spreads .entry))) letter (now (row .entry)) (now (stores .entry)) kept i (now (bytes .entry)) r (now (row .exit)) (now (stores .exit)) ⌝ }
 {
-    let message = message::read(list, letter, segment, bytes, cells);
+    let message = message::read(list, spreads, letter, segment, bytes, cells);
     let length = message.length;
     let what = message.what;
     let mut kept = kept;
@@ -78,7 +81,7 @@ fn message_acts(
         What::Update(number, form, place) => {
             let act = number_acts(row, i, number);
             if let Act::Taken = act {
-                kept = stores::keep_update(stores, kept, before + place, form, number, cells);
+                kept = stores::keep_update(stores, kept, fronts, place, form, number, cells);
             }
             act
         }
@@ -134,16 +137,17 @@ fn none() -> Counts
 // The messages in turn, each where the one before it ends; last, bytes left over (4). Of a refused batch no store is kept.
 pub fn judge_messages(
     list: &[u8],
+    spreads: &[u8],
     letter: u8,
     segment: Found,
-    before: usize,
+    fronts: Fronts,
     row: &mut [u32; sequence::CELLS],
     stores: &mut [u64],
     data: &[u8],
     count: usize,
 ) -> InTurn
-    requires { ⌜ Ready (now list) letter (placeOf segment) before (now row) (now stores) 0 × (count < 65536) ⌝ }
-    ensures { λ r. ⌜ JudgedMessages (now (list .entry)) letter (now (row .entry)) (length (now (stores .entry))) (now («data» .entry)) count r (now (row .exit)) (now (stores .exit)) ⌝ }
+    requires { ⌜ Ready (lists (now list) (now spreads)) letter (placeOf segment) fronts (now row) (now stores) 0 × (count < 65536) ⌝ }
+    ensures { λ r. ⌜ JudgedMessages (lists (now (list .entry)) (now (spreads .entry))) letter (now (row .entry)) (length (now (stores .entry))) (now («data» .entry)) count r (now (row .exit)) (now (stores .exit)) ⌝ }
 {
     let mut cells = [0u64; MOST_ROWS];
     let mut counts = none();
@@ -154,9 +158,10 @@ pub fn judge_messages(
         let part = &data[at..];
         let step = message_acts(
             list,
+            spreads,
             letter,
             segment,
-            before,
+            fronts,
             row,
             stores,
             kept,

@@ -1,38 +1,49 @@
 -- Laws of an update's values. Today a value is what a cell holds for the same field.
-use Prim.Native.Nat.{ℕ, _+_, _-_, _≤_}
+use Prim.Native.Nat.{ℕ, zero, suc, _+_, _-_, _≤_}
 use mathlib.Core.Path.{_≡_, refl, ap, _∙_}
 use mathlib.Core.Bool.{Bool, true, false}
-use mathlib.Core.List.{List, [], _∷_, _++_, map}
+use mathlib.Core.List.{List, [], _∷_, _++_, map, append-assoc}
 use mathlib.Core.Option.{Option, none, some}
 use native.Mathlib.Omega.{arith}
 use lib.ListN.{length, take, drop, replicate, length-drop}
 use lib.Seq.{sets, sets-eq, length-take-le}
+use Rattle.forms.specs.declared.forms.Item.{Item}
+use Rattle.forms.specs.declared.forms.Item.the-variants.{Contract, Pair}
 use Rattle.forms.specs.declared.rows.Level.{Level}
 use Rattle.forms.specs.declared.rows.Level.the-variants.{One, Two}
 use Rattle.layout.specs.declared.cells.Held.{Held}
-use Rattle.layout.specs.declared.cells.Held.the-variants.{Nothing, Units}
+use Rattle.layout.specs.declared.cells.Held.the-variants.{Nothing, Units, Below}
 use Rattle.forms.specs.Names.{Name, NamedRow, marketType, buyPrice, buyQuantity, sellPrice, sellQuantity, lastPrice, tradedQuantity, status, openingPrice, highPrice, lowPrice, closePrice, averagePrice, allBuyers, allSellers, turnover as turnoverName}
 use Rattle.forms.specs.SameName.{sameName}
-use Rattle.forms.specs.Forms.{keyRows, namedRows, rowsOf, recordForm}
-use Rattle.forms.specs.Sizes.{mostRows, keyRowCount}
+use Rattle.forms.specs.Forms.{keyRows, pairKeyRows, namedRows, rowsOf, keyRowsOf, recordForm}
+use Rattle.forms.specs.FormsLaws.{fits}
+use Rattle.forms.specs.Sizes.{mostRows}
 use Rattle.layout.specs.Cells.{cellOf}
 use Rattle.quote.specs.declared.quote.Quote.{Quote}
+use Rattle.quote.specs.declared.spread.SpreadQuote.{SpreadQuote}
 use Rattle.quote.specs.Quote.{priceOf, quantityOf, turnoverOf, next, rowNamed, cellAt, cellNamed, orderLevels, orderIn, sideIn, quoteBy, quoteOf, cellsOf}
+use Rattle.quote.specs.Spread.{differenceOf, spreadOrderIn, spreadQuoteBy, spreadQuoteOf, spreadCellsOf}
 use Rattle.state.specs.Places.{recordRows}
-use Rattle.state.specs.SlotsLaws.{rows-few}
-use Rattle.values.specs.Values.{valueOf, heldOf, letterOf, first, most, valueRows, rowValues, valueAt, orderFrom, quoteFrom, quoteIn}
+use Rattle.state.specs.SlotsLaws.{rows-few, rows-kept}
+use Rattle.values.specs.Values.{valueOf, heldOf, letterOf, first, most, valueRows, rowValues, spreadValues, valueAt, orderFrom, spreadOrderFrom, quoteFrom, spreadFrom, quoteIn, spreadIn}
 
 -- ---- values and cells
 
-value-cell : (held : Held) → valueOf held ≡ cellOf held
-value-cell Nothing = refl
-value-cell (Units n) = refl
+value-cell : (signed : Bool) (held : Held) → valueOf signed held ≡ cellOf signed held
+value-cell signed Nothing = refl
+value-cell signed (Units n) = refl
+value-cell signed (Below n) = refl
 
 -- the values of the rows are the cells behind the key
-pub values-cells : (level : Level) (quote : Quote) → take (recordRows level) (drop keyRowCount (cellsOf (recordForm level) quote)) ≡ rowValues level quote
+pub values-cells : (level : Level) (quote : Quote) → take (recordRows Contract level) (drop (keyRowsOf Contract) (cellsOf (recordForm Contract level) quote)) ≡ rowValues level quote
 unfolding rowValues valueRows recordRows rowsOf namedRows cellsOf
 values-cells One quote = simp value-cell
 values-cells Two quote = simp value-cell
+
+pub spread-values-cells : (level : Level) (quote : SpreadQuote) → take (recordRows Pair level) (drop (keyRowsOf Pair) (spreadCellsOf (recordForm Pair level) quote)) ≡ spreadValues level quote
+unfolding spreadValues valueRows recordRows rowsOf namedRows spreadCellsOf
+spread-values-cells One quote = simp value-cell
+spread-values-cells Two quote = simp value-cell
 
 -- ---- the quote that values hold
 
@@ -56,84 +67,166 @@ named-both (row ∷ rows) name (value ∷ values) rest h = go (sameName (row .na
     go true t later = rw t
     go false t later = rw t (next-both (rowNamed rows name) value value cells values later)
 
--- a row's place behind the five rows of the key
-abbrev behindKey : Option ℕ → Option ℕ
-behindKey place = next (next (next (next (next place))))
+-- a row's place behind so many rows
+abbrev behindKey : ℕ → Option ℕ → Option ℕ
+behindKey zero place = place
+behindKey (suc n) place = next (behindKey n place)
 
-key-apart : (place : Option ℕ) (cells : List ℕ) → cellAt (behindKey place) (replicate keyRowCount 0 ++ cells) ≡ cellAt place cells
-key-apart none cells = refl
-key-apart (some k) cells = refl
+next-apart : (place : Option ℕ) (cell : ℕ) (cells : List ℕ) → cellAt (next place) (cell ∷ cells) ≡ cellAt place cells
+next-apart none cell cells = refl
+next-apart (some k) cell cells = refl
 
-module _ (rows : List NamedRow) (values rest : List ℕ) (long : length rows ≤ length values) where
-  abbrev held : List ℕ
-  held = replicate keyRowCount 0 ++ take (length rows) values ++ rest
+key-apart : (n : ℕ) (place : Option ℕ) (cells : List ℕ) → cellAt (behindKey n place) (replicate n 0 ++ cells) ≡ cellAt place cells
+key-apart zero place cells = refl
+key-apart (suc n) place cells = next-apart (behindKey n place) 0 (replicate n 0 ++ cells) ∙ key-apart n place cells
 
-  abbrev value : Name → ℕ
-  value name = valueAt (rowNamed rows name) values
+-- a word of our own: the values of rows, behind as many zeros as the key has rows
+abbrev heldCells : List NamedRow → List NamedRow → List ℕ → List ℕ → List ℕ
+heldCells keys rows values rest = replicate (length keys) 0 ++ (take (length rows) values ++ rest)
 
-  same : (name : Name) → rowNamed (keyRows ++ rows) name ≡ behindKey (rowNamed rows name) → cellNamed (keyRows ++ rows) name held ≡ value name
+-- a word of our own: the value of the row with a name
+abbrev valueIn : List NamedRow → List ℕ → Name → ℕ
+valueIn rows values name = valueAt (rowNamed rows name) values
+
+module _ (keys rows : List NamedRow) (values rest : List ℕ) (long : length rows ≤ length values) where
+  -- no key row has the name
+  abbrev Apart : Name → Type 0
+  Apart name = rowNamed (keys ++ rows) name ≡ behindKey (length keys) (rowNamed rows name)
+
+  same : (name : Name) → Apart name → cellNamed (keys ++ rows) name (heldCells keys rows values rest) ≡ valueIn rows values name
   same name e =
-      ap (λ (place : Option ℕ). cellAt place held) e ∙ key-apart (rowNamed rows name) (take (length rows) values ++ rest)
+      ap (λ (place : Option ℕ). cellAt place (heldCells keys rows values rest)) e ∙ key-apart (length keys) (rowNamed rows name) (take (length rows) values ++ rest)
       ∙ named-both rows name values rest long
 
-  side : (price quantity : ℕ → Name) → ((k : ℕ) → rowNamed (keyRows ++ rows) (price k) ≡ behindKey (rowNamed rows (price k)))
-      → ((k : ℕ) → rowNamed (keyRows ++ rows) (quantity k) ≡ behindKey (rowNamed rows (quantity k)))
-      → sideIn price quantity (keyRows ++ rows) held ≡ map (λ k. orderFrom (value (price k)) (value (quantity k))) orderLevels
-  side price quantity p q = λ i. order 0 i ∷ order 1 i ∷ order 2 i ∷ order 3 i ∷ order 4 i ∷ []
+  side : {A : Type 0} (order : ℕ → ℕ → A) (price quantity : ℕ → Name) → ((k : ℕ) → Apart (price k)) → ((k : ℕ) → Apart (quantity k))
+      → sideIn order price quantity (keys ++ rows) (heldCells keys rows values rest) ≡ map (λ k. order (valueIn rows values (price k)) (valueIn rows values (quantity k))) orderLevels
+  side order price quantity p q = λ i. at 0 i ∷ at 1 i ∷ at 2 i ∷ at 3 i ∷ at 4 i ∷ []
     where
-      order : (k : ℕ) → orderIn (cellNamed (keyRows ++ rows) (price k) held) (cellNamed (keyRows ++ rows) (quantity k) held)
-          ≡ orderFrom (value (price k)) (value (quantity k))
-      order k = λ i. orderFrom (same (price k) (p k) i) (same (quantity k) (q k) i)
+      at : (k : ℕ) → order (cellNamed (keys ++ rows) (price k) (heldCells keys rows values rest)) (cellNamed (keys ++ rows) (quantity k) (heldCells keys rows values rest))
+          ≡ order (valueIn rows values (price k)) (valueIn rows values (quantity k))
+      at k = λ i. order (same (price k) (p k) i) (same (quantity k) (q k) i)
 
-  quote-named : quoteBy (keyRows ++ rows) held ≡ quoteFrom value
+module _ (rows : List NamedRow) (values rest : List ℕ) (long : length rows ≤ length values) where
+  -- a contract's field, whose name no key row has
+  contract : (name : Name) → Apart keyRows rows values rest long name → cellNamed (keyRows ++ rows) name (heldCells keyRows rows values rest) ≡ valueIn rows values name
+  contract = same keyRows rows values rest long
+
+  quote-named : quoteBy (keyRows ++ rows) (heldCells keyRows rows values rest) ≡ quoteFrom (valueIn rows values)
   quote-named =
       λ i.
       record {
-        «market_type» = letterOf (same marketType refl i);
-        buy = side buyPrice buyQuantity (λ k. refl) (λ k. refl) i;
-        sell = side sellPrice sellQuantity (λ k. refl) (λ k. refl) i;
-        last = priceOf (heldOf (same lastPrice refl i));
-        traded = quantityOf (heldOf (same tradedQuantity refl i));
-        status = letterOf (same status refl i);
-        opening = priceOf (heldOf (same openingPrice refl i));
-        high = priceOf (heldOf (same highPrice refl i));
-        low = priceOf (heldOf (same lowPrice refl i));
-        close = priceOf (heldOf (same closePrice refl i));
-        average = priceOf (heldOf (same averagePrice refl i));
-        buyers = quantityOf (heldOf (same allBuyers refl i));
-        sellers = quantityOf (heldOf (same allSellers refl i));
-        turnover = turnoverOf (heldOf (same turnoverName refl i));
+        «market_type» = letterOf (contract marketType refl i);
+        buy = side keyRows rows values rest long orderIn buyPrice buyQuantity (λ k. refl) (λ k. refl) i;
+        sell = side keyRows rows values rest long orderIn sellPrice sellQuantity (λ k. refl) (λ k. refl) i;
+        last = priceOf (heldOf false (contract lastPrice refl i));
+        traded = quantityOf (heldOf false (contract tradedQuantity refl i));
+        status = letterOf (contract status refl i);
+        opening = priceOf (heldOf false (contract openingPrice refl i));
+        high = priceOf (heldOf false (contract highPrice refl i));
+        low = priceOf (heldOf false (contract lowPrice refl i));
+        close = priceOf (heldOf false (contract closePrice refl i));
+        average = priceOf (heldOf false (contract averagePrice refl i));
+        buyers = quantityOf (heldOf false (contract allBuyers refl i));
+        sellers = quantityOf (heldOf false (contract allSellers refl i));
+        turnover = turnoverOf (heldOf false (contract turnoverName refl i));
       }
 
-rows-behind : (level : Level) → namedRows (recordForm level) ≡ keyRows ++ valueRows level
+  -- a pair's field, whose name no key row has
+  pair : (name : Name) → Apart pairKeyRows rows values rest long name → cellNamed (pairKeyRows ++ rows) name (heldCells pairKeyRows rows values rest) ≡ valueIn rows values name
+  pair = same pairKeyRows rows values rest long
+
+  spread-named : spreadQuoteBy (pairKeyRows ++ rows) (heldCells pairKeyRows rows values rest) ≡ spreadFrom (valueIn rows values)
+  spread-named =
+      λ i.
+      record {
+        buy = side pairKeyRows rows values rest long spreadOrderIn buyPrice buyQuantity (λ k. refl) (λ k. refl) i;
+        sell = side pairKeyRows rows values rest long spreadOrderIn sellPrice sellQuantity (λ k. refl) (λ k. refl) i;
+        last = differenceOf (heldOf true (pair lastPrice refl i));
+        traded = quantityOf (heldOf false (pair tradedQuantity refl i));
+        opening = differenceOf (heldOf true (pair openingPrice refl i));
+        high = differenceOf (heldOf true (pair highPrice refl i));
+        low = differenceOf (heldOf true (pair lowPrice refl i));
+        buyers = quantityOf (heldOf false (pair allBuyers refl i));
+        sellers = quantityOf (heldOf false (pair allSellers refl i));
+      }
+
+-- ---- the rows behind a key
+
+abbrev keysOf : Item → List NamedRow
+keysOf Contract = keyRows
+keysOf Pair = pairKeyRows
+
+rows-behind : (item : Item) (level : Level) → namedRows (recordForm item level) ≡ keysOf item ++ valueRows item level
 unfolding namedRows valueRows
-rows-behind One = refl
-rows-behind Two = refl
+rows-behind Contract One = refl
+rows-behind Contract Two = refl
+rows-behind Pair One = refl
+rows-behind Pair Two = refl
 
-rows-counted : (level : Level) → recordRows level ≡ length (valueRows level)
+rows-counted : (item : Item) (level : Level) → recordRows item level ≡ length (valueRows item level)
 unfolding namedRows valueRows recordRows rowsOf
-rows-counted One = refl
-rows-counted Two = refl
+rows-counted Contract One = refl
+rows-counted Contract Two = refl
+rows-counted Pair One = refl
+rows-counted Pair Two = refl
 
--- the values of the rows, put behind the key's cells, hold the quote that the values do
+abbrev zeros : List ℕ
+zeros = replicate mostRows 0
+
+key-front : (item : Item) → take (keyRowsOf item) zeros ≡ replicate (length (keysOf item)) 0
+key-front Contract = refl
+key-front Pair = refl
+
+-- the rows of a record have room behind the key
+pub rows-room : (item : Item) (level : Level) → keyRowsOf item + recordRows item level ≤ mostRows
+rows-room item level = omega (arith, rows-kept item level, fits (recordForm item level) .rows-fit)
+
+module _ (item : Item) (level : Level) (values : List ℕ) (long : length values ≡ most) where
+  abbrev behind : List ℕ
+  behind = drop first values
+
+  abbrev rest : List ℕ
+  rest = drop (keyRowsOf item + length (take (recordRows item level) behind)) zeros
+
+  enough : length (valueRows item level) ≤ length behind
+  enough = rw (← rows-counted item level) (simp length-drop (omega (arith, rows-few item level)))
+
+  -- the values of the rows, put behind the key's cells
+  cells-held : sets zeros (keyRowsOf item) (take (recordRows item level) behind) ≡ heldCells (keysOf item) (valueRows item level) behind rest
+  cells-held =
+      let put : List ℕ = take (recordRows item level) behind in
+      let long-put : length put ≡ recordRows item level = length-take-le (recordRows item level) behind (simp length-drop (omega (arith, rows-few item level))) in
+      sets-eq put zeros (keyRowsOf item) (omega (arith, rows-room item level))
+      ∙ append-assoc (take (keyRowsOf item) zeros) put rest
+      ∙ ap (λ (front : List ℕ). front ++ (put ++ rest)) (key-front item)
+      ∙ ap (λ (n : ℕ). replicate (length (keysOf item)) 0 ++ (take n behind ++ rest)) (rows-counted item level)
+
+-- hold the quote that the values do
 pub quote-held : (level : Level) (values : List ℕ) → length values ≡ most
-    → quoteOf (recordForm level) (sets (replicate mostRows 0) keyRowCount (take (recordRows level) (drop first values))) ≡ quoteIn level values
+    → quoteOf (recordForm Contract level) (sets (replicate mostRows 0) (keyRowsOf Contract) (take (recordRows Contract level) (drop first values))) ≡ quoteIn level values
 unfolding quoteIn quoteOf
 quote-held level values long =
-    let behind : List ℕ = drop first values in
-    let zeros : List ℕ = replicate mostRows 0 in
-    let put : List ℕ = take (recordRows level) behind in
-    let rest : List ℕ = drop (keyRowCount + length put) zeros in
-    let few : length (valueRows level) ≤ 32 = rw (rows-counted level) at (rows-few level) in
-    let fits : length put ≡ recordRows level = length-take-le (recordRows level) behind (simp length-drop (omega (arith, rows-few level))) in
-    ap (quoteOf (recordForm level)) (sets-eq put zeros keyRowCount (omega (arith, rows-few level)))
-    ∙ ap (λ (rows : List NamedRow). quoteBy rows (replicate keyRowCount 0 ++ put ++ rest)) (rows-behind level)
-    ∙ ap (λ (n : ℕ). quoteBy (keyRows ++ valueRows level) (replicate keyRowCount 0 ++ take n behind ++ rest)) (rows-counted level)
-    ∙ quote-named (valueRows level) behind rest (simp length-drop (omega arith))
+    ap (quoteOf (recordForm Contract level)) (cells-held Contract level values long)
+    ∙ ap (λ (rows : List NamedRow). quoteBy rows (heldCells keyRows (valueRows Contract level) (drop first values) (rest Contract level values long))) (rows-behind Contract level)
+    ∙ quote-named (valueRows Contract level) (drop first values) (rest Contract level values long) (enough Contract level values long)
+
+pub spread-held : (level : Level) (values : List ℕ) → length values ≡ most
+    → spreadQuoteOf (recordForm Pair level) (sets (replicate mostRows 0) (keyRowsOf Pair) (take (recordRows Pair level) (drop first values))) ≡ spreadIn level values
+unfolding spreadIn spreadQuoteOf
+spread-held level values long =
+    ap (spreadQuoteOf (recordForm Pair level)) (cells-held Pair level values long)
+    ∙ ap (λ (rows : List NamedRow). spreadQuoteBy rows (heldCells pairKeyRows (valueRows Pair level) (drop first values) (rest Pair level values long))) (rows-behind Pair level)
+    ∙ spread-named (valueRows Pair level) (drop first values) (rest Pair level values long) (enough Pair level values long)
 
 -- the values that were read are those to write: they hold the quote that its own cells hold
 pub values-back : (number : ℕ) (level : Level) (quote : Quote) (behind : List ℕ)
-    → quoteIn level (number ∷ rowValues level quote ++ behind) ≡ quoteOf (recordForm level) (cellsOf (recordForm level) quote)
+    → quoteIn level (number ∷ rowValues level quote ++ behind) ≡ quoteOf (recordForm Contract level) (cellsOf (recordForm Contract level) quote)
 unfolding quoteIn rowValues valueRows namedRows quoteOf cellsOf
 values-back number One quote behind = simp value-cell
 values-back number Two quote behind = simp value-cell
+
+pub spread-values-back : (number : ℕ) (level : Level) (quote : SpreadQuote) (behind : List ℕ)
+    → spreadIn level (number ∷ spreadValues level quote ++ behind) ≡ spreadQuoteOf (recordForm Pair level) (spreadCellsOf (recordForm Pair level) quote)
+unfolding spreadIn spreadValues valueRows namedRows spreadQuoteOf spreadCellsOf
+spread-values-back number One quote behind = simp value-cell
+spread-values-back number Two quote behind = simp value-cell

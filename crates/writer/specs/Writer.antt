@@ -1,4 +1,5 @@
--- Writing a message: 01 "The message", "The checksum", "Numbers in text", and the writer's order of checks.
+-- Writing a message from the cells of its rows: 01 "The message", "The checksum", "Numbers in text", and the writer's order of
+-- checks.
 use Prim.Native.Nat.{ℕ, _+_, _≤_}
 use mathlib.Core.Path.{_≡_}
 use mathlib.Core.Bool.{true, false}
@@ -8,11 +9,10 @@ use lib.ListN.{length, drop}
 use Rattle.laws.specs.Rules.{firstBroken}
 use Rattle.wire.specs.Number.{bytesOf}
 use Rattle.wire.specs.Checksum.{checksumOf}
-use Rattle.quote.specs.declared.quote.Quote.{Quote}
 use Rattle.layout.specs.declared.read.Verdict.{Verdict}
 use Rattle.layout.specs.declared.read.Verdict.the-variants as verdict
 use Rattle.forms.specs.declared.rows.Row.{Row}
-use Rattle.quote.specs.Quote.{cellsOf}
+use Rattle.forms.specs.declared.forms.Form.{Form}
 use Rattle.forms.specs.declared.forms.Chosen.{Chosen}
 use Rattle.forms.specs.declared.forms.Chosen.the-variants as chosen
 use Rattle.forms.specs.declared.forms.Sum.{Sum}
@@ -45,14 +45,14 @@ abbrev pub rowsWritten : Chosen → List Row
 rowsWritten (chosen.Form form) = rowsOf form
 rowsWritten chosen.NoForm = []
 
--- 01 "The message": the cells that they are written from
-abbrev pub cellsWritten : Chosen → Quote → List ℕ
-cellsWritten (chosen.Form form) quote = cellsOf form quote
-cellsWritten chosen.NoForm quote = []
+-- 01 "The message": the cells that they are written from, by what a quote's cells are in each form
+abbrev pub cellsWritten : Chosen → (Form → List ℕ) → List ℕ
+cellsWritten (chosen.Form form) cells = cells form
+cellsWritten chosen.NoForm cells = []
 
 -- 01 "The message": the data, and the verdict on its rows
-unfoldable pub dataWritten : Chosen → List ℕ → Quote → Laid
-dataWritten form key quote = writeRows 0 (rowsWritten form) key (cellsWritten form quote)
+unfoldable pub dataWritten : Chosen → List ℕ → List ℕ → Laid
+dataWritten form key cells = writeRows 0 (rowsWritten form) key cells
 
 -- 01, the writer's order of checks: "then 11 and 12 by row": the first bad row's
 abbrev pub rowsRules : Verdict → List Rule
@@ -69,18 +69,18 @@ unfoldable pub lengthWritten : Chosen → ℕ
 lengthWritten form = messageLength (rowsWritten form)
 
 -- 01, the order of checks: "Writer: code not in the table (6), 10, then 11 and 12 by row, then 15"
-unfoldable pub writeRules : Chosen → ℕ → List ℕ → Quote → ℕ → List Rule
-writeRules form number key quote room =
-    codeRules form number ++ rowsRules (dataWritten form key quote .verdict) ++ roomRules (lengthWritten form) room
+unfoldable pub writeRules : Chosen → ℕ → List ℕ → List ℕ → ℕ → List Rule
+writeRules form number key cells room =
+    codeRules form number ++ rowsRules (dataWritten form key cells .verdict) ++ roomRules (lengthWritten form) room
 
 -- 01, the table's rows 6, 10, 11, 12 and 15: a message that the writer writes breaks no rule
-pub record GoodWrite (form : Chosen) (number : ℕ) (key : List ℕ) (quote : Quote) (room : ℕ) : Type 0 where
+pub record GoodWrite (form : Chosen) (number : ℕ) (key cells : List ℕ) (room : ℕ) : Type 0 where
   -- 6
   pub tabled : inTable form ≡ true
   -- 10
   pub has-number : numbered form number ≡ true
   -- 11 and 12
-  pub rows-good : dataWritten form key quote .verdict ≡ verdict.Good
+  pub rows-good : dataWritten form key cells .verdict ≡ verdict.Good
   -- 15
   pub has-room : lengthWritten form ≤ room
 

@@ -8,14 +8,14 @@ use native.Mathlib.Omega.{arith}
 use borrow.Author.Tests.{le-leb, lt-leb}
 use borrow.Rule.Slice.PartMut.{midOf, putMid, post-is, mid-len}
 use lib.ListN.{length, getD, set, take, drop, length-append, length-drop}
-use lib.Seq.{sets, sets-eq, take-nil, take-all, take-at, drop-append-add, drop-drop}
+use lib.Seq.{sets, sets-eq, take-all, take-at, drop-append-add, drop-drop}
 use Rattle.laws.specs.Rules.{firstBroken}
 use Rattle.laws.specs.RulesLaws.{front-holds, none-hold, front-broken}
-use Rattle.quote.specs.declared.quote.Quote.{Quote}
 use Rattle.layout.specs.declared.read.Verdict.{Verdict}
 use Rattle.layout.specs.declared.read.Verdict.the-variants as verdict
 use Rattle.forms.specs.declared.rows.Level.{Level}
 use Rattle.forms.specs.declared.forms.Form.{Form}
+use Rattle.forms.specs.declared.forms.Item.{Item}
 use Rattle.forms.specs.declared.forms.Chosen.{Chosen}
 use Rattle.forms.specs.declared.forms.Chosen.the-variants as chosen
 use Rattle.forms.specs.declared.forms.Named.the-variants as is
@@ -24,7 +24,6 @@ use Rattle.forms.specs.declared.forms.Sum.the-variants.{Zero, Right, RightOrZer
 use Rattle.forms.specs.Forms.{rowsOf, sumRule}
 use Rattle.forms.specs.Rows.{dataLength}
 use Rattle.forms.specs.Sizes.{bareLength}
-use Rattle.quote.specs.Quote.{cellsOf}
 use Rattle.layout.specs.AnswersLaws.{verdict-told}
 use Rattle.layout.specs.Write.{Laid, overFront, whereGood, WritesUpdate, writeRows}
 use Rattle.layout.specs.WriteLaws.{good-length}
@@ -37,8 +36,9 @@ use Rattle.state.specs.declared.state.Checked.{Checked}
 use Rattle.writer.specs.declared.writing.Code.{Code}
 use Rattle.state.specs.Answers.{leftBy, answered, checkedNumbers, checkedBy}
 use Rattle.state.specs.Refusals.{Rule}
-use Rattle.writer.specs.Writer.{codeRules, rowsWritten, cellsWritten, dataWritten, rowsRules, roomRules, lengthWritten, writeRules, headBytes, sumWritten, endByte, beforeTrailer, messageBytes, messagePut, LaysRows, PutsMessage}
-use Rattle.writer.specs.WriterPromises.{WroteForm}
+use Rattle.writer.specs.Writer.{codeRules, rowsWritten, dataWritten, rowsRules, roomRules, lengthWritten, writeRules, headBytes, sumWritten, endByte, beforeTrailer, messageBytes, messagePut, LaysRows, PutsMessage}
+use Rattle.writer.specs.Chosen.{formWritten}
+use Rattle.writer.specs.WriterPromises.{WroteForm, WroteCells}
 
 -- ---- the code
 
@@ -52,12 +52,12 @@ module _ (form : Form) (number : ℕ) where
 -- ---- the rows
 
 -- the rows of a form
-pub form-rows : (form : Form) (key : List ℕ) (quote : Quote) {before after : List ℕ} {v : Verdict} {answer : Checked}
-    → WritesUpdate (writeRows 0 (rowsOf form) key (cellsOf form quote)) before v after → checkedNumbers answer ≡ checkedBy (firstBroken (rowsRules v))
-    → LaysRows (dataWritten (chosen.Form form) key quote) before answer after
+pub form-rows : (form : Form) (key cells : List ℕ) {before after : List ℕ} {v : Verdict} {answer : Checked}
+    → WritesUpdate (writeRows 0 (rowsOf form) key cells) before v after → checkedNumbers answer ≡ checkedBy (firstBroken (rowsRules v))
+    → LaysRows (dataWritten (chosen.Form form) key cells) before answer after
 unfolding dataWritten
-form-rows form key quote {v = v} wrote told =
-    let same = verdict-told v (writeRows 0 (rowsOf form) key (cellsOf form quote) .verdict) (wrote .answers) in
+form-rows form key cells {v = v} wrote told =
+    let same = verdict-told v (writeRows 0 (rowsOf form) key cells .verdict) (wrote .answers) in
     record { answers = told ∙ ap (λ (w : Verdict). checkedBy (firstBroken (rowsRules w))) same; leaves = wrote .leaves }
 
 pub rows-pass : (v : Verdict) → firstBroken (rowsRules v) ≡ none → v ≡ verdict.Good
@@ -66,10 +66,10 @@ rows-pass (verdict.Field row) e = cc
 rows-pass (verdict.Range row) e = cc
 
 -- good rows are as long as they are wide
-pub long-data : (form : Chosen) (key : List ℕ) (quote : Quote) → dataWritten form key quote .verdict ≡ verdict.Good
-    → length (dataWritten form key quote .bytes) ≡ dataLength (rowsWritten form)
+pub long-data : (form : Chosen) (key cells : List ℕ) → dataWritten form key cells .verdict ≡ verdict.Good
+    → length (dataWritten form key cells .bytes) ≡ dataLength (rowsWritten form)
 unfolding dataWritten
-long-data form key quote good = good-length 0 (rowsWritten form) key (cellsWritten form quote) good
+long-data form key cells good = good-length 0 (rowsWritten form) key cells good
 
 -- ---- the message in front
 
@@ -170,14 +170,14 @@ no-room code number bytes out n e h =
 
 -- ---- the checks in their order
 
-module _ (form : Chosen) (code : Code) (number : ℕ) (key : List ℕ) (quote : Quote) (out : List ℕ) where
+module _ (form : Chosen) (code : Code) (number : ℕ) (key cells out : List ℕ) where
   abbrev rows : Laid
-  rows = dataWritten form key quote
+  rows = dataWritten form key cells
 
   abbrev broken : Option Refusal
-  broken = firstBroken (writeRules form number key quote (length out))
+  broken = firstBroken (writeRules form number key cells (length out))
 
-  refuses : (r : Refusal) → broken ≡ some r → WroteForm form code number key quote out (Written.Refused r) out
+  refuses : (r : Refusal) → broken ≡ some r → WroteForm form code number key cells out (Written.Refused r) out
   refuses r e =
       record {
         answers = sym (ap (λ (o : Option Refusal). answered o (lengthWritten form ∷ [])) e);
@@ -187,19 +187,19 @@ module _ (form : Chosen) (code : Code) (number : ℕ) (key : List ℕ) (quote : 
   abbrev behind : List Rule
   behind = roomRules (lengthWritten form) (length out)
 
-  pub code-refused : (r : Refusal) → firstBroken (codeRules form number) ≡ some r → WroteForm form code number key quote out (Written.Refused r) out
+  pub code-refused : (r : Refusal) → firstBroken (codeRules form number) ≡ some r → WroteForm form code number key cells out (Written.Refused r) out
   unfolding writeRules
   code-refused r e = refuses r (front-broken (codeRules form number) (rowsRules (rows .verdict) ++ behind) r e)
 
   module _ (coded : firstBroken (codeRules form number) ≡ none) where
-    pub rows-refused : (r : Refusal) → firstBroken (rowsRules (rows .verdict)) ≡ some r → WroteForm form code number key quote out (Written.Refused r) out
+    pub rows-refused : (r : Refusal) → firstBroken (rowsRules (rows .verdict)) ≡ some r → WroteForm form code number key cells out (Written.Refused r) out
     unfolding writeRules
     rows-refused r e =
         refuses r (front-holds (codeRules form number) (rowsRules (rows .verdict) ++ behind) (none-hold (codeRules form number) coded) ∙ front-broken (rowsRules (rows .verdict)) behind r e)
 
     module _ (good : firstBroken (rowsRules (rows .verdict)) ≡ none) where
       pub long-rows : length (rows .bytes) ≡ dataLength (rowsWritten form)
-      long-rows = long-data form key quote (rows-pass (rows .verdict) good)
+      long-rows = long-data form key cells (rows-pass (rows .verdict) good)
 
       -- the rows as they lie on scratch memory
       pub laid-rows : {before after : List ℕ} {answer : Checked} → length (rows .bytes) ≤ length before → LaysRows rows before answer after
@@ -212,7 +212,7 @@ module _ (form : Chosen) (code : Code) (number : ℕ) (key : List ℕ) (quote : 
           (l .leaves ∙ ap (λ v. whereGood v (overFront (rows .bytes) before) before) (rows-pass (rows .verdict) good) ∙ front)
           ∙ take-at (rows .bytes) (drop (length (rows .bytes)) before) n long-rows
 
-      pub sent : {answer : Written} {out′ : List ℕ} → PutsMessage code number (rows .bytes) out answer out′ → WroteForm form code number key quote out answer out′
+      pub sent : {answer : Written} {out′ : List ℕ} → PutsMessage code number (rows .bytes) out answer out′ → WroteForm form code number key cells out answer out′
       unfolding writeRules lengthWritten
       sent p =
           let decides = front-holds (codeRules form number) (rowsRules (rows .verdict) ++ behind) (none-hold (codeRules form number) coded) ∙ front-holds (rowsRules (rows .verdict)) behind (none-hold (rowsRules (rows .verdict)) good) in
@@ -226,3 +226,15 @@ module _ (form : Chosen) (code : Code) (number : ℕ) (key : List ℕ) (quote : 
                 p .leaves ∙ ap (λ (n : ℕ). leftBy (firstBroken (roomRules n (length out))) out put) same
                 ∙ sym (ap (λ (o : Option Refusal). leftBy o out put) decides);
           }
+
+-- ---- the form that is chosen
+
+module _ (item : Item) (code : Code) (level : Level) (number : ℕ) (key : List ℕ) (cells : Form → List ℕ) (out : List ℕ) where
+  -- it is written from its own cells
+  pub form-chosen : {form : Form} {given out′ : List ℕ} {answer : Written} → formWritten item code level ≡ chosen.Form form → given ≡ cells form
+      → WroteForm (chosen.Form form) code number key given out answer out′ → WroteCells item code level number key cells out answer out′
+  form-chosen chose same wrote = rw (chose, ← same) wrote
+
+  -- 6 where there is none
+  pub none-chosen : formWritten item code level ≡ chosen.NoForm → WroteCells item code level number key cells out (Written.Refused (CodeOver 0)) out
+  none-chosen chose = rw chose (code-refused chosen.NoForm code number key [] out (CodeOver 0) refl)

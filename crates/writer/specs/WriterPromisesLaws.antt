@@ -9,8 +9,9 @@ use lib.ListN.{length, take, drop}
 use lib.Seq.{take-at, drop-at}
 use Rattle.laws.specs.Rules.{firstBroken}
 use Rattle.laws.specs.RulesLaws.{none-hold, hold-none, hold-append}
-use Rattle.quote.specs.declared.quote.Quote.{Quote}
 use Rattle.forms.specs.declared.rows.Level.{Level}
+use Rattle.forms.specs.declared.forms.Form.{Form}
+use Rattle.forms.specs.declared.forms.Item.{Item}
 use Rattle.layout.specs.Write.{Laid}
 use Rattle.forms.specs.declared.forms.Chosen.{Chosen}
 use Rattle.forms.specs.Sizes.{bareLength}
@@ -20,24 +21,24 @@ use Rattle.writer.specs.declared.writing.Code.{Code}
 use Rattle.state.specs.AnswersLaws.{written-told, refused-by, accepted-by}
 use Rattle.state.specs.Answers.{leftBy}
 use Rattle.state.specs.Refusals.{Rule}
-use Rattle.writer.specs.Writer.{codeRules, dataWritten, rowsRules, roomRules, lengthWritten, writeRules, GoodWrite, messageBytes, messagePut}
+use Rattle.writer.specs.Writer.{codeRules, cellsWritten, dataWritten, rowsRules, roomRules, lengthWritten, writeRules, GoodWrite, messageBytes, messagePut}
 use Rattle.writer.specs.Chosen.{formWritten}
 use Rattle.writer.specs.WriterLaws.{rows-pass, long-data, message-long}
-use Rattle.writer.specs.WriterPromises.{WroteMessage}
+use Rattle.writer.specs.WriterPromises.{WroteCells}
 
 -- none of its rules is broken exactly where the message is good
-pub write-exact : (form : Chosen) (number : ℕ) (key : List ℕ) (quote : Quote) (room : ℕ)
-    → firstBroken (writeRules form number key quote room) ≡ none ↔ GoodWrite form number key quote room
+pub write-exact : (form : Chosen) (number : ℕ) (key cells : List ℕ) (room : ℕ)
+    → firstBroken (writeRules form number key cells room) ≡ none ↔ GoodWrite form number key cells room
 unfolding writeRules
-write-exact form number key quote room = (to, from)
+write-exact form number key cells room = (to, from)
   where
     rows : Laid
-    rows = dataWritten form key quote
+    rows = dataWritten form key cells
 
     last : List Rule
     last = roomRules (lengthWritten form) room
 
-    to : firstBroken (codeRules form number ++ rowsRules (rows .verdict) ++ last) ≡ none → GoodWrite form number key quote room
+    to : firstBroken (codeRules form number ++ rowsRules (rows .verdict) ++ last) ≡ none → GoodWrite form number key cells room
     to e =
         let front = hold-append (codeRules form number ++ rowsRules (rows .verdict)) last .0 (none-hold (codeRules form number ++ rowsRules (rows .verdict) ++ last) e) in
         let two = hold-append (codeRules form number) (rowsRules (rows .verdict)) .0 (front .0) in
@@ -48,37 +49,40 @@ write-exact form number key quote room = (to, from)
           has-room = leb-true (lengthWritten form) room (front .1 .0);
         }
 
-    from : GoodWrite form number key quote room → firstBroken (codeRules form number ++ rowsRules (rows .verdict) ++ last) ≡ none
+    from : GoodWrite form number key cells room → firstBroken (codeRules form number ++ rowsRules (rows .verdict) ++ last) ≡ none
     from g =
         rw (g .rows-good, g .tabled, g .has-number, le-leb (lengthWritten form) room (g .has-room))
 
-module _ (code : Code) (level : Level) (number : ℕ) (key : List ℕ) (quote : Quote) (out : List ℕ) where
+module _ (item : Item) (code : Code) (level : Level) (number : ℕ) (key : List ℕ) (cells : Form → List ℕ) (out : List ℕ) where
   abbrev form : Chosen
-  form = formWritten code level
+  form = formWritten item code level
+
+  abbrev given : List ℕ
+  given = cellsWritten form cells
 
   abbrev broken : Option Refusal
-  broken = firstBroken (writeRules form number key quote (length out))
+  broken = firstBroken (writeRules form number key given (length out))
 
   abbrev rows : Laid
-  rows = dataWritten form key quote
+  rows = dataWritten form key given
 
-  pub one-written : {out′ out″ : List ℕ} (a b : Written) → WroteMessage code level number key quote out a out′
-      → WroteMessage code level number key quote out b out″ → (a ≡ b) × (out′ ≡ out″)
+  pub one-written : {out′ out″ : List ℕ} (a b : Written) → WroteCells item code level number key cells out a out′
+      → WroteCells item code level number key cells out b out″ → (a ≡ b) × (out′ ≡ out″)
   one-written a b p q = (written-told a b (p .answers ∙ sym (q .answers)), p .out-left ∙ sym (q .out-left))
 
   -- a refusal is the first broken rule's, and no byte changes
-  pub write-refusal : {out′ : List ℕ} (r : Refusal) → WroteMessage code level number key quote out (Written.Refused r) out′ → (broken ≡ some r) × (out′ ≡ out)
+  pub write-refusal : {out′ : List ℕ} (r : Refusal) → WroteCells item code level number key cells out (Written.Refused r) out′ → (broken ≡ some r) × (out′ ≡ out)
   write-refusal r p =
       let e = refused-by broken (lengthWritten form ∷ []) r (p .answers) in
       (e, p .out-left ∙ ap (λ (o : Option Refusal). leftBy o out (messagePut code number (rows .bytes) out)) e)
 
   -- an accepted message: its length is answered, it stands in front, and no byte behind it changes
-  module _ {out′ : List ℕ} (n : ℕ) (p : WroteMessage code level number key quote out (Written.Message n) out′) where
+  module _ {out′ : List ℕ} (n : ℕ) (p : WroteCells item code level number key cells out (Written.Message n) out′) where
     held : (broken ≡ none) × (n ∷ [] ≡ lengthWritten form ∷ [])
     held = accepted-by broken (lengthWritten form ∷ []) (n ∷ []) (p .answers)
 
-    pub written-good : GoodWrite form number key quote (length out)
-    written-good = write-exact form number key quote (length out) .0 (held .0)
+    pub written-good : GoodWrite form number key given (length out)
+    written-good = write-exact form number key given (length out) .0 (held .0)
 
     pub length-answered : n ≡ lengthWritten form
     length-answered = let values = held .1 in cc
@@ -87,7 +91,7 @@ module _ (code : Code) (level : Level) (number : ℕ) (key : List ℕ) (quote : 
     unfolding lengthWritten
     bytes-long =
         let g = written-good in
-        message-long code number (rows .bytes) ∙ ap (λ (k : ℕ). k + bareLength) (long-data form key quote (g .rows-good)) ∙ sym length-answered
+        message-long code number (rows .bytes) ∙ ap (λ (k : ℕ). k + bareLength) (long-data form key given (g .rows-good)) ∙ sym length-answered
 
     put : out′ ≡ messageBytes code number (rows .bytes) ++ drop (length (rows .bytes) + bareLength) out
     unfolding messagePut

@@ -8,16 +8,20 @@ ghost use Rattle.laws.specs.Rules.{firstBroken};
 ghost use Rattle.forms.specs.Sizes.{mostData};
 ghost use Rattle.state.specs.Answers.{checkedNumbers, checkedBy};
 ghost use Rattle.writer.specs.Writer.{rowsRules, dataWritten, headBytes, sumWritten, endByte, LaysRows, PutsMessage};
-ghost use Rattle.writer.specs.WriterPromises.{WroteForm, WroteMessage};
+ghost use Rattle.writer.specs.WriterPromises.{WroteForm, WroteMessage, WroteSpread};
 use layout::Chosen;
 use layout::Form;
+use layout::Item;
 use layout::KEY_BYTES;
 use layout::Level;
 use layout::MOST_DATA;
+use layout::MOST_ROWS;
 use layout::Named;
+use layout::PAIR_BYTES;
 use layout::Sum;
 use layout::Verdict;
 use quote::Quote;
+use quote::SpreadQuote;
 use state::Checked;
 use state::Refusal;
 use state::Written;
@@ -41,11 +45,10 @@ fn of_verdict(verdict: Verdict) -> Checked
 }
 
 // The rows of a form, the first bad one deciding: 11 and 12. A heartbeat has none.
-fn lay_rows(form: Form, key: &[u8; KEY_BYTES], quote: Quote, data: &mut [u8]) -> Checked
-    ensures { λ r. ⌜ LaysRows (dataWritten (Chosen.Form form) (now (key .entry)) quote) (now («data» .entry)) r (now («data» .exit)) ⌝ }
+fn lay_rows(form: Form, key: &[u8], cells: &[u64; MOST_ROWS], data: &mut [u8]) -> Checked
+    ensures { λ r. ⌜ LaysRows (dataWritten (Chosen.Form form) (now (key .entry)) (now (cells .entry))) (now («data» .entry)) r (now («data» .exit)) ⌝ }
 {
-    let cells = quote::cells_of(form, quote);
-    of_verdict(layout::write_update(form, key, &cells, data))
+    of_verdict(layout::write_update(form, key, cells, data))
 }
 
 fn put_head(code: Code, whole: u16, number: u32, out: &mut [u8])
@@ -107,23 +110,23 @@ fn write_form(
     form: Form,
     code: Code,
     number: u32,
-    key: &[u8; KEY_BYTES],
-    quote: Quote,
+    key: &[u8],
+    cells: &[u64; MOST_ROWS],
     out: &mut [u8],
 ) -> Written
-    ensures { λ r. ⌜ WroteForm (Chosen.Form form) code number (now (key .entry)) quote (now (out .entry)) r (now (out .exit)) ⌝ }
+    ensures { λ r. ⌜ WroteForm (Chosen.Form form) code number (now (key .entry)) (now (cells .entry)) (now (out .entry)) r (now (out .exit)) ⌝ }
 {
     if !message::takes_number(Named::Form(form), number) {
         return Written::Refused(Refusal::Numbering(0));
     }
     let mut data = [0u8; MOST_DATA];
-    match lay_rows(form, key, quote, &mut data) {
+    match lay_rows(form, key, cells, &mut data) {
         Checked::Refused(refusal) => Written::Refused(refusal),
         Checked::Good => put_message(code, number, &data, layout::data_length(form), out),
     }
 }
 
-// 6 for a code that is not in the table.
+// 6 for a code that is not in the table, and for those of pairs.
 pub fn write_message(
     code: Code,
     level: Level,
@@ -134,8 +137,31 @@ pub fn write_message(
 ) -> Written
     ensures { λ r. ⌜ WroteMessage code level number (now (key .entry)) quote (now (out .entry)) r (now (out .exit)) ⌝ }
 {
-    match layout::written_form(code.0, code.1, level) {
-        Chosen::Form(form) => write_form(form, code, number, key, quote, out),
+    match layout::written_form(code.0, code.1, Item::Contract, level) {
+        Chosen::Form(form) => {
+            let cells = quote::cells_of(form, quote);
+            write_form(form, code, number, key, &cells, out)
+        }
+        Chosen::NoForm => Written::Refused(Refusal::Code(0)),
+    }
+}
+
+// 6 for every code but those of pairs.
+pub fn write_spread(
+    code: Code,
+    level: Level,
+    number: u32,
+    pair: &[u8; PAIR_BYTES],
+    quote: SpreadQuote,
+    out: &mut [u8],
+) -> Written
+    ensures { λ r. ⌜ WroteSpread code level number (now (pair .entry)) quote (now (out .entry)) r (now (out .exit)) ⌝ }
+{
+    match layout::written_form(code.0, code.1, Item::Pair, level) {
+        Chosen::Form(form) => {
+            let cells = quote::spread_cells_of(form, quote);
+            write_form(form, code, number, pair, &cells, out)
+        }
         Chosen::NoForm => Written::Refused(Refusal::Code(0)),
     }
 }

@@ -4,6 +4,7 @@ use mathlib.Core.Path.{_≡_}
 use mathlib.Core.List.{List}
 use Rattle.forms.specs.declared.rows.Level.{Level}
 use Rattle.forms.specs.declared.forms.Form.{Form}
+use Rattle.forms.specs.declared.forms.Item.the-variants.{Contract}
 use Rattle.forms.specs.declared.forms.Chosen.the-variants as chosen
 use Rattle.forms.specs.declared.forms.Subject.the-variants.{Nothing}
 use Rattle.forms.specs.Forms.{subjectOf}
@@ -16,7 +17,7 @@ use Rattle.writer.specs.Chosen.{formWritten}
 
 -- 01 "The message": the codes of heartbeats, by the table of forms: what is written for them tells of nothing
 abbrev pub WritesHeartbeat : Code → Level → Type 0
-WritesHeartbeat code level = (form : Form) × (formWritten code level ≡ chosen.Form form) × (subjectOf form ≡ Nothing)
+WritesHeartbeat code level = (form : Form) × (formWritten Contract code level ≡ chosen.Form form) × (subjectOf form ≡ Nothing)
 
 -- 01 "Sequence and gaps": "A heartbeat .. changes nothing"; "What may be asked": an accepted batch answers how many heartbeats it has,
 -- and judging answers what taking would

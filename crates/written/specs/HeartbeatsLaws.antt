@@ -5,10 +5,10 @@ use mathlib.Core.List.{List, [], _∷_}
 use native.Mathlib.Omega.{arith}
 use lib.ListN.{take}
 use Rattle.contracts.specs.Lookup.{segmentOf}
-use Rattle.quote.specs.declared.quote.Quote.{Quote}
 use Rattle.forms.specs.declared.rows.Level.{Level}
 use Rattle.forms.specs.declared.forms.Form.{Form}
 use Rattle.forms.specs.declared.forms.Form.the-variants.{Heartbeat}
+use Rattle.forms.specs.declared.forms.Item.the-variants.{Contract}
 use Rattle.forms.specs.declared.forms.Named.the-variants as is
 use Rattle.forms.specs.declared.forms.Sum.the-variants.{Zero}
 use Rattle.forms.specs.Forms.{formsOf, sumRule, writtenForm}
@@ -28,7 +28,7 @@ use Rattle.batch.specs.Batch.{batchLetter}
 use Rattle.batch.specs.Acts.{batchActs, boxOf, lentAfter}
 use Rattle.writer.specs.declared.writing.Code.{Code}
 use Rattle.writer.specs.Writer.{messageBytes}
-use Rattle.writer.specs.WriterPromises.{WroteMessage}
+use Rattle.writer.specs.WriterPromises.{WroteCells}
 use Rattle.written.specs.Heartbeats.{WritesHeartbeat, OneHeartbeat}
 use Rattle.written.specs.ReadBack.{batchOf}
 use Rattle.written.specs.ReadBackStepsLaws.{letter-is, batch-acts}
@@ -39,27 +39,27 @@ pub heartbeats-chosen : (level : Level) → WritesHeartbeat (record { 0 = 68; 1 
 unfolding writtenForm formsOf
 heartbeats-chosen level = ((Heartbeat, refl, refl), (Heartbeat, refl, refl))
 
-module _ (code : Code) (level : Level) (number : ℕ) (key : List ℕ) (quote : Quote) (out out′ : List ℕ) (n : ℕ)
-    (beat : WritesHeartbeat code level) (wrote : WroteMessage code level number key quote out (Written.Message n) out′)
+module _ (code : Code) (level : Level) (number : ℕ) (key : List ℕ) (cells : Form → List ℕ) (out out′ : List ℕ) (n : ℕ)
+    (beat : WritesHeartbeat code level) (wrote : WroteCells Contract code level number key cells out (Written.Message n) out′)
   where
     abbrev form : Form
     form = beat .0
 
     -- 01 "Sequence and gaps": "A heartbeat has number 0"
     pub heartbeat-zero : number ≡ 0
-    heartbeat-zero = rw (beat .2) at (number-exact (is.Form form) number .0 (number-fits code level number key quote out out′ n form (beat .1) wrote))
+    heartbeat-zero = rw (beat .2) at (number-exact (is.Form form) number .0 (number-fits Contract code level number key cells out out′ n form (beat .1) wrote))
 
     -- 01 "The message", "The checksum": no data, and "Heartbeats carry zero"
     pub heartbeat-bytes : take n out′ ≡ code .0 ∷ code .1 ∷ 0 ∷ 11 ∷ 0 ∷ 0 ∷ 0 ∷ 0 ∷ 0 ∷ 0 ∷ 13 ∷ []
     unfolding messageBytes
     heartbeat-bytes =
-        let sum : sumRule (code .0) (code .1) ≡ Zero = written-told (code .0) (code .1) level form (beat .1) .summed-so ∙ nothing-zero form (beat .2) in
-        message-there code level number key quote out out′ n form (beat .1) wrote ∙ rw (heartbeat-zero, nothing-rows form (beat .2), sum)
+        let sum : sumRule (code .0) (code .1) ≡ Zero = written-told (code .0) (code .1) Contract level form (beat .1) .summed-so ∙ nothing-zero form (beat .2) in
+        message-there Contract code level number key cells out out′ n form (beat .1) wrote ∙ rw (heartbeat-zero, nothing-rows form (beat .2), sum)
 
     abbrev batch : List ℕ
     batch = batchOf (take n out′)
 
-    module _ (lent : Lent) (state : GoodState lent) (listed : LetterListed (lent .list) (code .0)) where
+    module _ (lent : Lent) (state : GoodState lent) (listed : LetterListed (lent .lists .contracts) (code .0)) where
       abbrev after : Box
       after = record { row = boxOf lent (code .0) .row; records = lent .records; taken = 0; old = 0; heartbeats = 1 }
 
@@ -67,8 +67,8 @@ module _ (code : Code) (level : Level) (number : ℕ) (key : List ℕ) (quote : 
       unfolding messageActs
       does =
           let few : number < 2 ^ 32 = omega (arith, heartbeat-zero) in
-          batch-acts code level number key quote out out′ n form (beat .1) wrote lent state after
-          (rw (heartbeat-is code level number key quote out out′ n form (beat .1) wrote few (lent .list) (listed-exact (lent .list) (code .0) .1 listed) (beat .2)))
+          batch-acts Contract code level number key cells out out′ n form (beat .1) wrote lent state after
+          (rw (heartbeat-is Contract code level number key cells out out′ n form (beat .1) wrote few (lent .lists) (listed-exact (lent .lists .contracts) (code .0) .1 listed) (beat .2)))
 
       answer-is : (answer : Judged) → judgedNumbers answer ≡ actedNumbers (batchActs lent batch) → answer ≡ Accepted 0 0 1
       answer-is answer e = judged-told answer (Accepted 0 0 1) (e ∙ ap actedNumbers does)
@@ -80,6 +80,6 @@ module _ (code : Code) (level : Level) (number : ℕ) (key : List ℕ) (quote : 
         all-kept = λ answer lent′ p.
             p .left
             ∙ ap (lentAfter lent (batchLetter batch)) does
-            ∙ ap (λ (letter : ℕ). lentAfter lent letter (acted after)) (letter-is code level number key quote out out′ n form (beat .1) wrote)
-            ∙ ap (λ (rows : List ℕ). lends (lent .list) rows (lent .records)) (rows-back (lent .rows) (segmentOf (lent .list) (code .0)));
+            ∙ ap (λ (letter : ℕ). lentAfter lent letter (acted after)) (letter-is Contract code level number key cells out out′ n form (beat .1) wrote)
+            ∙ ap (λ (rows : List ℕ). lends (lent .lists) rows (lent .records)) (rows-back (lent .rows) (segmentOf (lent .lists .contracts) (code .0)));
       }

@@ -8,15 +8,15 @@ use borrow.Author.Tests.{lt-ltb}
 use lib.ListN.{length, getD, take, drop, replicate, length-append, length-drop}
 use lib.Seq.{sets-eq, getD-at, take-at, drop-at, length-take-le, append-snoc}
 use Rattle.wire.specs.NumberLaws.{read-back}
-use Rattle.quote.specs.declared.quote.Quote.{Quote}
 use Rattle.forms.specs.declared.rows.Level.{Level}
 use Rattle.forms.specs.declared.rows.Level.the-variants.{One, Two}
 use Rattle.layout.specs.Cells.{zerosBehind, seenCells}
 use Rattle.forms.specs.declared.rows.Row.{Row}
 use Rattle.forms.specs.declared.forms.Form.{Form}
+use Rattle.forms.specs.declared.forms.Item.{Item}
+use Rattle.forms.specs.declared.forms.Item.the-variants.{Contract, Pair}
 use Rattle.forms.specs.declared.forms.Chosen.the-variants as chosen
-use Rattle.forms.specs.Forms.{namedRows, rowsOf, recordForm}
-use Rattle.forms.specs.Sizes.{keyRowCount}
+use Rattle.forms.specs.Forms.{namedRows, rowsOf, recordForm, keyRowsOf}
 use Rattle.message.specs.Fields.{letterOf, lengthOf}
 use Rattle.state.specs.declared.answers.Written.{Written}
 use Rattle.state.specs.GoodState.{GoodState}
@@ -35,7 +35,7 @@ use Rattle.batch.specs.Good.{GoodFront}
 use Rattle.quotebox.specs.Record.{recordNumber, cellsAt}
 use Rattle.writer.specs.declared.writing.Code.{Code}
 use Rattle.writer.specs.Chosen.{formWritten}
-use Rattle.writer.specs.WriterPromises.{WroteMessage}
+use Rattle.writer.specs.WriterPromises.{WroteCells}
 use Rattle.written.specs.ReadBack.{batchOf}
 use Rattle.written.specs.WrittenFieldsLaws.{letter-written}
 use Rattle.written.specs.WrittenUpdateLaws.{written, message-there, all-of-it, written-short}
@@ -62,59 +62,61 @@ module _ (message : List ℕ) (short : length message ≤ 32767) where
       record { begun = omega arith; small = omega arith; whole = omega arith; plain = omega arith; some-messages = omega (arith, count-one) }
 
 -- what a written message does where it stands alone, the batch does
-module _ (code : Code) (level : Level) (number : ℕ) (key : List ℕ) (quote : Quote) (out out′ : List ℕ) (n : ℕ)
-    (form : Form) (chose : formWritten code level ≡ chosen.Form form) (wrote : WroteMessage code level number key quote out (Written.Message n) out′)
+module _ (item : Item) (code : Code) (level : Level) (number : ℕ) (key : List ℕ) (cells : Form → List ℕ) (out out′ : List ℕ) (n : ℕ)
+    (form : Form) (chose : formWritten item code level ≡ chosen.Form form) (wrote : WroteCells item code level number key cells out (Written.Message n) out′)
   where
     abbrev alone : List ℕ
-    alone = written code level number key quote out out′ n form chose wrote
+    alone = written item code level number key cells out out′ n form chose wrote
 
     alone-short : length alone ≤ 32767
-    alone-short = omega (arith, written-short code level number key quote out out′ n form chose wrote)
+    alone-short = omega (arith, written-short item code level number key cells out out′ n form chose wrote)
 
     alone-letter : letterOf alone ≡ code .0
     alone-letter = letter-written code number _
 
     pub batch-is : batchOf (take n out′) ≡ batchOf alone
-    batch-is = ap batchOf (message-there code level number key quote out out′ n form chose wrote)
+    batch-is = ap batchOf (message-there item code level number key cells out out′ n form chose wrote)
 
     pub letter-is : batchLetter (batchOf (take n out′)) ≡ code .0
     letter-is = ap batchLetter batch-is ∙ ap letterOf (data-is alone alone-short) ∙ alone-letter
 
-    pub batch-acts : (lent : Lent) → GoodState lent → (box′ : Box) → messageActs (lent .list) (code .0) (boxOf lent (code .0)) 0 alone ≡ acted box′
+    pub batch-acts : (lent : Lent) → GoodState lent → (box′ : Box) → messageActs (lent .lists) (code .0) (boxOf lent (code .0)) 0 alone ≡ acted box′
         → batchActs lent (batchOf (take n out′)) ≡ acted box′
     batch-acts lent state box′ acts =
-        let none-left : length (drop (lengthOf alone) alone) ≡ 0 = omega (arith, length-drop (lengthOf alone) alone, all-of-it code level number key quote out out′ n form chose wrote) in
+        let none-left : length (drop (lengthOf alone) alone) ≡ 0 = omega (arith, length-drop (lengthOf alone) alone, all-of-it item code level number key cells out out′ n form chose wrote) in
         ap (batchActs lent) batch-is
         ∙ messages-decide lent (batchOf alone) (state-exact lent .1 state) (front-exact (batchOf alone) .1 (batch-front alone alone-short))
         ∙ rw (count-one alone alone-short, data-is alone alone-short, alone-letter)
-        (messages-next (lent .list) (code .0) 0 0 (boxOf lent (code .0)) alone box′ acts ∙ messages-end (lent .list) (code .0) 1 box′ (drop (lengthOf alone) alone) none-left)
+        (messages-next (lent .lists) (code .0) 0 0 (boxOf lent (code .0)) alone box′ acts ∙ messages-end (lent .lists) (code .0) 1 box′ (drop (lengthOf alone) alone) none-left)
 
 -- ---- the record
 
-abbrev rowsKept : Level → List Row
-rowsKept level = rowsOf (recordForm level)
+abbrev rowsKept : Item → Level → List Row
+rowsKept item level = rowsOf (recordForm item level)
 
 -- an update's cells behind those of its key
 seen-long : (rows : List Row) (cells : List ℕ) → length (seenCells rows cells) ≡ length rows
 seen-long [] cells = refl
 seen-long (row ∷ rows) cells = ap suc (seen-long rows (drop 1 cells))
 
-key-zeros : (level : Level) (cells : List ℕ) → replicate keyRowCount 0 ++ drop keyRowCount (seenCells (rowsKept level) cells) ≡ seenCells (rowsKept level) cells
+key-zeros : (item : Item) (level : Level) (cells : List ℕ) → replicate (keyRowsOf item) 0 ++ drop (keyRowsOf item) (seenCells (rowsKept item level) cells) ≡ seenCells (rowsKept item level) cells
 unfolding rowsOf namedRows
-key-zeros One cells = refl
-key-zeros Two cells = refl
+key-zeros Contract One cells = refl
+key-zeros Contract Two cells = refl
+key-zeros Pair One cells = refl
+key-zeros Pair Two cells = refl
 
-kept-is : (level : Level) (cells : List ℕ) → recordOf level (zerosBehind (seenCells (rowsKept level) cells)) ≡ drop keyRowCount (seenCells (rowsKept level) cells)
-kept-is level cells = ap (drop keyRowCount) (take-at (seenCells (rowsKept level) cells) _ (length (rowsKept level)) (seen-long (rowsKept level) cells))
+kept-is : (item : Item) (level : Level) (cells : List ℕ) → recordOf item level (zerosBehind (seenCells (rowsKept item level) cells)) ≡ drop (keyRowsOf item) (seenCells (rowsKept item level) cells)
+kept-is item level cells = ap (drop (keyRowsOf item)) (take-at (seenCells (rowsKept item level) cells) _ (length (rowsKept item level)) (seen-long (rowsKept item level) cells))
 
-module _ (level : Level) (cells records : List ℕ) (at number : ℕ) (lent : at + recordRows level < length records) (newer : getD records at 0 < number) where
+module _ (item : Item) (level : Level) (cells records : List ℕ) (at number : ℕ) (lent : at + recordRows item level < length records) (newer : getD records at 0 < number) where
   abbrev kept : List ℕ
-  kept = recordOf level (zerosBehind (seenCells (rowsKept level) cells))
+  kept = recordOf item level (zerosBehind (seenCells (rowsKept item level) cells))
 
-  long : length kept ≡ recordRows level
+  long : length kept ≡ recordRows item level
   long =
-      ap length (kept-is level cells) ∙ length-drop keyRowCount (seenCells (rowsKept level) cells)
-      ∙ omega (arith, seen-long (rowsKept level) cells, rows-kept level)
+      ap length (kept-is item level cells) ∙ length-drop (keyRowsOf item) (seenCells (rowsKept item level) cells)
+      ∙ omega (arith, seen-long (rowsKept item level) cells, rows-kept item level)
 
   is : stored at number kept records ≡ take at records ++ (number ∷ (kept ++ drop (at + suc (length kept)) records))
   is =
@@ -129,13 +131,13 @@ module _ (level : Level) (cells records : List ℕ) (at number : ℕ) (lent : at
   number-stored = ap (λ (r : List ℕ). getD r at 0) is ∙ getD-at (take at records) number _ 0 at front
 
   -- and its cells are the update's
-  pub cells-stored : cellsAt (stored at number kept records) at level ≡ zerosBehind (seenCells (rowsKept level) cells)
+  pub cells-stored : cellsAt item (stored at number kept records) at level ≡ zerosBehind (seenCells (rowsKept item level) cells)
   unfolding cellsAt
   cells-stored =
       let more : length (take at records ++ (number ∷ [])) ≡ at + 1 = length-append (take at records) (number ∷ []) ∙ ap (λ (n : ℕ). n + 1) front in
       let rest : List ℕ = kept ++ drop (at + suc (length kept)) records in
       let behind : drop (at + 1) (stored at number kept records) ≡ rest =
       ap (drop (at + 1)) (is ∙ sym (append-snoc (take at records) number rest)) ∙ drop-at (take at records ++ (number ∷ [])) rest (at + 1) more in
-      ap (λ (r : List ℕ). zerosBehind (replicate keyRowCount 0 ++ take (recordRows level) r)) behind
-      ∙ ap (λ (r : List ℕ). zerosBehind (replicate keyRowCount 0 ++ r)) (take-at kept _ (recordRows level) long ∙ kept-is level cells)
-      ∙ ap zerosBehind (key-zeros level cells)
+      ap (λ (r : List ℕ). zerosBehind (replicate (keyRowsOf item) 0 ++ take (recordRows item level) r)) behind
+      ∙ ap (λ (r : List ℕ). zerosBehind (replicate (keyRowsOf item) 0 ++ r)) (take-at kept _ (recordRows item level) long ∙ kept-is item level cells)
+      ∙ ap zerosBehind (key-zeros item level cells)

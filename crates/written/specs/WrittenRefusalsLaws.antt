@@ -1,34 +1,31 @@
 -- The writer refuses exactly: 6, 10, 11 and 12 by row, 15, and nothing else.
 use Prim.Native.Nat.{ℕ, _≤_, _<_}
 use mathlib.Core.Path.{_≡_, refl, ap, sym, _∙_}
-use mathlib.Core.Bool.{Bool, true, false, cond, _&&_, _||_}
-use mathlib.Core.Logic.{_⊎_, _↔_, Iff·trans}
+use mathlib.Core.Bool.{Bool, true, false, cond}
+use mathlib.Core.Logic.{_↔_, Iff·trans}
 use mathlib.Core.List.{List, [], _∷_, _++_}
 use mathlib.Core.Option.{Option, none, some}
 use native.Mathlib.Omega.{arith}
 use borrow.Author.Tests.{lt-leb, leb-false}
-use lib.Dec.{leb, eqb}
+use lib.Dec.{leb}
 use lib.ListN.{length}
 use Rattle.laws.specs.Rules.{firstBroken}
-use Rattle.laws.specs.Tests.{eqb-is, leb-is, and-is, or-is}
-use Rattle.quote.specs.declared.quote.Quote.{Quote}
+use Rattle.laws.specs.Tests.{leb-is}
 use Rattle.layout.specs.declared.read.Verdict.{Verdict}
 use Rattle.layout.specs.declared.read.Verdict.the-variants as verdict
 use Rattle.forms.specs.declared.rows.Level.{Level}
-use Rattle.forms.specs.declared.rows.Level.the-variants.{One, Two}
 use Rattle.forms.specs.declared.forms.Form.{Form}
-use Rattle.forms.specs.declared.forms.Form.the-variants.{Heartbeat, LevelOne, LevelTwo}
+use Rattle.forms.specs.declared.forms.Item.{Item}
 use Rattle.forms.specs.declared.forms.Named.the-variants as is
 use Rattle.forms.specs.declared.forms.Chosen.{Chosen}
 use Rattle.forms.specs.declared.forms.Chosen.the-variants as chosen
 use Rattle.forms.specs.declared.forms.Subject.the-variants.{Nothing}
 use Rattle.layout.specs.FirstBad.{refusalWritten, FirstAt}
 use Rattle.layout.specs.FirstBadLaws.{write-exactly}
-use Rattle.quote.specs.Quote.{cellsOf}
-use Rattle.forms.specs.Forms.{rowsOf, subjectOf, formsOf, writtenBy, writtenForm}
+use Rattle.forms.specs.Forms.{rowsOf, subjectOf, keyBytesOf}
+use Rattle.forms.specs.Names.{Name}
 use Rattle.forms.specs.FormsLaws.{nothing-rows}
 use Rattle.forms.specs.Rows.{messageLength}
-use Rattle.forms.specs.Sizes.{keyBytes}
 use Rattle.layout.specs.Write.{writeRows}
 use Rattle.message.specs.Tests.{takesNumber}
 use Rattle.state.specs.declared.answers.Written.{Written}
@@ -37,51 +34,51 @@ use Rattle.state.specs.declared.refusal.Refusal.the-variants.{Code as CodeOver,
 use Rattle.writer.specs.declared.writing.Code.{Code}
 use Rattle.state.specs.Answers.{writtenNumbers, answered}
 use Rattle.state.specs.AnswersLaws.{written-told, refused-by, accepted-by}
-use Rattle.writer.specs.Writer.{dataWritten, rowsRules, lengthWritten, writeRules}
+use Rattle.writer.specs.Writer.{cellsWritten, dataWritten, rowsRules, lengthWritten, writeRules}
 use Rattle.writer.specs.Chosen.{formWritten, inTable, numbered}
-use Rattle.writer.specs.WriterPromises.{WroteMessage}
-use Rattle.written.specs.WrittenRefusals.{MalformedAt, OutOfRangeAt, AllFine, First}
-use Rattle.written.specs.WrittenRowsLaws.{field-exact, range-exact, fine-exact}
+use Rattle.writer.specs.WriterPromises.{WroteCells}
+use Rattle.written.specs.WrittenRefusals.{Value, MalformedAt, OutOfRangeAt, AllFine, First}
+use Rattle.written.specs.WrittenRowsLaws.{Given, field-exact, range-exact, fine-exact}
 
 -- ---- the verdict on the rows
 
-module _ (form : Form) (key : List ℕ) (quote : Quote) (key-long : length key ≡ keyBytes) where
+module _ (item : Item) (form : Form) (key cells : List ℕ) (given : Name → Value) (from : Given item form given cells) (key-long : length key ≡ keyBytesOf item) where
   abbrev v : Verdict
-  v = writeRows 0 (rowsOf form) key (cellsOf form quote) .verdict
+  v = writeRows 0 (rowsOf form) key cells .verdict
 
   abbrev refusal : ℕ → ℕ
-  refusal = refusalWritten (rowsOf form) key (cellsOf form quote)
+  refusal = refusalWritten (rowsOf form) key cells
 
   -- the first refused row, in the terms of what is wrong with it
   module _ (n : ℕ) (Bad : ℕ → Type 0) (exact : (k : ℕ) → k < length (rowsOf form) → refusal k ≡ n ↔ Bad k) where
-    first-exact : (k : ℕ) → FirstAt refusal (length (rowsOf form)) n k ↔ First form key quote Bad k
+    first-exact : (k : ℕ) → FirstAt refusal (length (rowsOf form)) n k ↔ First form key given Bad k
     first-exact k = (
       (λ f. let inside = f .within in record {
         within = f .within;
         bad = exact k (f .within) .0 (f .refused);
-        fine-before = λ j h. fine-exact form key quote key-long j (omega arith) .0 (f .none-before j h);
+        fine-before = λ j h. fine-exact item form key cells given from key-long j (omega arith) .0 (f .none-before j h);
       }),
       (λ f. let inside = f .within in record {
         within = f .within;
         refused = exact k (f .within) .1 (f .bad);
-        none-before = λ j h. fine-exact form key quote key-long j (omega arith) .1 (f .fine-before j h);
+        none-before = λ j h. fine-exact item form key cells given from key-long j (omega arith) .1 (f .fine-before j h);
       }),
     )
 
-  verdict-field : (k : ℕ) → v ≡ verdict.Field k ↔ First form key quote (MalformedAt form key quote) k
+  verdict-field : (k : ℕ) → v ≡ verdict.Field k ↔ First form key given (MalformedAt form key given) k
   verdict-field k =
-      Iff·trans (write-exactly (rowsOf form) key (cellsOf form quote) (verdict.Field k))
-      (first-exact 11 (MalformedAt form key quote) (field-exact form key quote key-long) k)
+      Iff·trans (write-exactly (rowsOf form) key cells (verdict.Field k))
+      (first-exact 11 (MalformedAt form key given) (field-exact item form key cells given from key-long) k)
 
-  verdict-range : (k : ℕ) → v ≡ verdict.Range k ↔ First form key quote (OutOfRangeAt form quote) k
+  verdict-range : (k : ℕ) → v ≡ verdict.Range k ↔ First form key given (OutOfRangeAt form given) k
   verdict-range k =
-      Iff·trans (write-exactly (rowsOf form) key (cellsOf form quote) (verdict.Range k))
-      (first-exact 12 (OutOfRangeAt form quote) (range-exact form key quote key-long) k)
+      Iff·trans (write-exactly (rowsOf form) key cells (verdict.Range k))
+      (first-exact 12 (OutOfRangeAt form given) (range-exact item form key cells given from key-long) k)
 
-  verdict-good : v ≡ verdict.Good ↔ AllFine form key quote
+  verdict-good : v ≡ verdict.Good ↔ AllFine form key given
   verdict-good =
-      Iff·trans (write-exactly (rowsOf form) key (cellsOf form quote) verdict.Good)
-      ((λ g k h. fine-exact form key quote key-long k h .0 (g k h)), (λ f k h. fine-exact form key quote key-long k h .1 (f k h)))
+      Iff·trans (write-exactly (rowsOf form) key cells verdict.Good)
+      ((λ g k h. fine-exact item form key cells given from key-long k h .0 (g k h)), (λ f k h. fine-exact item form key cells given from key-long k h .1 (f k h)))
 
 -- ---- the first broken rule
 
@@ -132,42 +129,22 @@ module _ (wanted : ℕ) (v : Verdict) (fits : Bool) where
 
 -- ---- the promise
 
--- the table's codes: DH, TH, DN, TN
-pub table-exact : (code : Code) (level : Level)
-    → inTable (formWritten code level) ≡ true ↔ ((code .0 ≡ 68) ⊎ (code .0 ≡ 84)) × ((code .1 ≡ 72) ⊎ (code .1 ≡ 78))
-unfolding writtenForm formsOf
-table-exact code level =
-    rw (test (eqb (code .0) 68) (eqb (code .0) 84) (eqb (code .1) 72) (eqb (code .1) 78) level)
-    (and-is (or-is (eqb-is (code .0) 68) (eqb-is (code .0) 84)) (or-is (eqb-is (code .1) 72) (eqb-is (code .1) 78)))
-  where
-    forms : Bool → Bool → Bool → List Form → List Form
-    forms l h n rest = cond (l && h) (Heartbeat ∷ []) [] ++ (cond (l && n) (LevelOne ∷ []) [] ++ (cond (l && n) (LevelTwo ∷ []) [] ++ rest))
-
-    test : (d t h n : Bool) (level : Level) → inTable (writtenBy (forms d h n (forms t h n [])) level) ≡ (d || t) && (h || n)
-    test true t true n level = refl
-    test true t false true One = refl
-    test true t false true Two = refl
-    test true true false false level = refl
-    test true false false false level = refl
-    test false true true n level = refl
-    test false true false true One = refl
-    test false true false true Two = refl
-    test false true false false level = refl
-    test false false h n level = refl
-
-module _ (code : Code) (level : Level) (number : ℕ) (key : List ℕ) (quote : Quote) (out out′ : List ℕ) (answer : Written)
-    (wrote : WroteMessage code level number key quote out answer out′)
+module _ (item : Item) (code : Code) (level : Level) (number : ℕ) (key : List ℕ) (cells : Form → List ℕ) (out out′ : List ℕ) (answer : Written)
+    (wrote : WroteCells item code level number key cells out answer out′)
   where
     abbrev chose : Chosen
-    chose = formWritten code level
+    chose = formWritten item code level
+
+    abbrev handed : List ℕ
+    handed = cellsWritten chose cells
 
     abbrev broken : Option Refusal
-    broken = firstBroken (writeRules chose number key quote (length out))
+    broken = firstBroken (writeRules chose number key handed (length out))
 
     abbrev fitting : Bool
     fitting = leb (lengthWritten chose) (length out)
 
-    rules-are : broken ≡ firstOf (lengthWritten chose) (inTable chose) (numbered chose number) (dataWritten chose key quote .verdict) fitting
+    rules-are : broken ≡ firstOf (lengthWritten chose) (inTable chose) (numbered chose number) (dataWritten chose key handed .verdict) fitting
     unfolding writeRules
     rules-are = refl
 
@@ -188,61 +165,62 @@ module _ (code : Code) (level : Level) (number : ℕ) (key : List ℕ) (quote : 
     pub refuses-code : answer ≡ Written.Refused (CodeOver 0) ↔ inTable chose ≡ false
     refuses-code =
         Iff·trans (answers-refusal (CodeOver 0))
-        (rw rules-are (code-why (lengthWritten chose) (inTable chose) (numbered chose number) (dataWritten chose key quote .verdict) fitting))
+        (rw rules-are (code-why (lengthWritten chose) (inTable chose) (numbered chose number) (dataWritten chose key handed .verdict) fitting))
 
     -- 10 exactly where the code is in the table and the number is not one that its messages have
     pub refuses-number : answer ≡ Written.Refused (Numbering 0) ↔ (inTable chose ≡ true) × (numbered chose number ≡ false)
     refuses-number =
         Iff·trans (answers-refusal (Numbering 0))
-        (rw rules-are (number-why (lengthWritten chose) (inTable chose) (numbered chose number) (dataWritten chose key quote .verdict) fitting))
+        (rw rules-are (number-why (lengthWritten chose) (inTable chose) (numbered chose number) (dataWritten chose key handed .verdict) fitting))
 
     -- a form whose code and number may be written
-    module _ (form : Form) (is-chosen : chose ≡ chosen.Form form) (takes : takesNumber (is.Form form) number ≡ true) (key-long : length key ≡ keyBytes)
+    module _ (form : Form) (is-chosen : chose ≡ chosen.Form form) (takes : takesNumber (is.Form form) number ≡ true) (key-long : length key ≡ keyBytesOf item)
+        (given : Name → Value) (from : Given item form given (cells form))
       where
         abbrev wanted : ℕ
         wanted = messageLength (rowsOf form)
 
         abbrev own : Verdict
-        own = writeRows 0 (rowsOf form) key (cellsOf form quote) .verdict
+        own = writeRows 0 (rowsOf form) key (cells form) .verdict
 
         -- the rows and the room are left
         decided : broken ≡ firstOf wanted true true own (leb wanted (length out))
         unfolding writeRules dataWritten lengthWritten
         decided =
-            ap (λ (c : Chosen). firstBroken (writeRules c number key quote (length out))) is-chosen
+            ap (λ (c : Chosen). firstBroken (writeRules c number key (cellsWritten c cells) (length out))) is-chosen
             ∙ ap (λ (t : Bool). firstOf wanted true t own (leb wanted (length out))) takes
 
         by : {A : Type 0} (o : Option Refusal) → firstOf wanted true true own (leb wanted (length out)) ≡ o ↔ A → broken ≡ o ↔ A
         by o exact = rw decided exact
 
-        both-fine : {A B : Type 0} → A ↔ B → (own ≡ verdict.Good) × A ↔ AllFine form key quote × B
-        both-fine same = let good = verdict-good form key quote key-long in ((λ p. (good .0 (p .0), same .0 (p .1))), (λ p. (good .1 (p .0), same .1 (p .1))))
+        both-fine : {A B : Type 0} → A ↔ B → (own ≡ verdict.Good) × A ↔ AllFine form key given × B
+        both-fine same = let good = verdict-good item form key (cells form) given from key-long in ((λ p. (good .0 (p .0), same .0 (p .1))), (λ p. (good .1 (p .0), same .1 (p .1))))
 
         -- 11 at row k exactly where that row is malformed and every row before it is fine
-        pub refuses-field : (k : ℕ) → answer ≡ Written.Refused (Field 0 k) ↔ First form key quote (MalformedAt form key quote) k
+        pub refuses-field : (k : ℕ) → answer ≡ Written.Refused (Field 0 k) ↔ First form key given (MalformedAt form key given) k
         refuses-field k =
             Iff·trans (answers-refusal (Field 0 k))
-            (by (some (Field 0 k)) (Iff·trans (field-why wanted own (leb wanted (length out)) k) (verdict-field form key quote key-long k)))
+            (by (some (Field 0 k)) (Iff·trans (field-why wanted own (leb wanted (length out)) k) (verdict-field item form key (cells form) given from key-long k)))
 
         -- 12 at row k exactly where that row is out of range and every row before it is fine
-        pub refuses-range : (k : ℕ) → answer ≡ Written.Refused (Range 0 k) ↔ First form key quote (OutOfRangeAt form quote) k
+        pub refuses-range : (k : ℕ) → answer ≡ Written.Refused (Range 0 k) ↔ First form key given (OutOfRangeAt form given) k
         refuses-range k =
             Iff·trans (answers-refusal (Range 0 k))
-            (by (some (Range 0 k)) (Iff·trans (range-why wanted own (leb wanted (length out)) k) (verdict-range form key quote key-long k)))
+            (by (some (Range 0 k)) (Iff·trans (range-why wanted own (leb wanted (length out)) k) (verdict-range item form key (cells form) given from key-long k)))
 
         -- 15 exactly where every row is fine and `out` is shorter than the message
-        pub refuses-memory : answer ≡ Written.Refused (Memory wanted) ↔ AllFine form key quote × (length out < wanted)
+        pub refuses-memory : answer ≡ Written.Refused (Memory wanted) ↔ AllFine form key given × (length out < wanted)
         refuses-memory =
             Iff·trans (answers-refusal (Memory wanted))
             (by (some (Memory wanted)) (Iff·trans (room-why wanted own (leb wanted (length out))) (both-fine (leb-false wanted (length out), lt-leb wanted (length out)))))
 
         -- and no refusal otherwise: the message is written exactly where every row is fine and there is room
-        pub accepts : answer ≡ Written.Message wanted ↔ AllFine form key quote × (wanted ≤ length out)
+        pub accepts : answer ≡ Written.Message wanted ↔ AllFine form key given × (wanted ≤ length out)
         unfolding lengthWritten
         accepts =
             Iff·trans (rw (ap lengthWritten is-chosen) at answers-length)
             (by none (Iff·trans (none-why wanted own (leb wanted (length out))) (both-fine (leb-is wanted (length out)))))
 
 -- a heartbeat has no rows, so that its level, key and quote aren't looked at
-pub nothing-fine : (form : Form) → subjectOf form ≡ Nothing → (key : List ℕ) (quote : Quote) → AllFine form key quote
-nothing-fine form e key quote k h = let none-there = ap length (nothing-rows form e) in absurd (omega arith)
+pub nothing-fine : (form : Form) → subjectOf form ≡ Nothing → (key : List ℕ) (given : Name → Value) → AllFine form key given
+nothing-fine form e key given k h = let none-there = ap length (nothing-rows form e) in absurd (omega arith)

@@ -1,73 +1,144 @@
 -- A row is refused 11 exactly where it is malformed, and 12 exactly where it is out of range.
 use Prim.Native.Nat.{ℕ, zero, suc, _+_, _-_, _≤_, _<_}
 use mathlib.Core.Path.{_≡_, refl, ap, sym, _∙_}
-use mathlib.Core.Bool.{Bool, true, false, true≢false, cond, _&&_}
+use mathlib.Core.Bool.{Bool, true, false, true≢false, false≢true, cond, _&&_}
 use mathlib.Core.Logic.{_⊎_, _↔_, inl, inr, ⊎-elim, Iff·trans}
-use mathlib.Core.List.{List, [], _∷_}
+use mathlib.Core.List.{List, [], _∷_, _++_, map}
 use native.Mathlib.Omega.{arith}
-use borrow.Author.Tests.{le-leb, lt-leb, eqb-false, ne-eqb}
-use lib.Dec.{leb, eqb}
+use borrow.Author.Tests.{le-leb, lt-leb, lt-ltb, le-ltb, eqb-false, ne-eqb}
+use lib.Dec.{leb, eqb, lit<}
 use lib.ListN.{length, getD, take, length-drop, length-map, List·getD-map, List·getD-append}
 use lib.Seq.{getD-take, length-take-le}
 use Rattle.laws.specs.Tests.{and-false, conj, or-none}
 use Rattle.laws.specs.Order.{order, same}
 use Rattle.decimal.specs.declared.Kind.{Kind}
-use Rattle.decimal.specs.Kinds.{price, quantity, turnover}
+use Rattle.decimal.specs.Kinds.{price, quantity, turnover, difference}
 use Rattle.print.specs.Write.{writtenAs, Written, filled, refused}
-use Rattle.print.specs.WriteLaws.{refuses}
+use Rattle.print.specs.WriteLaws.{Refused, refuses, sideless}
 use Rattle.layout.specs.declared.cells.Held.{Held}
-use Rattle.layout.specs.declared.cells.Held.the-variants.{Nothing, Units}
+use Rattle.layout.specs.declared.cells.Held.the-variants.{Nothing, Units, Below}
 use Rattle.quote.specs.declared.quote.Quote.{Quote}
+use Rattle.quote.specs.declared.quote.PriceCell.{PriceCell}
+use Rattle.quote.specs.declared.quote.PriceCell.the-variants as price-cell
+use Rattle.quote.specs.declared.quote.QuantityCell.{QuantityCell}
+use Rattle.quote.specs.declared.quote.QuantityCell.the-variants as quantity-cell
+use Rattle.quote.specs.declared.quote.TurnoverCell.{TurnoverCell}
+use Rattle.quote.specs.declared.quote.TurnoverCell.the-variants as turnover-cell
+use Rattle.quote.specs.declared.spread.DifferenceCell.{DifferenceCell}
+use Rattle.quote.specs.declared.spread.DifferenceCell.the-variants as difference-cell
+use Rattle.quote.specs.declared.spread.SpreadQuote.{SpreadQuote}
+use Rattle.forms.specs.declared.rows.Level.{Level}
 use Rattle.forms.specs.declared.forms.Form.{Form}
-use Rattle.forms.specs.declared.forms.Form.the-variants.{Heartbeat, LevelOne, LevelTwo}
+use Rattle.forms.specs.declared.forms.Form.the-variants.{Heartbeat, LevelOne, LevelTwo, PairOne, PairTwo}
+use Rattle.forms.specs.declared.forms.Item.{Item}
+use Rattle.forms.specs.declared.forms.Item.the-variants.{Contract, Pair}
+use Rattle.forms.specs.declared.forms.Chosen.the-variants as chosen
 use Rattle.forms.specs.declared.rows.Row.{Row}
-use Rattle.forms.specs.declared.rows.Row.the-variants.{Key, MarketType, Status, Price, Quantity, Turnover}
-use Rattle.layout.specs.Cells.{none, heldIn, cellOf, keyUsed}
+use Rattle.forms.specs.declared.rows.Row.the-variants.{Key, MarketType, Status, Price, Quantity, Turnover, Difference}
+use Rattle.layout.specs.Cells.{none, minus, noRoom, sided, heldIn, cellOf, keyUsed}
+use Rattle.layout.specs.CellsLaws.{MayHold, held-back, has-cell, has-cell-below}
 use Rattle.layout.specs.FirstBad.{refusalWritten}
 use Rattle.layout.specs.Says.{rowAt}
-use Rattle.quote.specs.Quote.{fieldCell, cellsBy, cellsOf}
+use Rattle.quote.specs.Quote.{fieldCell, cellsBy, cellsOf, cellOfPrice, cellOfQuantity, cellOfTurnover}
+use Rattle.quote.specs.Spread.{spreadFieldCell, spreadCellsOf, cellOfDifference}
 use Rattle.layout.specs.Read.{isMarketType, isStatus}
-use Rattle.forms.specs.Forms.{namedRows, rowsOf}
-use Rattle.forms.specs.Names.{Name, NamedRow, named, instrument, symbol, expiry, strike, optionType, marketType, buyPrice, buyQuantity, sellPrice, sellQuantity, lastPrice, tradedQuantity, status, openingPrice, highPrice, lowPrice, closePrice, averagePrice, allBuyers, allSellers, turnover as turnoverName}
+use Rattle.forms.specs.Forms.{namedRows, rowsOf, subjectOf, keyBytesOf, isAsked}
+use Rattle.forms.specs.Names.{Name, NamedRow, named, instrument}
 use Rattle.forms.specs.Rows.{total}
-use Rattle.forms.specs.Sizes.{keyBytes}
 use Rattle.layout.specs.Write.{RowText, text, malformed, out-of-range, ofWritten, heldText, rowText, writeRefusal}
 use Rattle.wire.specs.Bytes.{printable, allPrintable}
-use Rattle.written.specs.WrittenRefusals.{Value, letter, number, cellIn, heldOf, fieldValue, Outside, Malformed, Unwritable, OutOfRange, valueAt, partAt, MalformedAt, OutOfRangeAt, Fine}
+use Rattle.writer.specs.declared.writing.Code.{Code}
+use Rattle.writer.specs.Chosen.{formWritten}
+use Rattle.written.specs.WrittenFormLaws.{asked-so}
+use Rattle.written.specs.WrittenRefusals.{Value, letter, nothing, amount, priceGiven, quantityGiven, turnoverGiven, differenceGiven, fieldValue, spreadFieldValue, byteOf, Outside, Malformed, Unwritable, OutOfRange, valueAt, partAt, MalformedAt, OutOfRangeAt, Fine}
 
 -- ---- the cells of a quote are those of its values
 
-field-cell : (quote : Quote) (name : Name) → fieldCell quote name ≡ cellIn (fieldValue quote name)
-field-cell quote instrument = refl
-field-cell quote symbol = refl
-field-cell quote expiry = refl
-field-cell quote strike = refl
-field-cell quote optionType = refl
-field-cell quote marketType = refl
-field-cell quote (buyPrice k) = refl
-field-cell quote (buyQuantity k) = refl
-field-cell quote (sellPrice k) = refl
-field-cell quote (sellQuantity k) = refl
-field-cell quote lastPrice = refl
-field-cell quote tradedQuantity = refl
-field-cell quote status = refl
-field-cell quote openingPrice = refl
-field-cell quote highPrice = refl
-field-cell quote lowPrice = refl
-field-cell quote closePrice = refl
-field-cell quote averagePrice = refl
-field-cell quote allBuyers = refl
-field-cell quote allSellers = refl
-field-cell quote turnoverName = refl
+-- a value as a number
+abbrev pub heldOf : Value → Held
+heldOf (letter byte) = Nothing
+heldOf nothing = Nothing
+heldOf (amount minus n) = sided minus n
 
-pub cell-at : (form : Form) (quote : Quote) (k : ℕ) → k < length (rowsOf form) → getD (cellsOf form quote) k 0 ≡ cellIn (valueAt form quote k)
-unfolding cellsOf rowsOf
-cell-at form quote k h =
-    let long : length (cellsBy (namedRows form) quote) ≡ length (rowsOf form) =
-    length-map (namedRows form) (λ (row : NamedRow). fieldCell quote (row .name)) ∙ sym (length-map (namedRows form) (λ (row : NamedRow). row .row)) in
-    List·getD-append (cellsBy (namedRows form) quote) _ 0 k (omega arith)
-    ∙ List·getD-map (λ (row : NamedRow). fieldCell quote (row .name)) (namedRows form) k (named instrument (Key 0))
-    ∙ field-cell quote (getD (namedRows form) k (named instrument (Key 0)) .name)
+-- the cell that a row is written from
+abbrev pub cellIn : Row → Value → ℕ
+cellIn (Key width) value = 0
+cellIn MarketType value = byteOf value
+cellIn Status value = byteOf value
+cellIn (Price width) value = cellOf false (heldOf value)
+cellIn (Quantity width) value = cellOf false (heldOf value)
+cellIn (Turnover width) value = cellOf false (heldOf value)
+cellIn (Difference width) value = cellOf true (heldOf value)
+
+-- what a message of a contract or a pair is written from, row by row
+pub record Given (item : Item) (form : Form) (given : Name → Value) (cells : List ℕ) : Type 0 where
+  pub key-enough : total keyUsed (rowsOf form) ≤ keyBytesOf item
+  pub cell-at : (k : ℕ) → k < length (rowsOf form) → getD cells k 0 ≡ cellIn (rowAt (rowsOf form) k) (valueAt form given k)
+
+abbrev cellsGiven : Form → (Name → Value) → List ℕ
+cellsGiven form given = map (λ (row : NamedRow). cellIn (row .row) (given (row .name))) (namedRows form)
+
+-- row by row, where all of them are
+cells-at : (form : Form) (given : Name → Value) (cells behind : List ℕ) → cells ≡ cellsGiven form given → (k : ℕ) → k < length (rowsOf form)
+    → getD (cells ++ behind) k 0 ≡ cellIn (rowAt (rowsOf form) k) (valueAt form given k)
+unfolding rowsOf
+cells-at form given cells behind e k h =
+    let cell : NamedRow → ℕ = λ (row : NamedRow). cellIn (row .row) (given (row .name)) in
+    let long : length (cellsGiven form given) ≡ length (rowsOf form) =
+    length-map (namedRows form) cell ∙ sym (length-map (namedRows form) (λ (row : NamedRow). row .row)) in
+    ap (λ (c : List ℕ). getD (c ++ behind) k 0) e
+    ∙ List·getD-append (cellsGiven form given) behind 0 k (omega arith)
+    ∙ List·getD-map cell (namedRows form) k (named instrument (Key 0))
+    ∙ ap (λ (row : Row). cellIn row (valueAt form given k)) (sym (List·getD-map (λ (row : NamedRow). row .row) (namedRows form) k (named instrument (Key 0))))
+
+price-given : (p : PriceCell) → cellOfPrice p ≡ cellOf false (heldOf (priceGiven p))
+price-given price-cell.None = refl
+price-given (price-cell.Amount units) = refl
+
+quantity-given : (q : QuantityCell) → cellOfQuantity q ≡ cellOf false (heldOf (quantityGiven q))
+quantity-given quantity-cell.None = refl
+quantity-given (quantity-cell.Amount units) = refl
+
+turnover-given : (t : TurnoverCell) → cellOfTurnover t ≡ cellOf false (heldOf (turnoverGiven t))
+turnover-given turnover-cell.None = refl
+turnover-given (turnover-cell.Amount units) = refl
+
+difference-given : (d : DifferenceCell) → cellOfDifference d ≡ cellOf true (heldOf (differenceGiven d))
+difference-given difference-cell.None = refl
+difference-given (difference-cell.Amount units) = refl
+
+contract-cells : (form : Form) (level : Level) → isAsked (subjectOf form) Contract level ≡ true → (quote : Quote)
+    → (total keyUsed (rowsOf form) ≤ keyBytesOf Contract) × (cellsBy (namedRows form) (fieldCell quote) ≡ cellsGiven form (fieldValue quote))
+unfolding rowsOf namedRows
+contract-cells Heartbeat level is quote = (omega arith, refl)
+contract-cells LevelOne level is quote = (omega arith, simp (price-given, quantity-given, turnover-given))
+contract-cells LevelTwo level is quote = (omega arith, simp (price-given, quantity-given, turnover-given))
+contract-cells PairOne level is quote = absurd (false≢true is)
+contract-cells PairTwo level is quote = absurd (false≢true is)
+
+pair-cells : (form : Form) (level : Level) → isAsked (subjectOf form) Pair level ≡ true → (quote : SpreadQuote)
+    → (total keyUsed (rowsOf form) ≤ keyBytesOf Pair) × (cellsBy (namedRows form) (spreadFieldCell quote) ≡ cellsGiven form (spreadFieldValue quote))
+unfolding rowsOf namedRows
+pair-cells Heartbeat level is quote = absurd (false≢true is)
+pair-cells LevelOne level is quote = absurd (false≢true is)
+pair-cells LevelTwo level is quote = absurd (false≢true is)
+pair-cells PairOne level is quote = (omega arith, simp (difference-given, quantity-given))
+pair-cells PairTwo level is quote = (omega arith, simp (difference-given, quantity-given))
+
+module _ (code : Code) (level : Level) (form : Form) where
+  -- a contract's message is written from the fields of its quote
+  pub contract-given : formWritten Contract code level ≡ chosen.Form form → (quote : Quote) → Given Contract form (fieldValue quote) (cellsOf form quote)
+  unfolding cellsOf
+  contract-given chose quote =
+      let own = contract-cells form level (asked-so (code .0) (code .1) Contract level form chose) quote in
+      record { key-enough = own .0; cell-at = cells-at form (fieldValue quote) (cellsBy (namedRows form) (fieldCell quote)) _ (own .1) }
+
+  -- and a pair's from those of its own
+  pub pair-given : formWritten Pair code level ≡ chosen.Form form → (quote : SpreadQuote) → Given Pair form (spreadFieldValue quote) (spreadCellsOf form quote)
+  unfolding spreadCellsOf
+  pair-given chose quote =
+      let own = pair-cells form level (asked-so (code .0) (code .1) Pair level form chose) quote in
+      record { key-enough = own .0; cell-at = cells-at form (spreadFieldValue quote) (cellsBy (namedRows form) (spreadFieldCell quote)) _ (own .1) }
 
 -- ---- a part of the key
 
@@ -122,40 +193,88 @@ well-formed : (w : Written) → writeRefusal (ofWritten w) ≡ 11 → ⊥
 well-formed (filled characters) e = omega arith
 well-formed refused e = omega arith
 
+-- why a number that a cell may hold is refused
+abbrev pub Refuses : Kind → ℕ → Held → Type 0
+Refuses kind width Nothing = ⊥
+Refuses kind width (Units n) = Refused kind width false n
+Refuses kind width (Below n) = Refused kind width true n
+
 module _ (kind : Kind) (width : ℕ) where
-  held-exact : (held : Held) → writeRefusal (heldText kind width held) ≡ 12 ↔ Unwritable kind width held
+  pub held-exact : (held : Held) → writeRefusal (heldText kind width held) ≡ 12 ↔ Refuses kind width held
   held-exact Nothing = ((λ e. omega arith), (λ e. absurd e))
   held-exact (Units n) = Iff·trans (of-written (writtenAs kind width false n)) (refuses kind width false n)
+  held-exact (Below n) = Iff·trans (of-written (writtenAs kind width true n)) (refuses kind width true n)
 
   held-formed : (held : Held) → writeRefusal (heldText kind width held) ≡ 11 → ⊥
   held-formed Nothing e = omega arith
   held-formed (Units n) e = well-formed (writtenAs kind width false n) e
+  held-formed (Below n) e = well-formed (writtenAs kind width true n) e
 
-  -- the one amount that no cell holds is as far out of range as the one that its cell holds
-  held-kept : kind .most < none - 1 → (held : Held) → Unwritable kind width (heldIn (cellOf held)) ↔ Unwritable kind width held
-  held-kept small Nothing = ((λ u. u), (λ u. u))
-  held-kept small (Units n) =
-      ⊎-elim (λ (e : n ≡ none). rw e ((λ u. inl (omega arith)), (λ u. inl (omega arith))))
-      (λ (e : n ≡ none → ⊥). simp (ne-eqb n none e) ((λ u. u), (λ u. u)))
-      (same n none)
+  module _ (small : kind .most < minus - 2) where
+    -- the cell of an amount that has none is as far out of range as the amount
+    pub far : (signed : Bool) → Refuses kind width (heldIn signed noRoom)
+    far true = inl (omega arith)
+    far false = inl (omega arith)
 
-  value-exact : kind .most < none - 1 → (value : Value) → writeRefusal (heldText kind width (heldIn (cellIn value))) ≡ 12 ↔ Unwritable kind width (heldOf value)
-  value-exact small (letter byte) = held-exact (heldIn byte)
-  value-exact small (number held) = Iff·trans (held-exact (heldIn (cellOf held))) (held-kept small held)
+    -- a number that has a cell is the one that its cell holds
+    held-kept : (signed : Bool) (held : Held) (n : ℕ) → MayHold signed held → (n < minus - 2 → cellOf signed held ≡ noRoom → ⊥) → (kind .most < n → Refuses kind width held)
+        → Refuses kind width (heldIn signed (cellOf signed held)) ↔ Refuses kind width held
+    held-kept signed held n may has over =
+        ⊎-elim (λ (e : cellOf signed held ≡ noRoom).
+        let out : Refuses kind width held = ⊎-elim (λ (l : minus - 2 ≤ n). over (omega arith)) (λ (l : n < minus - 2). absurd (has l e)) (order (minus - 2) n) in
+        rw e ((λ u. out), (λ u. far signed)))
+        (λ (e : cellOf signed held ≡ noRoom → ⊥). rw (held-back signed held may e) ((λ u. u), (λ u. u)))
+        (same (cellOf signed held) noRoom)
+
+    units-kept : (signed : Bool) (n : ℕ) → Refuses kind width (heldIn signed (cellOf signed (Units n))) ↔ Refuses kind width (Units n)
+    units-kept signed n = held-kept signed (Units n) n tt (λ l e. omega (arith, has-cell signed n l)) (λ l. inl l)
+
+    below-kept : (n : ℕ) → 0 < n → Refuses kind width (heldIn true (cellOf true (Below n))) ↔ Refuses kind width (Below n)
+    below-kept n some = held-kept true (Below n) n (refl, some) (λ l e. omega (arith, has-cell-below true n l)) (λ l. inl l)
+
+    -- where a kind has no sign, what is below zero is refused
+    pub unsigned : (n : ℕ) → Refuses kind width (heldIn false (cellOf false (Below n)))
+    unsigned n =
+        ⊎-elim (λ (l : minus - 1 ≤ n). simp (le-ltb n (minus - 1) l) (far false))
+        (λ (l : n < minus - 1). simp (lt-ltb n (minus - 1) l, ne-eqb (minus + n) none (λ e. omega arith)) (inl (omega arith)))
+        (order (minus - 1) n)
+
+    amount-exact : (signed : Bool) → kind .signed ≡ signed → (given : Bool) (n : ℕ)
+        → Refuses kind width (heldIn signed (cellOf signed (sided given n))) ↔ Unwritable kind width (amount given n)
+    amount-exact signed is false n = units-kept signed n
+    amount-exact signed is true n = go signed is (eqb n 0) refl
+      where
+        go : (signed : Bool) → kind .signed ≡ signed → (zero : Bool) → eqb n 0 ≡ zero
+            → Refuses kind width (heldIn signed (cellOf signed (sided true n))) ↔ Unwritable kind width (amount true n)
+        go signed is true z = rw z (units-kept signed n)
+        go true is false z = rw z (rw z at (below-kept n (omega (arith, eqb-false n 0 z))))
+        go false is false z =
+            let out : Unwritable kind width (amount true n) = refuses kind width true n .0 (sideless kind width true n (rw (z, is))) in
+            let held-out : Refuses kind width (heldIn false (cellOf false (sided true n))) = rw z (unsigned n) in
+            ((λ u. out), (λ u. held-out))
+
+    value-exact : (value : Value) → writeRefusal (heldText kind width (heldIn (kind .signed) (cellOf (kind .signed) (heldOf value)))) ≡ 12 ↔ Unwritable kind width value
+    value-exact value = Iff·trans (held-exact (heldIn (kind .signed) (cellOf (kind .signed) (heldOf value)))) (by value)
+      where
+        by : (value : Value) → Refuses kind width (heldIn (kind .signed) (cellOf (kind .signed) (heldOf value))) ↔ Unwritable kind width value
+        by (letter byte) = ((λ u. u), (λ u. u))
+        by nothing = ((λ u. u), (λ u. u))
+        by (amount given n) = amount-exact (kind .signed) refl given n
 
 -- ---- a row
 
-row-range : (row : Row) (part : List ℕ) (value : Value) → writeRefusal (rowText row part (cellIn value)) ≡ 12 ↔ OutOfRange row value
+row-range : (row : Row) (part : List ℕ) (value : Value) → writeRefusal (rowText row part (cellIn row value)) ≡ 12 ↔ OutOfRange row value
 unfolding rowText
 row-range (Key width) part value = (tested-in-range (take width part) (leb width (length part) && allPrintable (take width part)), (λ e. absurd e))
-row-range MarketType part value = (tested-in-range (cellIn value ∷ []) (isMarketType (cellIn value)), (λ e. absurd e))
-row-range Status part value = (tested-in-range (cellIn value ∷ []) (isStatus (cellIn value)), (λ e. absurd e))
-row-range (Price width) part value = value-exact price width (omega arith) value
-row-range (Quantity width) part value = value-exact quantity width (omega arith) value
-row-range (Turnover width) part value = value-exact turnover width (omega arith) value
+row-range MarketType part value = (tested-in-range (byteOf value ∷ []) (isMarketType (byteOf value)), (λ e. absurd e))
+row-range Status part value = (tested-in-range (byteOf value ∷ []) (isStatus (byteOf value)), (λ e. absurd e))
+row-range (Price width) part value = value-exact price width (lit< tt) value
+row-range (Quantity width) part value = value-exact quantity width (lit< tt) value
+row-range (Turnover width) part value = value-exact turnover width (lit< tt) value
+row-range (Difference width) part value = value-exact difference width (lit< tt) value
 
 row-field : (row : Row) (part : List ℕ) (value : Value) → keyUsed row ≤ length part
-    → writeRefusal (rowText row part (cellIn value)) ≡ 11 ↔ Malformed row part value
+    → writeRefusal (rowText row part (cellIn row value)) ≡ 11 ↔ Malformed row part value
 unfolding rowText
 row-field (Key width) part value has =
     let long = length-take-le width part has in
@@ -172,15 +291,16 @@ row-field (Key width) part value has =
           ∙ and-false (leb width (length part))),
     )
 row-field MarketType part value has =
-    Iff·trans (tested (cellIn value ∷ []) (isMarketType (cellIn value))) (eqb-false (cellIn value) 78, ne-eqb (cellIn value) 78)
+    Iff·trans (tested (byteOf value ∷ []) (isMarketType (byteOf value))) (eqb-false (byteOf value) 78, ne-eqb (byteOf value) 78)
 row-field Status part value has =
-    Iff·trans (tested (cellIn value ∷ []) (isStatus (cellIn value))) (
-      (λ e. let n = or-none (eqb (cellIn value) 83) (eqb (cellIn value) 32) e in (eqb-false (cellIn value) 83 (n .0), eqb-false (cellIn value) 32 (n .1))),
-      (λ m. rw (ne-eqb (cellIn value) 83 (m .0), ne-eqb (cellIn value) 32 (m .1))),
+    Iff·trans (tested (byteOf value ∷ []) (isStatus (byteOf value))) (
+      (λ e. let n = or-none (eqb (byteOf value) 83) (eqb (byteOf value) 32) e in (eqb-false (byteOf value) 83 (n .0), eqb-false (byteOf value) 32 (n .1))),
+      (λ m. rw (ne-eqb (byteOf value) 83 (m .0), ne-eqb (byteOf value) 32 (m .1))),
     )
-row-field (Price width) part value has = (held-formed price width (heldIn (cellIn value)), (λ e. absurd e))
-row-field (Quantity width) part value has = (held-formed quantity width (heldIn (cellIn value)), (λ e. absurd e))
-row-field (Turnover width) part value has = (held-formed turnover width (heldIn (cellIn value)), (λ e. absurd e))
+row-field (Price width) part value has = (held-formed price width (heldIn false (cellOf false (heldOf value))), (λ e. absurd e))
+row-field (Quantity width) part value has = (held-formed quantity width (heldIn false (cellOf false (heldOf value))), (λ e. absurd e))
+row-field (Turnover width) part value has = (held-formed turnover width (heldIn false (cellOf false (heldOf value))), (λ e. absurd e))
+row-field (Difference width) part value has = (held-formed difference width (heldIn true (cellOf true (heldOf value))), (λ e. absurd e))
 
 -- ---- a row of a form
 
@@ -190,43 +310,38 @@ used-before [] k h = absurd (omega arith)
 used-before (row ∷ rows) zero h = omega arith
 used-before (row ∷ rows) (suc k) h = omega (arith, used-before rows k (omega arith))
 
--- no form's rows take more than a contract's key
-key-enough : (form : Form) → total keyUsed (rowsOf form) ≤ keyBytes
-unfolding rowsOf namedRows
-key-enough Heartbeat = omega arith
-key-enough LevelOne = omega arith
-key-enough LevelTwo = omega arith
+module _ (item : Item) (form : Form) (key cells : List ℕ) (given : Name → Value) (from : Given item form given cells) (key-long : length key ≡ keyBytesOf item) (k : ℕ)
+    (inside : k < length (rowsOf form))
+  where
+    abbrev row : Row
+    row = rowAt (rowsOf form) k
 
-module _ (form : Form) (key : List ℕ) (quote : Quote) (key-long : length key ≡ keyBytes) (k : ℕ) (inside : k < length (rowsOf form)) where
-  abbrev row : Row
-  row = rowAt (rowsOf form) k
+    abbrev refusal : ℕ
+    refusal = refusalWritten (rowsOf form) key cells k
 
-  abbrev refusal : ℕ
-  refusal = refusalWritten (rowsOf form) key (cellsOf form quote) k
+    part-there : keyUsed row ≤ length (partAt form key k)
+    part-there =
+        let used = used-before (rowsOf form) k inside in
+        let all = from .key-enough in
+        omega (arith, length-drop (total keyUsed (take k (rowsOf form))) key)
 
-  part-there : keyUsed row ≤ length (partAt form key k)
-  part-there =
-      let used = used-before (rowsOf form) k inside in
-      let all = key-enough form in
-      omega (arith, length-drop (total keyUsed (take k (rowsOf form))) key)
+    refusal-is : refusal ≡ writeRefusal (rowText row (partAt form key k) (cellIn row (valueAt form given k)))
+    refusal-is = ap (λ (cell : ℕ). writeRefusal (rowText row (partAt form key k) cell)) (from .cell-at k inside)
 
-  refusal-is : refusal ≡ writeRefusal (rowText row (partAt form key k) (cellIn (valueAt form quote k)))
-  refusal-is = ap (λ (cell : ℕ). writeRefusal (rowText row (partAt form key k) cell)) (cell-at form quote k inside)
+    pub field-exact : refusal ≡ 11 ↔ MalformedAt form key given k
+    field-exact = rw refusal-is (row-field row (partAt form key k) (valueAt form given k) part-there)
 
-  pub field-exact : refusal ≡ 11 ↔ MalformedAt form key quote k
-  field-exact = rw refusal-is (row-field row (partAt form key k) (valueAt form quote k) part-there)
+    pub range-exact : refusal ≡ 12 ↔ OutOfRangeAt form given k
+    range-exact = rw refusal-is (row-range row (partAt form key k) (valueAt form given k))
 
-  pub range-exact : refusal ≡ 12 ↔ OutOfRangeAt form quote k
-  range-exact = rw refusal-is (row-range row (partAt form key k) (valueAt form quote k))
-
-  -- a row is not refused exactly where nothing is wrong with it
-  pub fine-exact : refusal ≡ 0 ↔ Fine form key quote k
-  fine-exact = (
-    (λ e. ((λ m. omega (arith, field-exact .1 m)), (λ r. omega (arith, range-exact .1 r)))),
-    (λ f. by (rowText row (partAt form key k) (getD (cellsOf form quote) k 0)) (λ e. f .0 (field-exact .0 e)) (λ e. f .1 (range-exact .0 e))),
-  )
-    where
-      by : (t : RowText) → (writeRefusal t ≡ 11 → ⊥) → (writeRefusal t ≡ 12 → ⊥) → writeRefusal t ≡ 0
-      by (text characters) formed ranged = refl
-      by malformed formed ranged = absurd (formed refl)
-      by out-of-range formed ranged = absurd (ranged refl)
+    -- a row is not refused exactly where nothing is wrong with it
+    pub fine-exact : refusal ≡ 0 ↔ Fine form key given k
+    fine-exact = (
+      (λ e. ((λ m. omega (arith, field-exact .1 m)), (λ r. omega (arith, range-exact .1 r)))),
+      (λ f. by (rowText row (partAt form key k) (getD cells k 0)) (λ e. f .0 (field-exact .0 e)) (λ e. f .1 (range-exact .0 e))),
+    )
+      where
+        by : (t : RowText) → (writeRefusal t ≡ 11 → ⊥) → (writeRefusal t ≡ 12 → ⊥) → writeRefusal t ≡ 0
+        by (text characters) formed ranged = refl
+        by malformed formed ranged = absurd (formed refl)
+        by out-of-range formed ranged = absurd (ranged refl)

@@ -1,5 +1,5 @@
 -- A message that was written: its rows are good, it stands in front of the lent bytes, and a heartbeat, where its letter is listed,
--- and an update, where its contract is, are what they were written from.
+-- and an update, where its contract or pair is, are what they were written from.
 use Prim.Native.Nat.{ℕ, _+_, _^_, _≤_, _<_}
 use mathlib.Core.Path.{_≡_, refl, ap, sym, _∙_}
 use mathlib.Core.Bool.{true}
@@ -9,22 +9,22 @@ use native.Mathlib.Omega.{arith}
 use borrow.Author.Tests.{eq-eqb}
 use lib.ListN.{length, take}
 use lib.Seq.{take-all}
+use Rattle.pairs.specs.Lists.{Lists}
 use Rattle.contracts.specs.Lookup.{segmentOf}
-use Rattle.quote.specs.declared.quote.Quote.{Quote}
-use Rattle.quote.specs.Quote.{cellsOf}
 use Rattle.layout.specs.declared.read.Verdict.the-variants.{Good}
 use Rattle.forms.specs.declared.rows.Level.{Level}
 use Rattle.forms.specs.declared.forms.Form.{Form}
+use Rattle.forms.specs.declared.forms.Item.{Item}
 use Rattle.forms.specs.declared.forms.Named.the-variants as is
 use Rattle.forms.specs.declared.forms.Chosen.{Chosen}
 use Rattle.forms.specs.declared.forms.Chosen.the-variants as chosen
 use Rattle.forms.specs.declared.forms.Subject.the-variants.{Nothing}
 use Rattle.layout.specs.Cells.{zerosBehind, seenCells}
-use Rattle.forms.specs.Forms.{rowsOf, subjectOf, formOf}
-use Rattle.forms.specs.FormsLaws.{fits, contract-key}
-use Rattle.layout.specs.RoundTrip.{KeyInFront, key-in-front, rows-back}
+use Rattle.forms.specs.Forms.{rowsOf, subjectOf, keyBytesOf, formOf}
+use Rattle.forms.specs.FormsLaws.{fits}
+use Rattle.layout.specs.RoundTrip.{key-of-update, rows-back}
 use Rattle.forms.specs.Rows.{dataLength, messageLength}
-use Rattle.forms.specs.Sizes.{mostData, keyBytes, bareLength}
+use Rattle.forms.specs.Sizes.{mostData, bareLength}
 use Rattle.layout.specs.Write.{Laid, writeRows}
 use Rattle.layout.specs.WriteLaws.{good-length}
 use Rattle.message.specs.declared.body.Outline.{Outline}
@@ -35,7 +35,7 @@ use Rattle.message.specs.Head.{headRules}
 use Rattle.message.specs.Rules.{headOf}
 use Rattle.message.specs.Tests.{isSome, coded, takesNumber, takesLength}
 use Rattle.message.specs.HeadLaws.{framed-exact, trailed-exact, summed-exact}
-use Rattle.message.specs.Message.{Message, TellsOfContract, messageKey, keyPlace}
+use Rattle.message.specs.Message.{Message, TellsOf, messageKey, keyPlace, messagePlace}
 use Rattle.message.specs.Reads.{messageOf}
 use Rattle.message.specs.MessageLaws.{key-found, good-head, heartbeat-reads, outline-told, update-is}
 use Rattle.message.specs.RulesLaws.{hold-good}
@@ -44,35 +44,35 @@ use Rattle.writer.specs.declared.writing.Code.{Code}
 use Rattle.writer.specs.Writer.{rowsWritten, cellsWritten, dataWritten, messageBytes}
 use Rattle.writer.specs.Chosen.{formWritten, numbered}
 use Rattle.writer.specs.WriterLaws.{message-long}
-use Rattle.writer.specs.WriterPromises.{WroteMessage}
+use Rattle.writer.specs.WriterPromises.{WroteCells}
 use Rattle.writer.specs.WriterPromisesLaws.{written-good, message-in-front}
 use Rattle.written.specs.WrittenFieldsLaws.{letter-written, second-written, number-written, length-written, data-written, form-written, sum-written, end-written}
 use Rattle.written.specs.WrittenFormLaws.{form-told, second-capital}
 
-module _ (code : Code) (level : Level) (number : ℕ) (key : List ℕ) (quote : Quote) (out out′ : List ℕ) (n : ℕ)
-    (form : Form) (chose : formWritten code level ≡ chosen.Form form) (wrote : WroteMessage code level number key quote out (Written.Message n) out′)
+module _ (item : Item) (code : Code) (level : Level) (number : ℕ) (key : List ℕ) (cells : Form → List ℕ) (out out′ : List ℕ) (n : ℕ)
+    (form : Form) (chose : formWritten item code level ≡ chosen.Form form) (wrote : WroteCells item code level number key cells out (Written.Message n) out′)
   where
     abbrev rows : Laid
-    rows = writeRows 0 (rowsOf form) key (cellsOf form quote)
+    rows = writeRows 0 (rowsOf form) key (cells form)
 
     abbrev pub written : List ℕ
     written = messageBytes code number (rows .bytes)
 
-    data-laid : dataWritten (formWritten code level) key quote ≡ rows
+    data-laid : dataWritten (formWritten item code level) key (cellsWritten (formWritten item code level) cells) ≡ rows
     unfolding dataWritten
-    data-laid = ap (λ (c : Chosen). writeRows 0 (rowsWritten c) key (cellsWritten c quote)) chose
+    data-laid = ap (λ (c : Chosen). writeRows 0 (rowsWritten c) key (cellsWritten c cells)) chose
 
     pub rows-good : rows .verdict ≡ Good
-    rows-good = ap (λ (l : Laid). l .verdict) (sym data-laid) ∙ written-good code level number key quote out n wrote .rows-good
+    rows-good = ap (λ (l : Laid). l .verdict) (sym data-laid) ∙ written-good item code level number key cells out n wrote .rows-good
 
     pub number-fits : takesNumber (is.Form form) number ≡ true
-    number-fits = ap (λ (c : Chosen). numbered c number) (sym chose) ∙ written-good code level number key quote out n wrote .has-number
+    number-fits = ap (λ (c : Chosen). numbered c number) (sym chose) ∙ written-good item code level number key cells out n wrote .has-number
 
     pub message-there : take n out′ ≡ written
-    message-there = message-in-front code level number key quote out n wrote ∙ ap (λ (l : Laid). messageBytes code number (l .bytes)) data-laid
+    message-there = message-in-front item code level number key cells out n wrote ∙ ap (λ (l : Laid). messageBytes code number (l .bytes)) data-laid
 
     long : length (rows .bytes) ≡ dataLength (rowsOf form)
-    long = good-length 0 (rowsOf form) key (cellsOf form quote) rows-good
+    long = good-length 0 (rowsOf form) key (cells form) rows-good
 
     short : length (rows .bytes) + bareLength < 2 ^ 16
     short = omega (arith, long, fits form .data-fits)
@@ -95,51 +95,51 @@ module _ (code : Code) (level : Level) (number : ℕ) (key : List ℕ) (quote : 
     pub form-is : formIn written ≡ is.Form form
     form-is =
         form-written code number (rows .bytes) short form
-        (ap (λ (n : ℕ). formOf (code .0) (code .1) (n + bareLength)) long ∙ form-told (code .0) (code .1) level form chose)
+        (ap (λ (n : ℕ). formOf (code .0) (code .1) (n + bareLength)) long ∙ form-told (code .0) (code .1) item level form chose)
 
     pub number-is : number < 2 ^ 32 → numberOf written ≡ number
     number-is few = number-written code number (rows .bytes) few
 
     -- where its letter is listed
-    module _ (few : number < 2 ^ 32) (list : List ℕ) (letter-listed : isSome (segmentOf list (code .0)) ≡ true) where
+    module _ (few : number < 2 ^ 32) (lists : Lists) (letter-listed : isSome (segmentOf (lists .contracts) (code .0)) ≡ true) where
       -- it breaks no rule before those of its rows and its key
-      head-good : headOf (code .0) (segmentOf list (code .0)) written ≡ head.Good
+      head-good : headOf (code .0) (segmentOf (lists .contracts) (code .0)) written ≡ head.Good
       unfolding headOf coded
       head-good =
           let all = all-of-it in
           let n = length-is in
           let five = framed-exact written .1 (record { begun = omega arith; least = omega arith; within = omega arith }) in
-          let six : coded (code .0) (segmentOf list (code .0)) written ≡ true =
-          rw (letter-written code number (rows .bytes), second-written code number (rows .bytes), eq-eqb (code .0) (code .0) refl, second-capital (code .0) (code .1) level form chose, letter-listed) in
+          let six : coded (code .0) (segmentOf (lists .contracts) (code .0)) written ≡ true =
+          rw (letter-written code number (rows .bytes), second-written code number (rows .bytes), eq-eqb (code .0) (code .0) refl, second-capital (code .0) (code .1) item level form chose, letter-listed) in
           let seven = trailed-exact written .1 (end-written code number (rows .bytes) short) in
           let nine = summed-exact written .1 (sum-written code number (rows .bytes) short) in
-          hold-good (headRules (code .0) (segmentOf list (code .0)) written) (five, (six, (seven, (ap takesLength form-is, (nine, (rw (form-is, number-is few) number-fits, tt))))))
+          hold-good (headRules (code .0) (segmentOf (lists .contracts) (code .0)) written) (five, (six, (seven, (ap takesLength form-is, (nine, (rw (form-is, number-is few) number-fits, tt))))))
 
       -- one that tells of nothing is a heartbeat
-      pub heartbeat-is : subjectOf form ≡ Nothing → messageOf list (code .0) written .what ≡ what.Heartbeat
-      heartbeat-is nothing =
-          ap (λ (m : Message). m .what) (good-head list (code .0) written head-good)
-          ∙ sym (ap (λ (o : Outline). o .what) (outline-told (heartbeat-reads (keyPlace list (code .0) (messageKey written)) written (messageLength (rowsOf form)) (sym length-is) [] form form-is nothing .told)))
+      pub heartbeat-is : subjectOf form ≡ Nothing → messageOf lists (code .0) written .what ≡ what.Heartbeat
+      heartbeat-is none-told =
+          ap (λ (m : Message). m .what) (good-head lists (code .0) written head-good)
+          ∙ sym (ap (λ (o : Outline). o .what) (outline-told (heartbeat-reads (messagePlace lists (code .0) written) written (messageLength (rowsOf form)) (sym length-is) [] form form-is none-told .told)))
 
     -- an update
-    module _ (tells : TellsOfContract form) (key-long : length key ≡ keyBytes) where
-      pub key-is : messageKey written ≡ key
+    module _ (tells : TellsOf item form) (key-long : length key ≡ keyBytesOf item) where
+      pub key-is : messageKey item written ≡ key
       unfolding messageKey
       key-is =
-          let front : KeyInFront keyBytes key (rows .bytes) = rw (contract-key form (tells .0) (tells .1)) at (key-in-front 0 (rowsOf form) key (cellsOf form quote) rows-good) in
-          ap (take keyBytes) data-is ∙ front .stands ∙ take-all keyBytes key (omega arith)
+          let front = key-of-update form item (tells .0) (tells .1) key (cells form) rows-good in
+          ap (take (keyBytesOf item)) data-is ∙ front .stands ∙ take-all (keyBytesOf item) key (omega arith)
 
-      -- whose contract is listed
-      module _ (few : number < 2 ^ 32) (list : List ℕ) (place : ℕ) (listed : keyPlace list (code .0) key ≡ some place) where
-        letter-there : isSome (segmentOf list (code .0)) ≡ true
-        letter-there = ap isSome (key-found list (code .0) key place listed .1)
+      -- whose contract or pair is listed
+      module _ (few : number < 2 ^ 32) (lists : Lists) (place : ℕ) (listed : keyPlace item lists (code .0) key ≡ some place) where
+        letter-there : isSome (segmentOf (lists .contracts) (code .0)) ≡ true
+        letter-there = ap isSome (key-found item lists (code .0) key place listed .1)
 
         abbrev message : Message
         message =
-            record { what = what.Update number form place; length = messageLength (rowsOf form); cells = zerosBehind (seenCells (rowsOf form) (cellsOf form quote)) }
+            record { what = what.Update number form place; length = messageLength (rowsOf form); cells = zerosBehind (seenCells (rowsOf form) (cells form)) }
 
-        pub message-is : messageOf list (code .0) written ≡ message
+        pub message-is : messageOf lists (code .0) written ≡ message
         message-is =
-            good-head list (code .0) written (head-good few list letter-there)
-            ∙ update-is (keyPlace list (code .0) (messageKey written)) written (messageLength (rowsOf form)) (sym length-is) (what.Update number form place) form form-is tells (record { cells = seenCells (rowsOf form) (cellsOf form quote); verdict = Good })
-            (rw data-is (rows-back 0 (rowsOf form) key (cellsOf form quote) rows-good)) (rw (key-is, listed, number-is few))
+            good-head lists (code .0) written (head-good few lists letter-there)
+            ∙ update-is (messagePlace lists (code .0) written) written (messageLength (rowsOf form)) (sym length-is) (what.Update number form place) form form-is item tells (record { cells = seenCells (rowsOf form) (cells form); verdict = Good })
+            (rw data-is (rows-back 0 (rowsOf form) key (cells form) rows-good)) (rw (key-is, listed, number-is few))

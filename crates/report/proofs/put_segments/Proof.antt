@@ -7,10 +7,10 @@ use Rattle.report.proofs.put_segments.Statement.{statement}
 use Rattle.report.proofs.put_segments.Tie as tie
 
 abbrev Inv-loop : tie.InvT-loop
-Inv-loop list rows records page₀ used segments cells₀ more₀ i₀ page cells more i = (i ≤ segments) × (more ≤ length page₀) × (length page ≡ length page₀) × (length cells ≡ 128)
+Inv-loop list spreads rows records page₀ used segments cells₀ more₀ i₀ page cells more i = (i ≤ segments) × (more ≤ length page₀) × (length page ≡ length page₀) × (length cells ≡ 128)
 
 abbrev μ-loop : tie.MeasureT-loop
-μ-loop list rows records page₀ used segments cells₀ more₀ i₀ page cells more i = segments - i
+μ-loop list spreads rows records page₀ used segments cells₀ more₀ i₀ page cells more i = segments - i
 
 pub put-segments-spec : {M : Type 1} → statement M
 put-segments-spec =

@@ -1,5 +1,6 @@
 -- The rules before the messages, and then the messages.
 use native.Mathlib.Omega.{arith}
+use Rattle.pairs.specs.Lists.{lists}
 use Rattle.batch.specs.CheckedLaws.{checked-state, checked-front, data-short, data-ready, refused-took, took-batch}
 use Rattle.batch.specs.Good.{GoodFront}
 use Rattle.state.specs.Memory.{lends}
@@ -10,10 +11,10 @@ use Rattle.batch.proofs.batch.take.Tie as tie
 -- no rule before the messages is broken
 module _ (c : tie.After-enum-told) where
   abbrev start : tie.Start
-  start = c .before .before .before .before .before .before .before .before .before
+  start = c .before .before .before .before .before .before .before .before .before .before
 
   front : GoodFront (start .args .batch .now)
-  front = checked-front (lends (start .args .list .now) (start .args .rows .now) (start .args .records .now)) (start .args .batch .now) _ (c .before .before .check-all .ensures) (c .enum-told .given .1)
+  front = checked-front (lends (lists (start .args .list .now) (start .args .spreads .now)) (start .args .rows .now) (start .args .records .now)) (start .args .batch .now) _ (c .before .before .check-all .ensures) (c .enum-told .given .1)
 
 sub-take-data : tie.Need-sub-take-data
 sub-take-data c = front (c .before .before .before) .begun
@@ -26,9 +27,9 @@ take-data-requires c κs =
     let u = c .before .before .before in
     let d = u .before in
     let a = start d .args in (
-      data-ready (lends (a .list .now) (a .rows .now) (a .records .now)) (a .batch .now) _ (d .before .before .check-all .ensures) (d .enum-told .given .1) _ (u .u16-at .ensures) (omega (arith, u .u16-at .ok)),
-      checked-state (lends (a .list .now) (a .rows .now) (a .records .now)) (a .batch .now) _ (d .before .before .check-all .ensures) (d .enum-told .given .1) .records-lent,
-      data-short (lends (a .list .now) (a .rows .now) (a .records .now)) (a .batch .now) _ (d .before .before .check-all .ensures) (d .enum-told .given .1),
+      data-ready (lends (lists (a .list .now) (a .spreads .now)) (a .rows .now) (a .records .now)) (a .batch .now) _ (d .before .before .check-all .ensures) (d .enum-told .given .1) _ (u .u16-at .ensures) (omega (arith, u .u16-at .ok)),
+      checked-state (lends (lists (a .list .now) (a .spreads .now)) (a .rows .now) (a .records .now)) (a .batch .now) _ (d .before .before .check-all .ensures) (d .enum-told .given .1) .records-lent,
+      data-short (lends (lists (a .list .now) (a .spreads .now)) (a .rows .now) (a .records .now)) (a .batch .now) _ (d .before .before .check-all .ensures) (d .enum-told .given .1),
     )
 
 returns : tie.Need-returns
@@ -40,7 +41,7 @@ returns-2 c =
     let u = t .before .before .before .before in
     let d = u .before in
     let a = start d .args in
-    took-batch (lends (a .list .now) (a .rows .now) (a .records .now)) (a .batch .now) _ (d .before .before .check-all .ensures) (d .enum-told .given .1) _ (u .u16-at .ensures) _ _ (t .take-data .ensures)
+    took-batch (lends (lists (a .list .now) (a .spreads .now)) (a .rows .now) (a .records .now)) (a .batch .now) _ (d .before .before .check-all .ensures) (d .enum-told .given .1) _ (u .u16-at .ensures) _ _ (t .take-data .ensures)
 
 pub take-spec : {M : Type 1} → statement M
 take-spec =

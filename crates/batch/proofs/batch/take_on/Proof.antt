@@ -3,6 +3,7 @@ use Prim.Native.Nat.{ℕ}
 use mathlib.Core.Path.{_≡_, refl, sym, _∙_}
 use mathlib.Core.List.{List}
 use lib.ListN.{length}
+use Rattle.pairs.specs.Lists.{lists}
 use Rattle.laws.specs.Refused.{codeNo}
 use Rattle.contracts.specs.Answers.{placeOf}
 use Rattle.contracts.specs.AnswersLaws.{found-told}
@@ -20,7 +21,7 @@ use Rattle.batch.proofs.batch.take_on.Statement.{statement}
 use Rattle.batch.proofs.batch.take_on.Tie as tie
 
 -- the segment of the batch's letter
-segment-is : (c : tie.After-segment-of) → placeOf (c .segment-of .result) ≡ segmentOf (c .before .before .before .before .before .before .before .args .list .now) (c .before .letter-of .result)
+segment-is : (c : tie.After-segment-of) → placeOf (c .segment-of .result) ≡ segmentOf (c .before .before .before .before .before .before .before .before .args .list .now) (c .before .letter-of .result)
 segment-is c = found-told codeNo (c .segment-of .result) _ (c .segment-of .ensures)
 
 -- what is known once the messages are judged
@@ -32,16 +33,16 @@ module _ (c : tie.After-judge-messages) where
   first = found .before
 
   abbrev start : tie.Start
-  start = first .before .before .before .before .before .before
+  start = first .before .before .before .before .before .before .before
 
   abbrev row′ : List ℕ
-  row′ = c .judge-messages .last .1 .1 .1 .1 .0
+  row′ = c .judge-messages .last .1 .1 .1 .1 .1 .0
 
   abbrev stores′ : List ℕ
-  stores′ = c .judge-messages .last .1 .1 .1 .1 .1 .0
+  stores′ = c .judge-messages .last .1 .1 .1 .1 .1 .1 .0
 
   ready : RowReady (start .args .rows .now) (placeOf (found .segment-of .result))
-  ready i e = row-ready (start .args .list .now) (start .args .rows .now) (first .letter-of .result) (start .pre .0 .rows-ready) i (sym (segment-is found) ∙ e)
+  ready i e = row-ready (lists (start .args .list .now) (start .args .spreads .now)) (start .args .rows .now) (first .letter-of .result) (start .pre .0 .rows-ready) i (sym (segment-is found) ∙ e)
 
   scratch : ScratchRow (start .args .rows .now) (segmentOf (start .args .list .now) (first .letter-of .result)) (c .before .before .before .copy-row-in .last .1 .1 .0)
   scratch = rw (segment-is found) at (c .before .before .before .copy-row-in .ensures)
@@ -54,8 +55,8 @@ module _ (c : tie.After-enum-told) where
   abbrev lent : tie.Start
   lent = start judged
 
-  left : (box : Box) × (dataActs (lends (lent .args .list .now) (lent .args .rows .now) (lent .args .records .now)) (lent .args .«data» .now) (lent .args .count) ≡ acted box)
-      × Left (lent .args .list .now) (Room (length (lent .args .stores .now)) (length (lent .args .«data» .now))) (lent .args .records .now) box (judged .judge-messages .result .kept) (row′ judged) (stores′ judged)
+  left : (box : Box) × (dataActs (lends (lists (lent .args .list .now) (lent .args .spreads .now)) (lent .args .rows .now) (lent .args .records .now)) (lent .args .«data» .now) (lent .args .count) ≡ acted box)
+      × Left (lists (lent .args .list .now) (lent .args .spreads .now)) (Room (length (lent .args .stores .now)) (length (lent .args .«data» .now))) (lent .args .records .now) box (judged .judge-messages .result .kept) (row′ judged) (stores′ judged)
   left =
       scratch-left _ _ _ _ _ _ (scratch judged) (lent .pre .0 .some-messages) (first judged .letter-of .ensures) _ _ _ _ (judged .judge-messages .ensures) (lent .args .records .now) (c .enum-told .given .1)
 
@@ -63,15 +64,15 @@ copy-row-in-requires : tie.Need-copy-row-in-requires
 copy-row-in-requires c κs =
     let f = c .before .before .before in
     let u = f .before in
-    let s = u .before .before .before .before .before .before in
-    ((λ i e. row-ready (s .args .list .now) (s .args .rows .now) (u .letter-of .result) (s .pre .0 .rows-ready) i (sym (segment-is f) ∙ e)), refl)
+    let s = u .before .before .before .before .before .before .before in
+    ((λ i e. row-ready (lists (s .args .list .now) (s .args .spreads .now)) (s .args .rows .now) (u .letter-of .result) (s .pre .0 .rows-ready) i (sym (segment-is f) ∙ e)), refl)
 
 judge-messages-requires : tie.Need-judge-messages-requires
 judge-messages-requires c κs =
     let r = c .before .before in
     let f = r .before .before .before in
-    let s = f .before .before .before .before .before .before .before .before in
-    (front-ready (s .args .list .now) _ _ _ _ _ _ (segment-is (f .before)) (s .pre .0 .header) (f .before2 .ensures) (r .copy-row-in .ensures), s .pre .0 .few)
+    let s = f .before .before .before .before .before .before .before .before .before in
+    (front-ready (lists (s .args .list .now) (s .args .spreads .now)) _ _ _ _ _ _ (segment-is (f .before)) (s .pre .0 .headers) (f .fronts-in .ensures) (r .copy-row-in .ensures), s .pre .0 .few)
 
 put-row-in-requires : tie.Need-put-row-in-requires
 put-row-in-requires c κs = let d = c .before .before in (ready (judged d), sound-row-exactly (row′ (judged d)) .0 (left d .2 .sound) .0)

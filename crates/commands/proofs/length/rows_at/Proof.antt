@@ -1,4 +1,4 @@
--- No level has more rows than level 2.
+-- No update has more rows behind its key than a contract's at level 2.
 use borrow.Author.Needs.{needs}
 use native.Mathlib.Omega.{arith}
 use Rattle.state.specs.SlotsLaws.{rows-few}
@@ -6,7 +6,7 @@ use Rattle.commands.proofs.length.rows_at.Statement.{statement}
 use Rattle.commands.proofs.length.rows_at.Tie as tie
 
 returns : tie.Need-returns
-returns c = omega (arith, rows-few (c .before .args .level))
+returns c = omega (arith, rows-few (c .before .args .item) (c .before .args .level))
 
 pub rows-at-spec : {M : Type 1} → statement M
 rows-at-spec =

@@ -29,9 +29,21 @@ unfolding formOf rowsOf namedRows
 returns-5 c = tells (simp (sym (c .before .before .before .family-of .ensures) ∙ ap familyForms (c .before .enum-told2 .given .1), ne-eqb _ _ (c .match3 .rest .0 .1), ne-eqb _ _ (c .match3 .rest .1)))
 
 returns-6 : tie.Need-returns-6
+unfolding formOf rowsOf namedRows
+returns-6 c = tells (rw (sym (c .before .before .before .family-of .ensures) ∙ ap familyForms (c .before .enum-told3 .given .1), c .match4 .keys1))
+
+returns-7 : tie.Need-returns-7
+unfolding formOf rowsOf namedRows
+returns-7 c = tells (rw (sym (c .before .before .before .family-of .ensures) ∙ ap familyForms (c .before .enum-told3 .given .1), c .match4 .keys2))
+
+returns-8 : tie.Need-returns-8
+unfolding formOf rowsOf namedRows
+returns-8 c = tells (simp (sym (c .before .before .before .family-of .ensures) ∙ ap familyForms (c .before .enum-told3 .given .1), ne-eqb _ _ (c .match4 .rest .0 .1), ne-eqb _ _ (c .match4 .rest .1)))
+
+returns-9 : tie.Need-returns-9
 unfolding formOf
-returns-6 c = tells (rw (sym (c .before .before .family-of .ensures) ∙ ap familyForms (c .enum-told3 .given .1)))
+returns-9 c = tells (rw (sym (c .before .before .family-of .ensures) ∙ ap familyForms (c .enum-told4 .given .1)))
 
 pub form-of-spec : {M : Type 1} → statement M
 form-of-spec =
-    tie.close (tie.spec (search needs) (search needs) (search needs) (search needs) returns returns-2 returns-3 returns-4 returns-5 returns-6)
+    tie.close (tie.spec (search needs) (search needs) (search needs) (search needs) (search needs) returns returns-2 returns-3 returns-4 returns-5 returns-6 returns-7 returns-8 returns-9)

@@ -18,6 +18,10 @@ returns-3 : tie.Need-returns-3
 unfolding sumRule
 returns-3 c = rw (sym (c .before .before .family-of .ensures) ∙ ap familyForms (c .enum-told3 .given .1))
 
+returns-4 : tie.Need-returns-4
+unfolding sumRule
+returns-4 c = rw (sym (c .before .before .family-of .ensures) ∙ ap familyForms (c .enum-told4 .given .1))
+
 pub sum-rule-spec : {M : Type 1} → statement M
 sum-rule-spec =
-    tie.close (tie.spec (search needs) (search needs) (search needs) (search needs) returns returns-2 returns-3)
+    tie.close (tie.spec (search needs) (search needs) (search needs) (search needs) (search needs) returns returns-2 returns-3 returns-4)

@@ -8,10 +8,10 @@ use Rattle.gaps.proofs.take.take_all.Statement.{statement}
 use Rattle.gaps.proofs.take.take_all.Tie as tie
 
 abbrev Inv-loop : tie.InvT-loop
-Inv-loop list records₀ room₀ page₀ turn₀ batch₀ records room page turn batch = (length records ≡ length records₀) × (length room ≡ length room₀) × (length page ≡ length page₀) × Fits (turn .desk) room page
+Inv-loop list spreads records₀ room₀ page₀ turn₀ batch₀ records room page turn batch = (length records ≡ length records₀) × (length room ≡ length room₀) × (length page ≡ length page₀) × Fits (turn .desk) room page
 
 abbrev μ-loop : tie.MeasureT-loop
-μ-loop list records₀ room₀ page₀ turn₀ batch₀ records room page turn batch = 18446744073709551615 - batch
+μ-loop list spreads records₀ room₀ page₀ turn₀ batch₀ records room page turn batch = 18446744073709551615 - batch
 
 pub take-all-spec : {M : Type 1} → statement M
 take-all-spec =

@@ -1,6 +1,6 @@
 -- The call's own promise, its quote shown, and its answer told.
-use Rattle.host.specs.Told.{recordNumbers}
-use Rattle.host.specs.ToldLaws.{handed-on}
+use Rattle.told.specs.Told.{recordNumbers}
+use Rattle.told.specs.ToldLaws.{handed-on}
 use borrow.Author.Needs.{needs}
 use Rattle.host.proofs.calls.read.Statement.{statement}
 use Rattle.host.proofs.calls.read.Tie as tie
@@ -11,7 +11,8 @@ returns c =
     let shown = told .before in
     let made = shown .before .before .before .read-record in
     record {
-      reading = made .result;
+      recorded = made .result .answer;
+      quote = made .result .quote;
       promised = made .ensures;
       tells = handed-on (recordNumbers (made .result .answer)) (told .of-recorded .ensures) (c .tell .ensures);
       shows = shown .show .ensures;

@@ -1,6 +1,6 @@
 -- The call's own promise, of the quote that the values hold, and its answer told.
 use Rattle.state.specs.Answers.{writtenNumbers}
-use Rattle.host.specs.ToldLaws.{handed-on}
+use Rattle.told.specs.ToldLaws.{handed-on}
 use borrow.Author.Needs.{needs}
 use Rattle.host.proofs.calls.write.Statement.{statement}
 use Rattle.host.proofs.calls.write.Tie as tie

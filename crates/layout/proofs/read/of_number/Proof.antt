@@ -13,6 +13,11 @@ returns c = rw (c .before .enum-told .given .1) (ap (λ (cell : ℕ). rowNumbers
 returns-2 : tie.Need-returns-2
 returns-2 c = rw (c .before .before .number .given .1) (ap (λ (cell : ℕ). rowNumbers (Cell cell)) (c .cell-of2 .ensures))
 
+returns-3 : tie.Need-returns-3
+returns-3 c = rw (c .before .before .number2 .given .1) (ap (λ (cell : ℕ). rowNumbers (Cell cell)) (c .cell-of3 .ensures))
+
 pub of-number-spec : {M : Type 1} → statement M
 of-number-spec =
-    tie.close (tie.spec (search needs) (search needs) (search needs) (search needs) (search needs) (search needs) (search needs) returns returns-2 (λ c. search needs) (λ c. search needs) (λ c. search needs))
+    tie.close
+    (tie.spec (search needs) (λ c κs. search needs) (search needs) (λ c κs. search needs) (search needs) (λ c κs. search needs) (search needs) (search needs)
+    returns returns-2 returns-3 (λ c. search needs) (λ c. search needs))

@@ -1,5 +1,5 @@
 -- Each kind of row goes to its own reader.
-use Rattle.decimal.specs.Kinds.{price, quantity, turnover}
+use Rattle.decimal.specs.Kinds.{price, quantity, turnover, difference}
 use Rattle.layout.specs.Read.{readRow}
 use Rattle.layout.specs.ReadLaws.{of-numbers}
 use borrow.Author.Needs.{needs}
@@ -30,6 +30,11 @@ returns-6 : tie.Need-returns-6
 unfolding readRow
 returns-6 c = rw (c .before .before .enum-told6 .given .1) (of-numbers turnover (c .before .before .before .before .before .args .field .now) (c .before .read3 .result) (c .before .read3 .ensures) (c .of-number3 .ensures))
 
+returns-7 : tie.Need-returns-7
+unfolding readRow
+returns-7 c = rw (c .before .before .enum-told7 .given .1) (of-numbers difference (c .before .before .before .before .before .args .field .now) (c .before .read4 .result) (c .before .read4 .ensures) (c .of-number4 .ensures))
+
 pub read-row-spec : {M : Type 1} → statement M
 read-row-spec =
-    tie.close (tie.spec (search needs) (search needs) (search needs) (search needs) (search needs) (search needs) (search needs) (search needs) (search needs) (search needs) (search needs) (search needs) (search needs) (search needs) (search needs) (search needs) returns returns-2 returns-3 returns-4 returns-5 returns-6)
+    tie.close
+    (tie.spec (search needs) (search needs) (search needs) (search needs) (search needs) (search needs) (search needs) (search needs) (search needs) (search needs) (search needs) (search needs) (search needs) (search needs) (search needs) (search needs) (search needs) (search needs) (search needs) returns returns-2 returns-3 returns-4 returns-5 returns-6 returns-7)

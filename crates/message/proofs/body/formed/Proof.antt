@@ -9,7 +9,7 @@ use Rattle.message.proofs.body.formed.Statement.{statement}
 use Rattle.message.proofs.body.formed.Tie as tie
 
 -- what is known once the head is judged
-form-is : (c : tie.After-judge-form) {h : Head} → c .judge-form .result ≡ h → firstFault (formRules (c .before .before .before .args .bytes .now)) ≡ h
+form-is : (c : tie.After-judge-form) {h : Head} → c .judge-form .result ≡ h → firstFault (formRules (c .before .before .before .before .args .bytes .now)) ≡ h
 form-is c e = sym (head-told (c .judge-form .result) _ (c .judge-form .ensures)) ∙ e
 
 returns : tie.Need-returns

@@ -1,12 +1,13 @@
 -- The key is listed, or it is not.
 use mathlib.Core.Path.{_≡_, refl, ap, sym, _∙_}
 use lib.ListN.{take}
+use Rattle.pairs.specs.Lists.{lists}
 use Rattle.laws.specs.Refused.{contractNo}
 use Rattle.contracts.specs.declared.lookup.Found.{Found}
 use Rattle.contracts.specs.Answers.{placeOf}
 use Rattle.contracts.specs.AnswersLaws.{found-told}
 use Rattle.forms.specs.AnswersLaws.{tells}
-use Rattle.forms.specs.Sizes.{keyBytes}
+use Rattle.forms.specs.Forms.{keyBytesOf}
 use Rattle.message.specs.Message.{placeThere}
 use borrow.Author.Needs.{needs}
 use Rattle.message.proofs.body.placed.Statement.{statement}
@@ -14,7 +15,7 @@ use Rattle.message.proofs.body.placed.Tie as tie
 
 -- the place that was found
 place-is : (c : tie.After-find) {found : Found} → c .find .result ≡ found
-    → let a = c .before .before .before .before .args in placeThere (a .list .now) (take keyBytes (a .«data» .now)) (placeOf (a .segment)) ≡ placeOf found
+    → let a = c .before .before .before .before .before .args in placeThere (a .item) (lists (a .list .now) (a .spreads .now)) (take (keyBytesOf (a .item)) (a .«data» .now)) (placeOf (a .segment)) ≡ placeOf found
 place-is c e = rw (← c .before .key-of .ensures) (sym (found-told contractNo (c .find .result) _ (c .find .ensures)) ∙ ap placeOf e)
 
 returns : tie.Need-returns

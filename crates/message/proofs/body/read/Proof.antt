@@ -6,6 +6,7 @@ use mathlib.Core.List.{List}
 use borrow.Author.Tests.{not-true, not-false}
 use Rattle.forms.specs.AnswersLaws.{named-told}
 use Rattle.contracts.specs.Answers.{placeOf}
+use Rattle.pairs.specs.Lists.{Lists, lists}
 use Rattle.contracts.specs.Lookup.{segmentOf}
 use Rattle.message.specs.declared.head.Head.{Head}
 use Rattle.message.specs.Head.{frameRules}
@@ -13,7 +14,7 @@ use Rattle.message.specs.NumbersLaws.{head-told}
 use Rattle.message.specs.Rules.{firstFault}
 use Rattle.message.specs.HeadLaws.{good-frame, bad-frame}
 use Rattle.message.specs.Reads.{messageOf, cellsRead}
-use Rattle.message.specs.MessageLaws.{key-by-segment, good-head, bad-head}
+use Rattle.message.specs.MessageLaws.{places-by-segment, bad-head}
 use borrow.Author.Needs.{needs}
 use Rattle.message.proofs.body.read.Statement.{statement}
 use Rattle.message.proofs.body.read.Tie as tie
@@ -21,10 +22,10 @@ use Rattle.message.proofs.body.read.Tie as tie
 -- what is known once the frame is judged
 module _ (c : tie.After-judge-frame) where
   abbrev begun : tie.Start
-  begun = c .before .before .before
+  begun = c .before .before .before .before
 
-  abbrev list : List ℕ
-  list = begun .args .list .now
+  abbrev both : Lists
+  both = lists (begun .args .list .now) (begun .args .spreads .now)
 
   abbrev letter : ℕ
   letter = begun .args .letter
@@ -32,27 +33,27 @@ module _ (c : tie.After-judge-frame) where
   abbrev bytes : List ℕ
   bytes = begun .args .bytes .now
 
-  frame-is : {h : Head} → c .judge-frame .result ≡ h → firstFault (frameRules letter (segmentOf list letter) bytes) ≡ h
+  frame-is : {h : Head} → c .judge-frame .result ≡ h → firstFault (frameRules letter (segmentOf (both .contracts) letter) bytes) ≡ h
   frame-is e = rw (begun .pre) at (sym (head-told (c .judge-frame .result) (firstFault (frameRules letter (placeOf (begun .args .segment)) bytes)) (c .judge-frame .ensures)) ∙ e)
 
 formed-requires : tie.Need-formed-requires
 formed-requires c κs =
     let d = c .before .before .before .before in
-    (good-frame (letter d) (segmentOf (list d) (letter d)) (bytes d) (frame-is d (c .before .before .enum-told .given .1)) .0, named-told (c .before .form-in .ensures))
+    (good-frame (letter d) (segmentOf (both d .contracts) (letter d)) (bytes d) (frame-is d (c .before .before .enum-told .given .1)) .0, named-told (c .before .form-in .ensures))
 
 returns : tie.Need-returns
 unfolding cellsRead messageOf
 returns c =
     let d = c .before .before .before .before .before in
-    let h = good-frame (letter d) (segmentOf (list d) (letter d)) (bytes d) (frame-is d (c .before .before .before .enum-told .given .1)) .1 in
-    rw (h, ← key-by-segment (list d) (letter d) _ (begun d .pre)) (c .formed .ensures)
+    let h = good-frame (letter d) (segmentOf (both d .contracts) (letter d)) (bytes d) (frame-is d (c .before .before .before .enum-told .given .1)) .1 in
+    rw (h, ← places-by-segment (both d) (letter d) (bytes d) (begun d .pre)) (c .formed .ensures)
 
 returns-2 : tie.Need-returns-2
 unfolding cellsRead
 returns-2 c =
     let d = c .before .before .before .before in
-    let h = bad-frame (letter d) (segmentOf (list d) (letter d)) (bytes d) _ (frame-is d (c .before .before .fault .given .1)) in
-    rw (bad-head (list d) (letter d) (bytes d) _ h, h) (record { told = c .bad .ensures; stored = refl })
+    let h = bad-frame (letter d) (segmentOf (both d .contracts) (letter d)) (bytes d) _ (frame-is d (c .before .before .fault .given .1)) in
+    rw (bad-head (both d) (letter d) (bytes d) _ h, h) (record { told = c .bad .ensures; stored = refl })
 
 pub read-spec : {M : Type 1} → statement M
 read-spec =

@@ -5,14 +5,17 @@ use mathlib.Core.List.{List}
 use native.Mathlib.Omega.{arith}
 use borrow.Author.Needs.{needs}
 use lib.ListN.{take, drop}
+use Rattle.pairs.specs.Lists.{lists}
 use Rattle.layout.specs.declared.read.Verdict.{Verdict}
 use Rattle.message.specs.declared.body.What.{What}
 use mathlib.Core.Option.{Option}
 use Rattle.contracts.specs.Answers.{placeOf}
 use Rattle.forms.specs.declared.forms.Form.{Form}
-use Rattle.forms.specs.Sizes.{keyBytes, bareLength}
+use Rattle.forms.specs.declared.forms.Item.{Item}
+use Rattle.forms.specs.Forms.{keyBytesOf}
+use Rattle.forms.specs.Sizes.{bareLength}
 use Rattle.message.specs.Fields.{lengthOf, numberOf, dataOf}
-use Rattle.message.specs.Message.{messageKey, placeThere, ofPlace}
+use Rattle.message.specs.Message.{messageKey, placeThere, placesThere, ofPlace}
 use Rattle.message.specs.Reads.{rowsRead, ofVerdict, contentsBy, ReadsMessage}
 use Rattle.message.specs.MessageLaws.{update-reads}
 use Rattle.message.specs.Numbers.{TellsWhat}
@@ -23,7 +26,7 @@ use Rattle.message.proofs.body.update.Tie as tie
 -- what is known once the rows are read
 module _ (c : tie.After-read-update) where
   abbrev begun : tie.Start
-  begun = c .before .before .before .before .before .before
+  begun = c .before .before .before .before .before .before .before
 
   abbrev bytes : List ℕ
   bytes = begun .args .bytes .now
@@ -37,9 +40,12 @@ module _ (c : tie.After-read-update) where
   abbrev form : Form
   form = begun .args .form
 
+  abbrev item : Item
+  item = begun .args .item
+
   -- the place of its key
-  abbrev found : Option ℕ
-  found = placeThere (begun .args .list .now) (messageKey bytes) (placeOf (begun .args .segment))
+  abbrev found : Item → Option ℕ
+  found = placesThere (lists (begun .args .list .now) (begun .args .spreads .now)) bytes (placeOf (begun .args .segment))
 
   whole-is : whole ≡ lengthOf bytes
   whole-is = begun .pre .1
@@ -50,16 +56,16 @@ module _ (c : tie.After-read-update) where
       let e : whole - 3 - 8 ≡ lengthOf bytes - bareLength = omega (arith, whole-is) in
       rw e
 
-  ended : (v : Verdict) (w : What) → c .read-update .result ≡ v → w ≡ ofVerdict v (ofPlace (numberOf bytes) form found)
+  ended : (v : Verdict) (w : What) → c .read-update .result ≡ v → w ≡ ofVerdict v (ofPlace (numberOf bytes) form (found item))
       → ReadsMessage (contentsBy found bytes) (rowsRead bytes .cells) cells (record { what = w; length = whole }) (c .read-update .last .1 .1 .0)
   ended v w e same =
-      update-reads found bytes whole whole-is w form (begun .pre .2) (begun .pre .3) (c .read-update .result) cells _
-      (rw data-is at (c .read-update .ensures)) (same ∙ ap (λ (u : Verdict). ofVerdict u (ofPlace (numberOf bytes) form found)) (sym e))
+      update-reads found bytes whole whole-is w form (begun .pre .2) item (begun .pre .3) (c .read-update .result) cells _
+      (rw data-is at (c .read-update .ensures)) (same ∙ ap (λ (u : Verdict). ofVerdict u (ofPlace (numberOf bytes) form (found item))) (sym e))
 
-  good-is : {r : What} → TellsWhat (ofPlace (c .before .before .before .number-of .result) form (placeThere (begun .args .list .now) (take keyBytes (take (whole - 3 - 8) (drop 8 bytes))) (placeOf (begun .args .segment)))) r
-      → r ≡ ofPlace (numberOf bytes) form found
+  good-is : {r : What} → TellsWhat (ofPlace (c .before .before .before .number-of .result) form (placeThere item (lists (begun .args .list .now) (begun .args .spreads .now)) (take (keyBytesOf item) (take (whole - 3 - 8) (drop 8 bytes))) (placeOf (begun .args .segment)))) r
+      → r ≡ ofPlace (numberOf bytes) form (found item)
   unfolding messageKey
-  good-is t = what-told t ∙ (λ i. ofPlace (c .before .before .before .number-of .ensures i) form (placeThere (begun .args .list .now) (take keyBytes (data-is i)) (placeOf (begun .args .segment))))
+  good-is t = what-told t ∙ (λ i. ofPlace (c .before .before .before .number-of .ensures i) form (placeThere item (lists (begun .args .list .now) (begun .args .spreads .now)) (take (keyBytesOf item) (data-is i)) (placeOf (begun .args .segment))))
 
 returns : tie.Need-returns
 returns c =

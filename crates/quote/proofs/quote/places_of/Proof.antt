@@ -1,6 +1,6 @@
 -- Each form by computing.
-use Rattle.quote.specs.SideLaws.{places-fit}
-use Rattle.forms.specs.declared.forms.Form.the-variants.{Heartbeat, LevelOne, LevelTwo}
+use Rattle.quote.specs.PlacesLaws.{places-fit}
+use Rattle.forms.specs.declared.forms.Form.the-variants.{Heartbeat, LevelOne, LevelTwo, PairOne, PairTwo}
 use borrow.Author.Needs.{needs}
 use Rattle.quote.proofs.quote.places_of.Statement.{statement}
 use Rattle.quote.proofs.quote.places_of.Tie as tie
@@ -14,6 +14,12 @@ returns-2 c = (rw (c .enum-told2 .given .1), places-fit LevelOne)
 returns-3 : tie.Need-returns-3
 returns-3 c = (rw (c .enum-told3 .given .1), places-fit LevelTwo)
 
+returns-4 : tie.Need-returns-4
+returns-4 c = (rw (c .enum-told4 .given .1), places-fit PairOne)
+
+returns-5 : tie.Need-returns-5
+returns-5 c = (rw (c .enum-told5 .given .1), places-fit PairTwo)
+
 pub places-of-spec : {M : Type 1} → statement M
 places-of-spec =
-    tie.close (tie.spec (search needs) (search needs) (search needs) returns returns-2 returns-3)
+    tie.close (tie.spec (search needs) (search needs) (search needs) (search needs) (search needs) returns returns-2 returns-3 returns-4 returns-5)

@@ -1,12 +1,18 @@
 -- Each field is what its cell means.
-use Rattle.quote.specs.SideLaws.{quote-laid}
+use Rattle.quote.specs.PlacesLaws.{quote-laid}
 use native.Mathlib.Omega.{arith}
 use borrow.Author.Needs.{needs}
 use Rattle.quote.proofs.quote.quote_of.Statement.{statement}
 use Rattle.quote.proofs.quote.quote_of.Tie as tie
 
+add-price-at-2 : tie.Need-add-price-at-2
+add-price-at-2 c = omega (arith, c .before .before .before .before .before .before .before .before .places-of .ensures .1 .others .1)
+
+add-price-at-3 : tie.Need-add-price-at-3
+add-price-at-3 c = omega (arith, c .before .before .before .before .before .before .before .before .before .before .places-of .ensures .1 .others .2)
+
 add-quantity-at-2 : tie.Need-add-quantity-at-2
-add-quantity-at-2 c = omega (arith, c .before .before .before .before .before .before .before .before .before .before .before .before .places-of .ensures .1 .near .1)
+add-quantity-at-2 c = omega (arith, c .before .before .before .before .before .before .before .before .before .before .before .before .places-of .ensures .1 .others .3)
 
 returns : tie.Need-returns
 returns c =
@@ -32,4 +38,4 @@ returns c =
 
 pub quote-of-spec : {M : Type 1} → statement M
 quote-of-spec =
-    tie.close (tie.spec (search needs) (search needs) (search needs) (search needs) (search needs) (search needs) (search needs) (search needs) (search needs) (search needs) (search needs) (search needs) (search needs) (search needs) (search needs) (search needs) (search needs) (search needs) (search needs) (search needs) add-quantity-at-2 (search needs) (search needs) returns)
+    tie.close (tie.spec (search needs) (search needs) (search needs) (search needs) (search needs) (search needs) (search needs) (search needs) (search needs) (search needs) (search needs) add-price-at-2 (search needs) (search needs) add-price-at-3 (search needs) (search needs) add-quantity-at-2 (search needs) (search needs) returns)

@@ -9,23 +9,40 @@ use lib.ListN.{length, set, drop, replicate, length-set, length-drop, length-rep
 use lib.Seq.{paste, paste-zero, paste-suc, getD-drop}
 use Rattle.state.specs.Places.{recordRows}
 use Rattle.quotebox.specs.RecordLaws.{cells-copied}
-use Rattle.state.specs.SlotsLaws.{rows-few}
+use Rattle.forms.specs.Forms.{keyRowsOf, recordForm}
+use Rattle.forms.specs.FormsLaws.{fits}
+use Rattle.state.specs.SlotsLaws.{rows-kept}
 use Rattle.quotebox.proofs.record.cells_at.Statement.{statement}
 use Rattle.quotebox.proofs.record.cells_at.Tie as tie
 
 abbrev Inv-loop : tie.InvT-loop
-Inv-loop records at count first cells₀ i₀ cells i = (i ≤ count) × (length cells ≡ 37) × (cells ≡ paste cells₀ 5 (drop (at + 1) records) i)
+Inv-loop records at count key first cells₀ i₀ cells i = (i ≤ count) × (length cells ≡ 37) × (cells ≡ paste cells₀ key (drop (at + 1) records) i)
 
 abbrev μ-loop : tie.MeasureT-loop
-μ-loop records at count first cells₀ i₀ cells i = count - i
+μ-loop records at count key first cells₀ i₀ cells i = count - i
+
+-- what is known once the rows are counted
+module _ (c : tie.After-key-rows-of Inv-loop μ-loop) where
+  abbrev start : tie.Start Inv-loop μ-loop
+  start = c .before .before .before
+
+  count-is : c .before .record-rows .result ≡ recordRows (start .args .item) (start .args .level)
+  count-is = c .before .record-rows .ensures
+
+  key-is : c .key-rows-of .result ≡ keyRowsOf (start .args .item)
+  key-is = c .key-rows-of .ensures
+
+  -- no record has more rows than cells are left behind the key's
+  few : c .key-rows-of .result + c .before .record-rows .result ≤ 37
+  few = omega (arith, count-is, key-is, rows-kept (start .args .item) (start .args .level), fits (recordForm (start .args .item) (start .args .level)) .rows-fit)
 
 add-first : tie.Need-add-first Inv-loop μ-loop
 add-first c = omega arith
 
 loop-holds : tie.Need-loop-holds Inv-loop μ-loop
 loop-holds c =
-    let a = c .before .before .args in
-    (omega arith, refl, paste-zero (replicate 37 0) 5 (drop (a .at + 1) (a .records .now)))
+    let a = c .before .before .before .args in
+    (omega arith, refl, paste-zero (replicate 37 0) (c .key-rows-of .result) (drop (a .at + 1) (a .records .now)))
 
 add-cells : tie.Need-add-cells Inv-loop μ-loop
 add-cells c = omega arith
@@ -34,23 +51,19 @@ mul-cells : tie.Need-mul-cells Inv-loop μ-loop
 mul-cells c = omega arith
 
 shared-slice-read-cells : tie.Need-shared-slice-read-cells Inv-loop μ-loop
-shared-slice-read-cells c = omega arith
-
--- no record has more rows than cells are left behind the key's
-few : (c : tie.In-loop Inv-loop μ-loop) → c .before .loop .i ≤ 31
-few c = omega (arith, rows-few (c .before .before .before .before .args .level))
+shared-slice-read-cells c = omega (arith, count-is (c .before .before .before))
 
 add-cells-2 : tie.Need-add-cells-2 Inv-loop μ-loop
-add-cells-2 c = omega (arith, few (c .before))
+add-cells-2 c = omega (arith, few (c .before .before .before))
 
 mul-cells-2 : tie.Need-mul-cells-2 Inv-loop μ-loop
-mul-cells-2 c = omega (arith, few (c .before))
+mul-cells-2 c = omega (arith, few (c .before .before .before))
 
 array-write-cells : tie.Need-array-write-cells Inv-loop μ-loop
-array-write-cells c = omega (arith, few (c .before))
+array-write-cells c = omega (arith, few (c .before .before .before))
 
 add-i : tie.Need-add-i Inv-loop μ-loop
-add-i c = omega arith
+add-i c = omega (arith, few (c .before .before .before))
 
 loop-less : tie.Need-loop-less Inv-loop μ-loop
 loop-less c = omega arith
@@ -58,24 +71,29 @@ loop-less c = omega arith
 loop-again : tie.Need-loop-again Inv-loop μ-loop
 loop-again c =
     let at = c .before .before in
+    let d = at .before in
     let l = at .loop in
-    let a = at .before .before .before .args in
+    let a = start d .args in
+    let key : ℕ = d .key-rows-of .result in
     let zeros : List ℕ = replicate 37 0 in
     let from : List ℕ = drop (a .at + 1) (a .records .now) in (
       omega arith,
-      length-set (l .cells) (5 + l .i) _ ∙ l .inv .1,
-      ap₂ (λ (ns : List ℕ) (v : ℕ). set ns (5 + l .i) v) (l .inv .2) (sym (getD-drop (a .at + 1) (a .records .now) (l .i) 0))
-          ∙ paste-suc zeros 5 from (l .i) 0 (simp length-replicate (omega (arith, few (c .before)))) (simp length-drop (omega arith))
-          ∙ ap (paste zeros 5 from) (sym (add-one (l .i))),
+      length-set (l .cells) (key + l .i) _ ∙ l .inv .1,
+      ap₂ (λ (ns : List ℕ) (v : ℕ). set ns (key + l .i) v) (l .inv .2) (sym (getD-drop (a .at + 1) (a .records .now) (l .i) 0))
+          ∙ paste-suc zeros key from (l .i) 0 (simp length-replicate (omega (arith, few d))) (simp length-drop (omega (arith, count-is d)))
+          ∙ ap (paste zeros key from) (sym (add-one (l .i))),
     )
 
 returns : tie.Need-returns Inv-loop μ-loop
 returns c =
     let l = c .before .loop in
-    let a = c .before .before .before .before .args in
-    let all : l .i ≡ recordRows (a .level) = omega arith in
-    l .inv .2 ∙ ap (paste (replicate 37 0) 5 (drop (a .at + 1) (a .records .now))) all ∙ cells-copied (a .records .now) (a .at) (a .level) (omega arith)
+    let d = c .before .before in
+    let a = start d .args in
+    let all : l .i ≡ recordRows (a .item) (a .level) = omega (arith, count-is d) in
+    l .inv .2
+    ∙ ap₂ (λ (key n : ℕ). paste (replicate 37 0) key (drop (a .at + 1) (a .records .now)) n) (key-is d) all
+    ∙ cells-copied (a .item) (a .records .now) (a .at) (a .level) (omega arith)
 
 pub cells-at-spec : {M : Type 1} → statement M
 cells-at-spec =
-    tie.close (tie.spec Inv-loop μ-loop (λ c κs. search needs) add-first loop-holds add-cells mul-cells shared-slice-read-cells add-cells-2 mul-cells-2 array-write-cells add-i loop-less loop-again returns)
+    tie.close (tie.spec Inv-loop μ-loop (λ c κs. search needs) (λ c κs. search needs) add-first loop-holds add-cells mul-cells shared-slice-read-cells add-cells-2 mul-cells-2 array-write-cells add-i loop-less loop-again returns)

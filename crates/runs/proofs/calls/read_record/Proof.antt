@@ -28,6 +28,7 @@ use denote.Triple.Statement.{Triple}
 use denote.Triple.Spec.{Meets, tripleOf}
 use denote.Triple.Table.{entered, cited}
 use denote.RattleType.{RattleType}
+use Rattle.pairs.specs.Lists.{lists}
 use Rattle.forms.proofs.rows.Level as Lv
 use Rattle.forms.proofs.rows.Level.Laws as Lv′
 use Rattle.quotebox.proofs.record.Reading as J
@@ -60,37 +61,40 @@ module _ {M : Type 1} (𝓤 : URA M) (H : Heap 𝓤) (A : Atoms 𝓤) (W : Given
       (λ κs. (
         shr-param W (named 0) (κs .0) u8,
         (
-          shr-param W (named 1) (κs .1 .0) R,
+          shr-param W (named 1) (κs .1 .0) u8,
           (
-            shr-param W (named 2) (κs .1 .1 .0) u64,
+            shr-param W (named 2) (κs .1 .1 .0) R,
             (
-              uint-param W w8,
+              shr-param W (named 3) (κs .1 .1 .1 .0) u64,
               (
-                ref-param W (named 3) (κs .1 .1 .1 .0) Key,
-                (record { spell = EL.vals Lv.the-type Lv′.the-laws; tells = EL.tells Lv.the-type Lv′.the-laws; lawful = EL.lawful Lv.the-type Lv′.the-laws 𝓤 H A W tt }, tt),
+                uint-param W w8,
+                (
+                  ref-param W (named 4) (κs .1 .1 .1 .1 .0) Key,
+                  (record { spell = EL.vals Lv.the-type Lv′.the-laws; tells = EL.tells Lv.the-type Lv′.the-laws; lawful = EL.lawful Lv.the-type Lv′.the-laws 𝓤 H A W tt }, tt),
+                ),
               ),
             ),
           ),
         ),
       ))
-      (λ κs a bs typed. typed) (λ κs qs bounds a g are bs ends. let rows = a .1 .0 in let few = are .1 .0 .0 .1 .0 in let fm = fmOf 𝓤 H (W .laws) 𝓣 in
-      -- [the token of rows; what rows owns; the other tokens; list; records; letter; key; level; the locals]
-      move ! (1 ∷ 5 ∷ []) $ sees mem run fm (κs .1 .0) (qs .1 .0) (ptr rows .0) (ptr rows .1) (name rows) (now rows) ! known-out few refl (look ! (cell 9 2) refl)
-      (λ u is. init ! (cell 9 7) refl (runs-typed 𝓤 H A W (over (now rows) blanks) is)) (λ u. look-in ! (cell 9 2) (sub ! 1 refl (whole !))) (λ u. init ! (cell 9 8) refl (tt, record { fits = few })) (λ u is.
-      -- [the array; the number of runs; the token of rows; the other tokens; list; records; letter; key; level; the locals]
-      move ! (3 ∷ 4 ∷ 5 ∷ 6 ∷ 0 ∷ 1 ∷ 7 ∷ 8 ∷ 9 ∷ 10 ∷ []) $ calls-for fm front.ended (front.clauses 𝓤 H A mem run) known-front (
-        (κs .0, κs .1 .1),
-        (qs .0, qs .1 .1),
+      (λ κs a bs typed. typed) (λ κs qs bounds a g are bs ends. let rows = a .1 .1 .0 in let few = are .1 .1 .0 .0 .1 .0 in let fm = fmOf 𝓤 H (W .laws) 𝓣 in
+      -- [the token of rows; what rows owns; the other tokens; list; spreads; records; letter; key; level; the locals]
+      move ! (2 ∷ 7 ∷ []) $ sees mem run fm (κs .1 .1 .0) (qs .1 .1 .0) (ptr rows .0) (ptr rows .1) (name rows) (now rows) ! known-out few refl (look ! (cell 11 3) refl)
+      (λ u is. init ! (cell 11 8) refl (runs-typed 𝓤 H A W (over (now rows) blanks) is)) (λ u. look-in ! (cell 11 3) (sub ! 1 refl (whole !))) (λ u. init ! (cell 11 9) refl (tt, record { fits = few })) (λ u is.
+      -- [the array; the number of runs; the token of rows; the other tokens; list; spreads; records; letter; key; level; the locals]
+      move ! (3 ∷ 4 ∷ 5 ∷ 6 ∷ 7 ∷ 8 ∷ 0 ∷ 1 ∷ 9 ∷ 10 ∷ 11 ∷ 12 ∷ []) $ calls-for fm front.ended (front.clauses 𝓤 H A mem run) known-front (
+        (κs .0, (κs .1 .0, κs .1 .1 .1)),
+        (qs .0, (qs .1 .0, qs .1 .1 .1)),
         tt,
-        (a .0, (over (now rows) blanks, (length (now rows), a .1 .1))),
-        (slice-vals (a .0), (u ∷ [], (vint w64 (length (now rows)) ∷ [], (slice-vals (a .1 .1 .0), (vint w8 (a .1 .1 .1 .0) ∷ [], (ptr-vals (a .1 .1 .1 .1 .0), (EL.vals Lv.the-type Lv′.the-laws (a .1 .1 .1 .1 .1 .0), tt))))))),
+        (a .0, (a .1 .0, (over (now rows) blanks, (length (now rows), a .1 .1 .1)))),
+        (slice-vals (a .0), (slice-vals (a .1 .0), (u ∷ [], (vint w64 (length (now rows)) ∷ [], (slice-vals (a .1 .1 .1 .0), (vint w8 (a .1 .1 .1 .1 .0) ∷ [], (ptr-vals (a .1 .1 .1 .1 .1 .0), (EL.vals Lv.the-type Lv′.the-laws (a .1 .1 .1 .1 .1 .1 .0), tt)))))))),
       )
-      tt (id⊢ 𝓤 (emp 𝓤)) ! (λ r zs. ReadRuns (now (a .0)) (lent (now rows) (array (now rows))) (now (a .1 .1 .0)) (a .1 .1 .1 .0) (now (a .1 .1 .1 .1 .0)) (a .1 .1 .1 .1 .1 .0) r) (λ r zs. id⊢ 𝓤 _)
-      (loads ! (look ! (cell 2 1) refl) (loads ! (look ! (cell 2 7) refl) (loads ! (look ! (cell 2 8) refl) (loads ! (look ! (cell 2 3) refl) (loads ! (look ! (cell 2 4) refl) (loads ! (look ! (cell 2 5) refl) (loads ! (look ! (cell 2 6) refl) (no-more !)))))))) (λ w r zs did.
+      tt (id⊢ 𝓤 (emp 𝓤)) ! (λ r zs. ReadRuns (lists (now (a .0)) (now (a .1 .0))) (lent (now rows) (array (now rows))) (now (a .1 .1 .1 .0)) (a .1 .1 .1 .1 .0) (now (a .1 .1 .1 .1 .1 .0)) (a .1 .1 .1 .1 .1 .1 .0) r) (λ r zs. id⊢ 𝓤 _)
+      (loads ! (look ! (cell 2 1) refl) (loads ! (look ! (cell 2 2) refl) (loads ! (look ! (cell 2 8) refl) (loads ! (look ! (cell 2 9) refl) (loads ! (look ! (cell 2 4) refl) (loads ! (look ! (cell 2 5) refl) (loads ! (look ! (cell 2 6) refl) (loads ! (look ! (cell 2 7) refl) (no-more !))))))))) (λ w r zs did.
       -- [the result; the tokens; the token of rows; the locals]
-      move ! (3 ∷ []) $ answers ! J.the-row (LL.makes J.the-type J′.the-plain 𝓤 H A) r w (λ is. init ! (cell 4 0) refl (LL.lawful J.the-type J′.the-laws 𝓤 H A W .typed r _ is .0)) (look ! (cell 4 0) refl)
-      (step (λ k. move ! (span 4 18) $ all-die ! (envOf (code.function .locals) bs) _ _ $ k)) $ move ! (0 ∷ 1 ∷ 4 ∷ []) $
-      ends w r (tt, (tt, (tt, (tt, (tt, (tt, tt)))))) (factI 𝓤 _ (emp 𝓤) (read-runs (now (a .0)) (now rows) (now (a .1 .1 .0)) (a .1 .1 .1 .0) (now (a .1 .1 .1 .1 .0)) (a .1 .1 .1 .1 .1 .0) r did)))))
+      move ! (4 ∷ []) $ answers ! J.the-row (LL.makes J.the-type J′.the-plain 𝓤 H A) r w (λ is. init ! (cell 5 0) refl (LL.lawful J.the-type J′.the-laws 𝓤 H A W .typed r _ is .0)) (look ! (cell 5 0) refl)
+      (step (λ k. move ! (span 5 20) $ all-die ! (envOf (code.function .locals) bs) _ _ $ k)) $ move ! (0 ∷ 1 ∷ 2 ∷ 5 ∷ []) $
+      ends w r (tt, (tt, (tt, (tt, (tt, (tt, (tt, tt))))))) (factI 𝓤 _ (emp 𝓤) (read-runs (lists (now (a .0)) (now (a .1 .0))) (now rows) (now (a .1 .1 .1 .0)) (a .1 .1 .1 .1 .0) (now (a .1 .1 .1 .1 .1 .0)) (a .1 .1 .1 .1 .1 .1 .0) (r .answer) did)))))
 
 pub read-record-spec : {M : Type 1} → stated.statement M
 unfolding code.routine tablesOf

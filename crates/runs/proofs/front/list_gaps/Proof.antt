@@ -6,12 +6,12 @@ use Rattle.runs.proofs.front.list_gaps.Tie as tie
 
 returns : tie.Need-returns
 returns c =
-    let s = c .before .before .before .before .before .before .before .before .before .before .before in
+    let s = c .before .before .before .before .before .before .before .before .before .before .before .before in
     let t = c .before .before .before .list-numbers in
     let count = c .before .before .before .before .before .before .before .at-most in
     let numbers = c .before .before .before .before .before .before .flat in
     let a = s .args in
-    array-seen _ _ (a .runs) (a .lent) (count .result) (numbers .result) (s .good .1 .0 .1 .0 .1) (count .ensures) (numbers .ensures) (t .result) _ (c .listed .ensures) _ (t .ensures)
+    array-seen _ _ (a .runs) (a .lent) (count .result) (numbers .result) (s .good .1 .1 .0 .1 .0 .1) (count .ensures) (numbers .ensures) (t .result) _ (c .listed .ensures) _ (t .ensures)
 
 pub list-gaps-spec : {M : Type 1} → statement M
 list-gaps-spec =

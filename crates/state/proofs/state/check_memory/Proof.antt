@@ -4,6 +4,7 @@ use native.Mathlib.Omega.{arith}
 use borrow.Author.Needs.{needs}
 use borrow.Author.Tests.{le-leb, lt-leb}
 use lib.ListN.{getD}
+use Rattle.pairs.specs.Lists.{lists}
 use Rattle.contracts.specs.File.{segmentsOf}
 use Rattle.contracts.specs.FileLaws.{segments-under, before-under}
 use Rattle.state.specs.Memory.{gapRowsWanted}
@@ -15,30 +16,24 @@ bytes : (c : tie.After-shared-slice-known) (j : ℕ) → getD (c .before .args .
 bytes c j = c .shared-slice-known .given j .fits
 
 mul-rows-wanted : tie.Need-mul-rows-wanted
-mul-rows-wanted c = omega (arith, segments-under (c .before .before .args .list .now) (bytes (c .before)))
+mul-rows-wanted c = omega (arith, segments-under (c .before .before .before .args .list .now) (bytes (c .before .before)))
 
 returns : tie.Need-returns
 returns c =
-    let a = c .before .before .before .args in
-    rw (c .before .segments .ensures) (simp (lt-leb (gapRowsWanted (a .list .now)) (a .rows) (omega arith)))
-
-mul-records-wanted : tie.Need-mul-records-wanted
-mul-records-wanted c =
-    let d = c .before .before .before in
-    let list = d .before .args .list .now in
-    omega (arith, before-under list (bytes d) (segmentsOf list))
+    let a = c .before .before .before .before .args in
+    rw (c .before .segments .ensures) (simp (lt-leb (gapRowsWanted (lists (a .list .now) (a .spreads .now))) (a .rows) (omega arith)))
 
 returns-2 : tie.Need-returns-2
 returns-2 c =
-    let a = c .before .before .before .before .before .args in
-    rw (c .before .all-contracts .ensures)
-    (simp (le-leb (gapRowsWanted (a .list .now)) (a .rows) (omega arith), lt-leb (recordsWanted (a .list .now)) (a .records) (omega arith)))
+    let a = c .before .before .before .before .before .before .args in
+    rw (c .before .records-wanted .ensures)
+    (simp (le-leb (gapRowsWanted (lists (a .list .now) (a .spreads .now))) (a .rows) (omega arith), lt-leb (recordsWanted (lists (a .list .now) (a .spreads .now))) (a .records) (omega arith)))
 
 returns-3 : tie.Need-returns-3
 returns-3 c =
-    let a = c .before .before .before .before .before .args in
-    simp (le-leb (gapRowsWanted (a .list .now)) (a .rows) (omega arith), le-leb (recordsWanted (a .list .now)) (a .records) (omega arith))
+    let a = c .before .before .before .before .before .before .args in
+    simp (le-leb (gapRowsWanted (lists (a .list .now) (a .spreads .now))) (a .rows) (omega arith), le-leb (recordsWanted (lists (a .list .now) (a .spreads .now))) (a .records) (omega arith))
 
 pub check-memory-spec : {M : Type 1} → statement M
 check-memory-spec =
-    tie.close (tie.spec (search needs) mul-rows-wanted returns (search needs) mul-records-wanted returns-2 returns-3)
+    tie.close (tie.spec (λ c κs. search needs) mul-rows-wanted returns (λ c κs. search needs) returns-2 returns-3)

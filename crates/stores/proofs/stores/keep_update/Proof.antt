@@ -14,11 +14,16 @@ subject-is c e = sym (subject-told (c .subject-of .result) _ (c .subject-of .ens
 returns : tie.Need-returns
 returns c = rw (subject-is (c .before .before) (c .enum-told .given .1)) (refl, refl)
 
+record-at-requires : tie.Need-record-at-requires
+record-at-requires c κs = let s = c .before .before .before .before .before .before in (s .pre .1 (c .before .item .given .0 .0), s .pre .2)
+
 returns-2 : tie.Need-returns-2
 returns-2 c =
-    let l = c .before .before .before .before .before in
-    rw (subject-is (l .before .before) (l .level .given .1)) (c .before .before .keep .ensures)
+    let k = c .before .before in
+    let r = k .before .before in
+    let l = r .before .before in
+    rw (subject-is (l .before .before) (l .item .given .1), ← r .record-at .ensures) (k .keep .ensures)
 
 pub keep-update-spec : {M : Type 1} → statement M
 keep-update-spec =
-    tie.close (tie.spec (λ c κs. search needs) (search needs) (search needs) (λ c κs. search needs) returns (search needs) returns-2)
+    tie.close (tie.spec (λ c κs. search needs) (search needs) (search needs) record-at-requires (λ c κs. search needs) returns (search needs) returns-2)

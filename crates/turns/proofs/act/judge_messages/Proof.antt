@@ -8,6 +8,7 @@ use mathlib.Core.Logic.{_⊎_, ⊎-elim}
 use native.Mathlib.Omega.{arith}
 use denote.Enum.Declared.{tagOf}
 use lib.ListN.{length, drop, length-drop}
+use Rattle.pairs.specs.Lists.{lists}
 use Rattle.sequence.specs.RowLaid.{soundGapRow}
 use Rattle.turns.specs.declared.act.Act.{Act}
 use Rattle.turns.proofs.act.Act.{the-type}
@@ -19,11 +20,11 @@ use Rattle.turns.proofs.act.judge_messages.Statement.{statement}
 use Rattle.turns.proofs.act.judge_messages.Tie as tie
 
 abbrev Inv-loop : tie.InvT-loop
-Inv-loop list letter segment before row₀ stores₀ «data» count cells₀ counts₀ kept₀ at₀ i₀ row stores cells counts kept at i =
-    (i ≤ count) × (at ≤ length «data») × (soundGapRow row ≡ true) × (total counts ≡ i) × (length stores ≡ length stores₀) × Going list letter row₀ (length stores₀) «data» count row stores kept counts at i
+Inv-loop list spreads letter segment fronts row₀ stores₀ «data» count cells₀ counts₀ kept₀ at₀ i₀ row stores cells counts kept at i =
+    (i ≤ count) × (at ≤ length «data») × (soundGapRow row ≡ true) × (total counts ≡ i) × (length stores ≡ length stores₀) × Going (lists list spreads) letter row₀ (length stores₀) «data» count row stores kept counts at i
 
 abbrev μ-loop : tie.MeasureT-loop
-μ-loop list letter segment before row₀ stores₀ «data» count cells₀ counts₀ kept₀ at₀ i₀ row stores cells counts kept at i =
+μ-loop list spreads letter segment fronts row₀ stores₀ «data» count cells₀ counts₀ kept₀ at₀ i₀ row stores cells counts kept at i =
     count - i
 
 -- what is known once a message has acted
@@ -35,7 +36,7 @@ module _ (c : tie.After-message-acts Inv-loop μ-loop) where
   head = turn .before
 
   abbrev start : tie.Start Inv-loop μ-loop
-  start = head .before .before .before .before .before
+  start = head .before .before .before .before .before .before
 
   abbrev bytes : List ℕ
   bytes = start .args .«data» .now
@@ -44,12 +45,12 @@ module _ (c : tie.After-message-acts Inv-loop μ-loop) where
   step = c .message-acts .result
 
   abbrev row′ : List ℕ
-  row′ = c .message-acts .last .1 .1 .1 .1 .0
+  row′ = c .message-acts .last .1 .1 .1 .1 .1 .0
 
   abbrev stores′ : List ℕ
-  stores′ = c .message-acts .last .1 .1 .1 .1 .1 .0
+  stores′ = c .message-acts .last .1 .1 .1 .1 .1 .1 .0
 
-  acts : MessageActs (start .args .list .now) (start .args .letter) (head .loop .row) (head .loop .stores) (head .loop .kept) (head .loop .i) (drop (head .loop .at) bytes) step row′ stores′
+  acts : MessageActs (lists (start .args .list .now) (start .args .spreads .now)) (start .args .letter) (head .loop .row) (head .loop .stores) (head .loop .kept) (head .loop .i) (drop (head .loop .at) bytes) step row′ stores′
   acts = rw (rest-is bytes (head .loop .at) (head .loop .inv .1)) at (c .message-acts .ensures)
 
   inside : passed (step .act) ≡ true → head .loop .at + step .length ≤ length bytes
@@ -66,7 +67,7 @@ passed-on : (c : tie.At-match-keys2 Inv-loop μ-loop) → passed (step (c .befor
 passed-on c = passes (step (c .before .before .before) .act) (c .match .keys2)
 
 loop-holds : tie.Need-loop-holds Inv-loop μ-loop
-loop-holds c = rw (c .none .ensures) (omega arith, omega arith, c .before .before .before .before .pre .0 .sound, refl, refl, begins _ _ _ _ _ _ _)
+loop-holds c = rw (c .none .ensures) (omega arith, omega arith, c .before .before .before .before .before .pre .0 .sound, refl, refl, begins _ _ _ _ _ _ _)
 
 sub-part : tie.Need-sub-part Inv-loop μ-loop
 sub-part c = c .before .loop .inv .1
@@ -78,11 +79,11 @@ message-acts-requires : tie.Need-message-acts-requires Inv-loop μ-loop
 message-acts-requires c κs =
     let h = c .before .before .before .before .before in
     let l = h .loop in
-    let s = h .before .before .before .before .before in
-    record { header = s .pre .0 .header; segment-is = s .pre .0 .segment-is; before-is = s .pre .0 .before-is; sound = l .inv .2; within = omega (arith, l .inv .4, l .inv .5 .within) }
+    let s = h .before .before .before .before .before .before in
+    record { headers = s .pre .0 .headers; segment-is = s .pre .0 .segment-is; fronts-are = s .pre .0 .fronts-are; sound = l .inv .2; within = omega (arith, l .inv .4, l .inv .5 .within) }
 
 same-length : tie.Need-same-length Inv-loop μ-loop
-same-length c = let d = c .before .before .before .before .before .before in d .message-acts .kept .1 .1 .1 .1 .1 .0 ∙ head d .loop .inv .4
+same-length c = let d = c .before .before .before .before .before .before in d .message-acts .kept .1 .1 .1 .1 .1 .1 .0 ∙ head d .loop .inv .4
 
 returns : tie.Need-returns Inv-loop μ-loop
 returns c =
@@ -113,7 +114,7 @@ loop-again c =
       inside d p,
       acts d .sound,
       rw (c .before .counted .ensures) (omega (arith, l .inv .3)),
-      d .message-acts .kept .1 .1 .1 .1 .1 .0 ∙ l .inv .4,
+      d .message-acts .kept .1 .1 .1 .1 .1 .1 .0 ∙ l .inv .4,
       rw (c .before .counted .ensures)
           (going-on _ _ _ _ _ _ (l .row) (l .stores) (l .kept) (l .counts) (l .at) (l .i) (l .inv .5) (turn d .loop-test .taken) (step d) (row′ d) (stores′ d) (acts d) (l .inv .4) p (inside d p)),
     )

@@ -5,6 +5,7 @@ use mathlib.Core.List.{List}
 use mathlib.Core.Logic.{_⊎_, ⊎-elim}
 use native.Mathlib.Omega.{arith}
 use denote.Enum.Declared.{tagOf}
+use Rattle.pairs.specs.Lists.{Lists, lists}
 use Rattle.forms.specs.Forms.{subjectOf}
 use Rattle.message.specs.declared.body.What.{What}
 use Rattle.message.specs.Message.{Message}
@@ -19,7 +20,8 @@ use Rattle.turns.specs.ActsLaws.{heartbeat-acts, numbered, bad-acts}
 use Rattle.turns.specs.Turns.{Box, updated}
 use Rattle.contracts.specs.Lookup.{segmentOf}
 use Rattle.stores.specs.StoresLaws.{none-kept}
-use Rattle.turns.specs.UpdateLaws.{contract-few, update-kept}
+use Rattle.turns.specs.UpdateLaws.{fronts-near, place-few, update-kept}
+use Rattle.stores.specs.Stores.{Near}
 use borrow.Author.Needs.{needs}
 use Rattle.turns.proofs.act.message_acts.Statement.{statement}
 use Rattle.turns.proofs.act.message_acts.Tie as tie
@@ -40,10 +42,13 @@ not-taken (Refused refusal) t changed records = refl
 -- what is known once the message is read
 module _ (c : tie.After-read) where
   abbrev start : tie.Start
-  start = c .before .before .before .before .before
+  start = c .before .before .before .before .before .before
+
+  abbrev both : Lists
+  both = lists (start .args .list .now) (start .args .spreads .now)
 
   abbrev message : Message
-  message = messageOf (start .args .list .now) (start .args .letter) (start .args .bytes .now)
+  message = messageOf both (start .args .letter) (start .args .bytes .now)
 
   what-is : {w : What} → c .read .result .what ≡ w → message .what ≡ w
   what-is e = sym (what-told (c .read .ensures .told .tells)) ∙ e
@@ -59,24 +64,26 @@ module _ (c : tie.After-number-acts2) where
   abbrev place : ℕ
   place = update .what2 .given .0 .1 .1 .0
 
-  few : start read .args .before + place < 65536
+  few : place < 65536
   few =
       let s = start read in
-      contract-few (s .args .list .now) (s .args .letter) (s .args .before) (s .pre .header) (s .pre .before-is) (s .args .bytes .now) (message read) refl (what-is read (update .what2 .given .1))
+      place-few (both read) (s .pre .headers) (s .args .letter) (s .args .fronts) (s .pre .fronts-are) (s .args .bytes .now) (message read) refl (what-is read (update .what2 .given .1))
+
+  near : Near (start read .args .fronts)
+  near =
+      let s = start read in
+      fronts-near (both read) (s .pre .headers) (s .args .letter) (s .args .fronts) (s .pre .fronts-are) (s .args .bytes .now) (message read) refl (what-is read (update .what2 .given .1))
 
   abbrev changed : List ℕ → List ℕ
   changed =
       let s = start read in
-      updated (s .args .list .now) (segmentOf (s .args .list .now) (s .args .letter)) place (subjectOf (update .what2 .given .0 .1 .0)) (update .what2 .given .0 .0) (message read .cells)
+      updated (both read) (segmentOf (both read .contracts) (s .args .letter)) place (subjectOf (update .what2 .given .0 .1 .0)) (update .what2 .given .0 .0) (message read .cells)
 
 read-requires : tie.Need-read-requires
-read-requires c κs = c .before .before .before .before .pre .segment-is
-
-add-keep-update : tie.Need-add-keep-update
-add-keep-update c = omega (arith, few (c .before .before .before))
+read-requires c κs = c .before .before .before .before .before .pre .segment-is
 
 keep-update-requires : tie.Need-keep-update-requires
-keep-update-requires c κs = let d = c .before .before .before .before .before in (start (read d) .pre .within, few d, search needs)
+keep-update-requires c κs = let d = c .before .before .before .before .before in (start (read d) .pre .within, near d, few d, search needs)
 
 returns : tie.Need-returns
 returns c =
@@ -102,7 +109,7 @@ returns-3 c =
     let a = s .args in
     rw (outline-told (d .read .ensures .told))
     (numbered _ _ _ (message d) refl (what-is d (update n .what2 .given .1)) _ _ _ _ _ _ (changed n) refl (λ (box : Box). refl) _ (n .number-acts2 .ensures) _ _
-    (update-kept (a .list .now) (a .letter) (a .before) (s .pre .header) (s .pre .before-is) (a .bytes .now) (message d) refl (what-is d (update n .what2 .given .1))
+    (update-kept (both d) (s .pre .headers) (a .letter) (a .fronts) (s .pre .fronts-are) (a .bytes .now) (message d) refl (what-is d (update n .what2 .given .1))
     (n .number-acts2 .result) (t .enum-told2 .given .1) (a .stores .now) (a .kept) (s .pre .within) (a .cells .now) _ (d .read .ensures .stored) (k .before .keep-update-arg3 .given .0) _ _ (k .keep-update .ensures)))
 
 returns-4 : tie.Need-returns-4
@@ -122,4 +129,4 @@ returns-5 c =
 
 pub message-acts-spec : {M : Type 1} → statement M
 message-acts-spec =
-    tie.close (tie.spec read-requires (search needs) (search needs) (λ c κs. search needs) (search needs) (λ c κs. search needs) (search needs) add-keep-update keep-update-requires (search needs) (λ c κs. search needs) returns returns-2 (search needs) returns-3 returns-4 returns-5)
+    tie.close (tie.spec read-requires (search needs) (search needs) (λ c κs. search needs) (search needs) (λ c κs. search needs) (search needs) keep-update-requires (search needs) (λ c κs. search needs) returns returns-2 (search needs) returns-3 returns-4 returns-5)

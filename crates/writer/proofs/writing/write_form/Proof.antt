@@ -22,13 +22,13 @@ use Rattle.writer.proofs.writing.write_form.Tie as tie
 -- what is known once the rows are laid
 module _ (l : tie.After-lay-rows) where
   abbrev start : tie.Start
-  start = l .before .before .before .before .before
+  start = l .before .before .before .before .before .before
 
   abbrev form : Chosen
   form = chosen.Form (start .args .form)
 
   abbrev rows : Laid
-  rows = dataWritten form (start .args .key .now) (start .args .quote)
+  rows = dataWritten form (start .args .key .now) (start .args .cells .now)
 
   coded : firstBroken (codeRules form (start .args .number)) ≡ none
   coded =
@@ -49,19 +49,19 @@ module _ (t : tie.After-enum-told) where
   long : length (rows laid .bytes) ≡ dataLength (rowsOf (start laid .args .form))
   long =
       let a = start laid .args in
-      long-rows (form laid) (a .code) (a .number) (a .key .now) (a .quote) (a .out .now) (coded laid) passed
+      long-rows (form laid) (a .code) (a .number) (a .key .now) (a .cells .now) (a .out .now) (coded laid) passed
 
   -- as they lie on scratch memory
   in-front : take (dataLength (rowsOf (start laid .args .form))) (laid .lay-rows .last .1 .1 .1 .0) ≡ rows laid .bytes
   in-front =
       let a = start laid .args in
-      laid-rows (form laid) (a .code) (a .number) (a .key .now) (a .quote) (a .out .now) (coded laid) passed {before = replicate mostData 0}
+      laid-rows (form laid) (a .code) (a .number) (a .key .now) (a .cells .now) (a .out .now) (coded laid) passed {before = replicate mostData 0}
       (omega (arith, long, fits (a .form) .data-fits)) (lays laid)
 
 returns : tie.Need-returns
 returns c =
-    let a = c .before .before .before .args in
-    code-refused (chosen.Form (a .form)) (a .code) (a .number) (a .key .now) (a .quote) (a .out .now) _
+    let a = c .before .before .before .before .args in
+    code-refused (chosen.Form (a .form)) (a .code) (a .number) (a .key .now) (a .cells .now) (a .out .now) _
     (other-number (a .form) (a .number) (sym (c .before .takes-number .ensures) ∙ not-true (c .before .takes-number .result) (c .if1 .taken)))
 
 put-message-requires : tie.Need-put-message-requires
@@ -74,14 +74,14 @@ returns-2 : tie.Need-returns-2
 returns-2 c =
     let l = c .before .before .before .before in
     let a = start l .args in
-    rows-refused (form l) (a .code) (a .number) (a .key .now) (a .quote) (a .out .now) (coded l) _ (sym (checked-told (l .lay-rows .result) (firstBroken (rowsRules (rows l .verdict))) (lays l .answers)) ∙ ap checkedRefusal (c .before .refusal .given .1))
+    rows-refused (form l) (a .code) (a .number) (a .key .now) (a .cells .now) (a .out .now) (coded l) _ (sym (checked-told (l .lay-rows .result) (firstBroken (rowsRules (rows l .verdict))) (lays l .answers)) ∙ ap checkedRefusal (c .before .refusal .given .1))
 
 returns-3 : tie.Need-returns-3
 returns-3 c =
     let t = c .before .before .before .before .before .before in
     let l = laid t in
     let a = start l .args in
-    sent (form l) (a .code) (a .number) (a .key .now) (a .quote) (a .out .now) (coded l) (passed t)
+    sent (form l) (a .code) (a .number) (a .key .now) (a .cells .now) (a .out .now) (coded l) (passed t)
     (rw (c .before .before .before .before .data-length .ensures, in-front t) at (c .before .before .put-message .ensures))
 
 pub write-form-spec : {M : Type 1} → statement M

@@ -1,8 +1,9 @@
--- By the form that the code and the level choose.
-use mathlib.Core.Path.{refl, sym, _∙_}
-use Rattle.forms.specs.declared.forms.Chosen.the-variants as chosen
+-- By the form that the code and the level choose of a contract.
+use mathlib.Core.Path.{sym, _∙_}
+use Rattle.forms.specs.declared.forms.Item.the-variants.{Contract}
 use Rattle.forms.specs.AnswersLaws.{chosen-told}
-use Rattle.writer.specs.WriterLaws.{code-refused}
+use Rattle.quote.specs.Quote.{cellsOf}
+use Rattle.writer.specs.WriterLaws.{form-chosen, none-chosen}
 use borrow.Author.Needs.{needs}
 use Rattle.writer.proofs.writing.write_message.Statement.{statement}
 use Rattle.writer.proofs.writing.write_message.Tie as tie
@@ -10,14 +11,18 @@ use Rattle.writer.proofs.writing.write_message.Tie as tie
 returns : tie.Need-returns
 returns c =
     let w = c .before .before in
-    let f = w .before .before .before in
-    rw (sym (chosen-told (f .before .before .written-form .ensures)) ∙ f .form .given .1) (w .write-form .ensures)
+    let cells = w .before .before .before .before in
+    let f = cells .before .before in
+    let a = f .before .before .before .before .args in
+    form-chosen Contract (a .code) (a .level) (a .number) (a .key .now) (λ form. cellsOf form (a .quote)) (a .out .now)
+    (sym (chosen-told (f .before .before .written-form .ensures)) ∙ f .form .given .1) (cells .cells-of .ensures) (w .write-form .ensures)
 
 returns-2 : tie.Need-returns-2
 returns-2 c =
     let a = c .before .before .before .before .args in
-    rw (sym (chosen-told (c .before .before .written-form .ensures)) ∙ c .enum-told .given .1) (code-refused chosen.NoForm (a .code) (a .number) (a .key .now) (a .quote) (a .out .now) _ refl)
+    none-chosen Contract (a .code) (a .level) (a .number) (a .key .now) (λ form. cellsOf form (a .quote)) (a .out .now)
+    (sym (chosen-told (c .before .before .written-form .ensures)) ∙ c .enum-told .given .1)
 
 pub write-message-spec : {M : Type 1} → statement M
 write-message-spec =
-    tie.close (tie.spec (search needs) (search needs) (search needs) (search needs) (search needs) returns returns-2)
+    tie.close (tie.spec (search needs) (search needs) (search needs) (search needs) (search needs) (search needs) returns returns-2)

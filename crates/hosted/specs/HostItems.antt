@@ -1,0 +1,31 @@
+-- What is read and written by a host, of a contract or of a pair: M-100. What is said of the functions is said of both at once.
+use Prim.Native.Nat.{ℕ}
+use mathlib.Core.List.{List}
+use Rattle.forms.specs.declared.forms.Form.{Form}
+use Rattle.forms.specs.declared.forms.Item.{Item}
+use Rattle.forms.specs.declared.forms.Item.the-variants.{Contract, Pair}
+use Rattle.forms.specs.declared.rows.Level.{Level}
+use Rattle.quote.specs.Quote.{cellsOf}
+use Rattle.quote.specs.Spread.{spreadCellsOf}
+use Rattle.state.specs.Memory.{Lent}
+use Rattle.values.specs.Values.{rowValues, quoteIn, spreadValues, spreadIn}
+use Rattle.history.specs.Shown.{QuoteFor, shown, blankFor}
+use Rattle.host.specs.Promises.{HostReads, HostWrites}
+
+-- the host's header: one value a row behind the key, of a contract's quote or of a pair's
+abbrev pub valuesFor : (item : Item) → Level → QuoteFor item → List ℕ
+valuesFor Contract level quote = rowValues level quote
+valuesFor Pair level quote = spreadValues level quote
+
+-- the host's header: the cells that values hold, of a contract's quote or of a pair's
+abbrev pub cellsIn : Item → Level → List ℕ → Form → List ℕ
+cellsIn Contract level values form = cellsOf form (quoteIn level values)
+cellsIn Pair level values form = spreadCellsOf form (spreadIn level values)
+
+-- 01 "What may be asked", M-100: for a contract `HostRead`, for a pair `HostReadSpread` (`host`)
+abbrev pub HostReadItem : Item → Lent → ℕ → List ℕ → Level → List ℕ → ℕ → List ℕ → List ℕ → Type 0
+HostReadItem item lent letter key level values returned values′ answer′ = HostReads (shown item) (blankFor item) (valuesFor item) item lent letter key level values returned values′ answer′
+
+-- 01 "What may be asked", M-100: for a contract `HostWrote`, for a pair `HostWroteSpread` (`host`)
+abbrev pub HostWroteItem : Item → List ℕ → Level → ℕ → List ℕ → List ℕ → List ℕ → ℕ → List ℕ → List ℕ → Type 0
+HostWroteItem item code level number key values out returned out′ answer′ = HostWrites item code level number key (cellsIn item level values) out returned out′ answer′

@@ -1,0 +1,10 @@
+pub mod ContentsLaws
+pub mod Habits
+pub mod Inner
+pub mod Lists
+pub mod NoSpreads
+pub mod NoSpreadsLaws
+pub mod SpreadCases
+pub mod SpreadLaws
+pub mod SpreadTests
+pub mod Spreads

@@ -1,0 +1,12 @@
+-- Each letter and number in its row.
+use borrow.Author.Needs.{needs}
+use Rattle.quote.proofs.quote.put_own.Statement.{statement}
+use Rattle.quote.proofs.quote.put_own.Tie as tie
+
+returns : tie.Need-returns
+returns c =
+    rw (c .put-cell3 .ensures, c .before .before .turnover-cell .ensures, c .before .before .before .put-two .ensures, c .before .before .before .before .before .price-cell2 .ensures, c .before .before .before .before .before .before .price-cell .ensures, c .before .before .before .before .before .before .before .put-cell2 .ensures, c .before .before .before .before .before .before .before .before .before .before .put-cell .ensures)
+
+pub put-own-spec : {M : Type 1} → statement M
+put-own-spec =
+    tie.close (tie.spec (search needs) (search needs) (search needs) (search needs) (search needs) (search needs) (search needs) (search needs) (search needs) returns)

@@ -1,0 +1,4 @@
+pub mod Shown
+pub mod ShownLaws
+pub mod Told
+pub mod ToldLaws

@@ -1,0 +1,31 @@
+-- Laws of what a host is told.
+use Prim.Native.Nat.{ℕ}
+use mathlib.Core.Path.{_≡_, refl, sym, ap, _∙_}
+use mathlib.Core.List.{List, [], _∷_}
+use native.Mathlib.Omega.{arith}
+use lib.ListN.{length, getD}
+use Rattle.told.specs.declared.answer.Told.{Told}
+use Rattle.told.specs.Told.{toldOf, Tells}
+
+-- what is told is handed on
+pub handed-on : (numbers : List ℕ) {told : Told} {returned : ℕ} {answer : List ℕ} → told ≡ toldOf numbers
+    → (returned ≡ told .number) × (answer ≡ told .answer) → Tells numbers returned answer
+handed-on numbers e t =
+    record { number = t .0 ∙ ap (λ (x : Told). x .number) e; values = t .1 ∙ ap (λ (x : Told). x .answer) e }
+
+-- of one answer one thing is told
+pub told-once : {A : Type 0} (numbers : A → List ℕ) {a b : A} {r s : ℕ} {answer other : List ℕ} → a ≡ b → Tells (numbers a) r answer
+    → Tells (numbers b) s other → (r ≡ s) × (answer ≡ other)
+told-once numbers e t u =
+    let same = ap numbers e in
+    (t .number ∙ ap (λ ns. toldOf ns .number) same ∙ sym (u .number), t .values ∙ ap (λ ns. toldOf ns .answer) same ∙ sym (u .values))
+
+-- four numbers are the number returned and the first three of the answer
+pub four-told : (ns : List ℕ) → length ns ≡ 4
+    → record { number = getD ns 0 0; answer = getD ns 1 0 ∷ getD ns 2 0 ∷ getD ns 3 0 ∷ 0 ∷ [] } ≡ toldOf ns
+four-told [] e = absurd (omega arith)
+four-told (a ∷ []) e = absurd (omega arith)
+four-told (a ∷ b ∷ []) e = absurd (omega arith)
+four-told (a ∷ b ∷ c ∷ []) e = absurd (omega arith)
+four-told (a ∷ b ∷ c ∷ d ∷ []) e = refl
+four-told (a ∷ b ∷ c ∷ d ∷ x ∷ ns) e = absurd (omega arith)

@@ -1,0 +1,40 @@
+// The record that is read, among the values that a host lends: its number, then one value a row behind the key. Only a record is
+// shown.
+ghost use mathlib.Core.Path.{_≡_};
+ghost use Rattle.values.specs.Values.{rowValues, spreadValues};
+ghost use Rattle.told.specs.Shown.{valuesAfter};
+use layout::Level;
+use quote::Quote;
+use quote::SpreadQuote;
+use quotebox::Recorded;
+
+pub fn show(recorded: Recorded, level: Level, quote: Quote, values: &mut [u64; values::MOST])
+    ensures { λ _. ⌜ now (values .exit) ≡ valuesAfter recorded (rowValues level quote) (now (values .entry)) ⌝ }
+{
+    match recorded {
+        Recorded::Record(number) => {
+            values[0] = number;
+            values::put(level, quote, values);
+        }
+        Recorded::NoRecord => {}
+        Recorded::Refused(_) => {}
+    }
+}
+
+pub fn show_spread(
+    recorded: Recorded,
+    level: Level,
+    quote: SpreadQuote,
+    values: &mut [u64; values::MOST],
+)
+    ensures { λ _. ⌜ now (values .exit) ≡ valuesAfter recorded (spreadValues level quote) (now (values .entry)) ⌝ }
+{
+    match recorded {
+        Recorded::Record(number) => {
+            values[0] = number;
+            values::put_spread(level, quote, values);
+        }
+        Recorded::NoRecord => {}
+        Recorded::Refused(_) => {}
+    }
+}

@@ -1,0 +1,14 @@
+-- The cells of the rows are their values.
+use Rattle.values.specs.ValuesLaws.{spread-values-cells}
+use borrow.Author.Needs.{needs}
+use Rattle.values.proofs.put_spread.Statement.{statement}
+use Rattle.values.proofs.put_spread.Tie as tie
+
+returns : tie.Need-returns
+returns c =
+    let made = c .before .before .before in
+    let a = made .before .before .args in
+    rw (made .spread-cells-of .ensures, made .before .record-form .ensures, spread-values-cells (a .level) (a .quote)) at (c .put-rows .ensures)
+
+pub put-spread-spec : {M : Type 1} → statement M
+put-spread-spec = tie.close (tie.spec (search needs) (search needs) (search needs) returns)

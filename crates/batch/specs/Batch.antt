@@ -5,7 +5,7 @@ use mathlib.Core.List.{List, [], _∷_}
 use lib.Dec.{leb, ltb, eqb}
 use lib.ListN.{length, drop}
 use Rattle.wire.specs.Number.{numberAt}
-use Rattle.message.specs.Fields.{letterOf}
+use Rattle.head.specs.Fields.{letterOf}
 use Rattle.state.specs.declared.refusal.Refusal.the-variants.{Size, Packed, Flag, Count}
 use Rattle.state.specs.Refusals.{Rule}
 

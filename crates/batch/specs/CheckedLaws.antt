@@ -7,7 +7,7 @@ use lib.ListN.{length, take, drop, length-drop}
 use Rattle.laws.specs.Rules.{firstBroken, Hold}
 use Rattle.laws.specs.RulesLaws.{none-hold, hold-append}
 use Rattle.wire.specs.Number.{numberAt}
-use Rattle.message.specs.Fields.{letterOf}
+use Rattle.head.specs.Fields.{letterOf}
 use Rattle.state.specs.declared.answers.Judged.{Judged}
 use Rattle.state.specs.declared.answers.Judged.the-variants.{Refused}
 use Rattle.state.specs.declared.refusal.Refusal.{Refusal}

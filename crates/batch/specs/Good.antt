@@ -14,7 +14,7 @@ use Rattle.forms.specs.declared.forms.Named.{Named}
 use Rattle.forms.specs.declared.forms.Named.the-variants as is
 use Rattle.forms.specs.Forms.{subjectOf}
 use Rattle.message.specs.Good.{GoodMessage}
-use Rattle.message.specs.Fields.{formIn, lengthOf, numberOf}
+use Rattle.head.specs.Fields.{formIn, lengthOf, numberOf}
 use Rattle.batch.specs.Batch.{flagOf, sizeOf, countOf, batchData, batchLetter}
 use Rattle.state.specs.Memory.{Lent, gapRowOfLetter}
 use Rattle.state.specs.GoodState.{GoodState}

@@ -10,8 +10,8 @@ use lib.Dec.{leb, eqb}
 use lib.ListN.{length}
 use Rattle.laws.specs.Rules.{Hold}
 use Rattle.laws.specs.Tests.{both, conj}
-use Rattle.contracts.specs.BelowLaws.{all-pass}
-use Rattle.contracts.specs.File.{segmentsOf}
+use Rattle.files.specs.BelowLaws.{all-pass}
+use Rattle.files.specs.File.{segmentsOf}
 use Rattle.sequence.specs.RowLaid.{soundGapRow}
 use Rattle.batch.specs.Batch.{flagOf, sizeOf, countOf, batchRules}
 use Rattle.batch.specs.Good.{GoodFront}

@@ -7,15 +7,15 @@ use mathlib.Core.List.{List}
 use mathlib.Core.Option.{Option, none, some}
 use native.Mathlib.Omega.{arith}
 use lib.ListN.{length, drop}
-use Rattle.contracts.specs.File.{segmentsOf}
-use Rattle.contracts.specs.Lookup.{segmentOf}
-use Rattle.contracts.specs.LookupLaws.{segment-has}
+use Rattle.files.specs.File.{segmentsOf}
+use Rattle.lookup.specs.Lookup.{segmentOf}
+use Rattle.lookup.specs.LookupLaws.{segment-has}
 use Rattle.pairs.specs.Lists.{Lists, Headers}
 use Rattle.laws.specs.Order.{order}
 use Rattle.message.specs.declared.body.What.{What}
 use Rattle.message.specs.declared.body.What.the-variants as what
-use Rattle.message.specs.declared.head.Head.the-variants.{Good}
-use Rattle.message.specs.Fields.{lengthOf}
+use Rattle.head.specs.declared.head.Head.the-variants.{Good}
+use Rattle.head.specs.Fields.{lengthOf}
 use Rattle.message.specs.Reads.{messageOf}
 use Rattle.message.specs.Numbers.{verdictOf}
 use Rattle.sequence.specs.Row.{gapsOf}
@@ -25,9 +25,9 @@ use Rattle.turns.specs.ActsLaws.{acts-as}
 use Rattle.turns.specs.Turns.{Box, acted, messageActs, messagesAct}
 use Rattle.batch.specs.Batch.{batchLetter, countOf, batchData}
 use Rattle.batch.specs.Acts.{batchActs, boxOf, lentAfter}
-use Rattle.state.specs.Memory.{Lent, gapRowIn, gapRowCells, gapRowsWanted}
+use Rattle.state.specs.Memory.{Lent, gapRowIn, gapRowCells, gapRowsWanted, SameBehind}
 use Rattle.state.specs.MemoryRows.{withGapRowIn}
-use Rattle.state.specs.Slots.{recordsWanted, SameBehind}
+use Rattle.slots.specs.Slots.{recordsWanted}
 use Rattle.batch.specs.BatchLaws.{good-state, good-front, messages-accepted}
 use Rattle.batch.specs.Good.{gapsAfter}
 use Rattle.state.specs.GoodState.{GoodState}

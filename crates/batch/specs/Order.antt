@@ -8,8 +8,8 @@ use Rattle.pairs.specs.Lists.{Lists}
 use Rattle.laws.specs.Rules.{Rule as RuleOf}
 use Rattle.sequence.specs.Gaps.{Gaps, most}
 use Rattle.sequence.specs.Row.{gapsOf}
-use Rattle.message.specs.declared.head.Fault.{Fault}
-use Rattle.message.specs.Fields.{lengthOf}
+use Rattle.head.specs.declared.head.Fault.{Fault}
+use Rattle.head.specs.Fields.{lengthOf}
 use Rattle.message.specs.Order.{messageRules}
 use Rattle.state.specs.declared.refusal.Refusal.{Refusal}
 use Rattle.state.specs.declared.refusal.Refusal.the-variants.{Count, Gaps as GapsOver}

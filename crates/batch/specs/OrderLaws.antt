@@ -11,24 +11,24 @@ use lib.ListN.{length, drop}
 use Rattle.laws.specs.Rules.{Rule as RuleOf, firstBroken, Hold, Broken}
 use Rattle.laws.specs.RulesLaws.{none-hold, hold-none, some-broken, broken-some, front-holds, front-broken, hold-append, unlike}
 use Rattle.laws.specs.Tests.{leb-is, eqb-is}
-use Rattle.contracts.specs.Lookup.{segmentOf}
-use Rattle.contracts.specs.LookupLaws.{segment-has}
+use Rattle.lookup.specs.Lookup.{segmentOf}
+use Rattle.lookup.specs.LookupLaws.{segment-has}
 use Rattle.pairs.specs.Lists.{Lists, Headers}
 use Rattle.sequence.specs.Gaps.{Gaps, most}
 use Rattle.sequence.specs.Row.{gapsOf}
 use Rattle.sequence.specs.RowLaid.{soundGapRow}
 use Rattle.message.specs.declared.body.What.{What}
 use Rattle.message.specs.declared.body.What.the-variants as what
-use Rattle.message.specs.declared.head.Fault.{Fault}
-use Rattle.message.specs.declared.head.Head.{Head}
-use Rattle.message.specs.declared.head.Head.the-variants.{Good, Bad}
+use Rattle.head.specs.declared.head.Fault.{Fault}
+use Rattle.head.specs.declared.head.Head.{Head}
+use Rattle.head.specs.declared.head.Head.the-variants.{Good, Bad}
 use Rattle.message.specs.GoodLaws.{rules-exact}
-use Rattle.message.specs.Fields.{lengthOf}
+use Rattle.head.specs.Fields.{lengthOf}
 use Rattle.message.specs.Reads.{messageOf}
 use Rattle.message.specs.Numbers.{verdictOf}
 use Rattle.message.specs.Order.{messageRules}
 use Rattle.message.specs.OrderLaws.{message-first}
-use Rattle.message.specs.Rules.{firstFault}
+use Rattle.head.specs.Rules.{firstFault}
 use Rattle.state.specs.declared.refusal.Refusal.{Refusal}
 use Rattle.state.specs.declared.refusal.Refusal.the-variants.{Count, Gaps as GapsOver}
 use Rattle.turns.specs.ActsLaws.{acts-as}
@@ -37,7 +37,7 @@ use Rattle.batch.specs.Batch.{batchRules, batchLetter, countOf, batchDat
 use Rattle.batch.specs.Acts.{unlessBroken, batchActs, boxOf}
 use Rattle.state.specs.Memory.{Lent, gapRowOfLetter, gapRowIn}
 use Rattle.state.specs.State.{stateRules}
-use Rattle.state.specs.Slots.{recordsWanted}
+use Rattle.slots.specs.Slots.{recordsWanted}
 use Rattle.batch.specs.BatchLaws.{inTurn}
 use Rattle.batch.specs.Good.{gapsAfter, GoodMessages, GoodBatch}
 use Rattle.batch.specs.GoodLaws.{front-exact}

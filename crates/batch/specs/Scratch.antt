@@ -5,10 +5,10 @@ use mathlib.Core.Bool.{true}
 use mathlib.Core.List.{List}
 use mathlib.Core.Option.{Option, some}
 use lib.ListN.{length}
-use Rattle.contracts.specs.File.{segmentsOf}
+use Rattle.files.specs.File.{segmentsOf}
 use Rattle.contracts.specs.Sound.{Header}
 use Rattle.pairs.specs.Lists.{Lists, Headers}
-use Rattle.message.specs.Fields.{letterOf}
+use Rattle.head.specs.Fields.{letterOf}
 use Rattle.sequence.specs.RowLaid.{soundGapRow}
 use Rattle.state.specs.declared.answers.Judged.{Judged}
 use Rattle.state.specs.Answers.{judgedNumbers}

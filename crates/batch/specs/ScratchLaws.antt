@@ -7,18 +7,18 @@ use mathlib.Core.Option.{Option, none, some}
 use native.Mathlib.Omega.{arith}
 use lib.ListN.{length}
 use Rattle.laws.specs.Choice.{never}
-use Rattle.contracts.specs.BelowLaws.{each-passes}
-use Rattle.contracts.specs.File.{segmentsOf}
-use Rattle.contracts.specs.Lookup.{segmentOf}
-use Rattle.contracts.specs.LookupLaws.{segment-has}
+use Rattle.files.specs.BelowLaws.{each-passes}
+use Rattle.files.specs.File.{segmentsOf}
+use Rattle.lookup.specs.Lookup.{segmentOf}
+use Rattle.lookup.specs.LookupLaws.{segment-has}
 use Rattle.contracts.specs.Sound.{Header}
 use Rattle.pairs.specs.Lists.{Lists, Headers}
-use Rattle.state.specs.declared.records.Fronts.{Fronts}
+use Rattle.slots.specs.declared.records.Fronts.{Fronts}
 use Rattle.message.specs.declared.body.What.{What}
 use Rattle.message.specs.declared.body.What.the-variants as what
-use Rattle.message.specs.declared.head.Head.the-variants.{Good}
-use Rattle.message.specs.Fields.{letterOf}
-use Rattle.message.specs.HeadLaws.{listed-exact}
+use Rattle.head.specs.declared.head.Head.the-variants.{Good}
+use Rattle.head.specs.Fields.{letterOf}
+use Rattle.head.specs.HeadLaws.{listed-exact}
 use Rattle.message.specs.Reads.{messageOf}
 use Rattle.message.specs.Numbers.{verdictOf}
 use Rattle.message.specs.GoodLaws.{good-exact}

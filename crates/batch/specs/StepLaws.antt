@@ -13,7 +13,7 @@ use lib.Seq.{sets, length-sets, drop-set-lt}
 use Rattle.laws.specs.Choice.{either}
 use Rattle.layout.specs.declared.read.Verdict.{Verdict}
 use Rattle.layout.specs.declared.read.Verdict.the-variants as verdict
-use Rattle.contracts.specs.Lookup.{segmentOf}
+use Rattle.lookup.specs.Lookup.{segmentOf}
 use Rattle.pairs.specs.Lists.{Lists, Headers}
 use Rattle.sequence.specs.Gaps.{Gaps, most, takes}
 use Rattle.sequence.specs.Changes.{full, after, runsAfter}
@@ -31,19 +31,19 @@ use Rattle.forms.specs.declared.forms.Item.{Item}
 use Rattle.forms.specs.declared.forms.Named.{Named}
 use Rattle.forms.specs.declared.forms.Named.the-variants as is
 use Rattle.forms.specs.Forms.{subjectOf}
-use Rattle.message.specs.declared.head.Head.the-variants.{Good}
+use Rattle.head.specs.declared.head.Head.the-variants.{Good}
 use Rattle.message.specs.CallerLaws.{contents-good}
-use Rattle.message.specs.Fields.{formIn, lengthOf, numberOf}
+use Rattle.head.specs.Fields.{formIn, lengthOf, numberOf}
 use Rattle.message.specs.Message.{messagePlace, ofNamed, ofPlace, ofSubject}
 use Rattle.message.specs.Reads.{rowsRead, ofVerdict, contentsBy, messageOf}
 use Rattle.message.specs.Numbers.{verdictOf}
-use Rattle.message.specs.RulesLaws.{unlike}
+use Rattle.head.specs.RulesLaws.{unlike}
 use Rattle.state.specs.declared.refusal.Refusal.the-variants.{Gaps as GapsOver}
 use Rattle.turns.specs.ActsLaws.{acts-as}
 use Rattle.turns.specs.Turns.{Box, Acted, acted, refused, numberActs, messageActs, updated}
 use Rattle.stores.specs.Stored.{stored}
-use Rattle.state.specs.Slots.{recordsWanted}
-use Rattle.state.specs.Places.{slotAt, slotIn, recordOf}
+use Rattle.slots.specs.Slots.{recordsWanted}
+use Rattle.slots.specs.Places.{slotAt, slotIn, recordOf}
 use Rattle.batch.specs.Good.{arrived, arrivedFor, arrivedAs, gapsAfter}
 use Rattle.turns.specs.UpdateLaws.{item-of, tells-of, record-wanted}
 

@@ -17,8 +17,7 @@ use Rattle.batch.specs.BatchLaws.{accepted-box, refused-is}
 use Rattle.batch.specs.Good.{GoodBatch}
 use Rattle.state.specs.GoodState.{GoodState}
 use Rattle.batch.specs.LeftLaws.{all-counted, behind-left, state-left}
-use Rattle.state.specs.Memory.{Lent}
-use Rattle.state.specs.Slots.{SameBehind}
+use Rattle.state.specs.Memory.{Lent, SameBehind}
 use Rattle.batch.specs.Order.{allRules}
 use Rattle.batch.specs.OrderLaws.{accepted-exact, refused-exact}
 use Rattle.batch.specs.Promises.{JudgedBatch, TookBatch}

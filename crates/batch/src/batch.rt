@@ -3,22 +3,22 @@ ghost use mathlib.Core.Path.{_≡_};
 ghost use mathlib.Core.List.{_++_};
 ghost use lib.ListN.{length};
 ghost use Rattle.laws.specs.Rules.{firstBroken};
-ghost use Rattle.contracts.specs.Answers.{placeOf};
+ghost use Rattle.lookup.specs.Answers.{placeOf};
 ghost use Rattle.pairs.specs.Lists.{lists};
 ghost use Rattle.state.specs.Memory.{lends};
 ghost use Rattle.state.specs.Answers.{checkedNumbers, checkedBy};
 ghost use Rattle.state.specs.State.{stateRules};
 ghost use Rattle.batch.specs.Batch.{batchRules};
-ghost use Rattle.state.specs.Slots.{recordsWanted};
+ghost use Rattle.slots.specs.Slots.{recordsWanted};
 ghost use Rattle.turns.specs.Acts.{InFront};
 ghost use Rattle.batch.specs.Promises.{JudgedBatch, TookBatch};
 ghost use Rattle.batch.specs.Scratch.{DataReady, JudgedData, TookData};
 ghost use Rattle.stores.specs.Stores.{Room};
 ghost use Prim.Native.Nat.{_≤_};
 use crate::scratch;
-use contracts::Found;
+use lookup::Found;
+use slots::Fronts;
 use state::Checked;
-use state::Fronts;
 use state::Judged;
 use state::Refusal;
 
@@ -81,7 +81,7 @@ fn fronts_in(list: &[u8], spreads: &[u8], segment: Found) -> Fronts
     ensures { λ r. ⌜ InFront (lists (now (list .entry)) (now (spreads .entry))) (placeOf segment) r ⌝ }
 {
     match segment {
-        Found::At(i) => state::fronts_of(list, spreads, i),
+        Found::At(i) => slots::fronts_of(list, spreads, i),
         Found::Nowhere => Fronts {
             contracts: 0,
             pairs: 0,
@@ -94,8 +94,8 @@ fn judge_data(list: &[u8], spreads: &[u8], rows: &[u32], data: &[u8], count: usi
     requires { ⌜ DataReady (lists (now list) (now spreads)) (now rows) count ⌝ }
     ensures { λ r. ⌜ JudgedData (lists (now (list .entry)) (now (spreads .entry))) (now (rows .entry)) (now («data» .entry)) count r ⌝ }
 {
-    let letter = message::letter_of(data);
-    let segment = contracts::segment_of(list, letter);
+    let letter = head::letter_of(data);
+    let segment = lookup::segment_of(list, letter);
     let fronts = fronts_in(list, spreads, segment);
     let mut row = [0u32; sequence::CELLS];
     scratch::copy_row_in(rows, segment, &mut row);
@@ -139,8 +139,8 @@ fn take_on(
     requires { ⌜ DataReady (lists (now list) (now spreads)) (now rows) count × (recordsWanted (lists (now list) (now spreads)) ≤ length (now records)) × Room (length (now stores)) (length (now «data»)) ⌝ }
     ensures { λ r. ⌜ TookData (lends (lists (now (list .entry)) (now (spreads .entry))) (now (rows .entry)) (now (records .entry))) (now («data» .entry)) count r (lends (lists (now (list .entry)) (now (spreads .entry))) (now (rows .exit)) (now (records .exit))) ⌝ }
 {
-    let letter = message::letter_of(data);
-    let segment = contracts::segment_of(list, letter);
+    let letter = head::letter_of(data);
+    let segment = lookup::segment_of(list, letter);
     let fronts = fronts_in(list, spreads, segment);
     let mut row = [0u32; sequence::CELLS];
     scratch::copy_row_in(rows, segment, &mut row);

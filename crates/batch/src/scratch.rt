@@ -2,11 +2,11 @@
 // its segment, and hands it on.
 ghost use mathlib.Core.Path.{_≡_};
 ghost use lib.ListN.{length};
-ghost use Rattle.contracts.specs.Answers.{placeOf};
+ghost use Rattle.lookup.specs.Answers.{placeOf};
 ghost use Rattle.state.specs.Memory.{gapRowCells};
 ghost use Rattle.state.specs.MemoryRows.{withGapRowIn};
 ghost use Rattle.batch.specs.Scratch.{RowReady, ScratchRow};
-use contracts::Found;
+use lookup::Found;
 use sequence::CELLS;
 
 // The gap row of a segment, laid over another; where there is none, a row that nothing was taken in.

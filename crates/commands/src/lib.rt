@@ -1,7 +1,7 @@
 // The commands of the test bench: how long each is, reading the next one, and what it tells.
 mod fields;
+mod input;
 mod length;
-mod reading;
 
 pub use fields::batch_in;
 pub use fields::code_in;
@@ -12,8 +12,8 @@ pub use fields::quote_in;
 pub use fields::room_in;
 pub use fields::spread_in;
 pub use fields::starts_in;
+pub use input::Command;
+pub use input::next;
 pub use length::LENGTH_FRONT;
 pub use length::READ_KEY;
 pub use length::WRITE_KEY;
-pub use reading::Command;
-pub use reading::next;

@@ -5,9 +5,9 @@ use mathlib.Core.Path.{_≡_, refl, ap, ap₂, _∙_}
 use mathlib.Core.List.{List}
 use native.Mathlib.Omega.{arith}
 use Rattle.wire.specs.Number.{numberAt}
-use Rattle.contracts.specs.declared.habit.Habit.{Habit}
-use Rattle.contracts.specs.File.{sumBelow, segmentsOf, entryAt, letterAt, zeroAt, countAt, offsetAt, contractsBefore}
-use Rattle.contracts.specs.BelowLaws.{all-same, sum-same}
+use Rattle.files.specs.declared.habit.Habit.{Habit}
+use Rattle.files.specs.File.{sumBelow, segmentsOf, entryAt, letterAt, zeroAt, countAt, offsetAt, contractsBefore}
+use Rattle.files.specs.BelowLaws.{all-same, sum-same}
 use Rattle.contracts.specs.Sound.{SameContents}
 use Rattle.contracts.specs.SoundTests.{letterAscends, entrySound, headerSoundBy}
 

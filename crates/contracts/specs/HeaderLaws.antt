@@ -12,11 +12,11 @@ use lib.Dec.{leb, ltb, eqb}
 use lib.ListN.{length}
 use Rattle.laws.specs.Order.{three, climbs}
 use Rattle.laws.specs.Tests.{both, conj, any}
-use Rattle.contracts.specs.declared.habit.Habit.{Habit}
-use Rattle.contracts.specs.Below.{allBelow}
-use Rattle.contracts.specs.BelowLaws.{each-passes, all-pass, sum-under}
-use Rattle.contracts.specs.File.{segmentsOf, letterAt, zeroAt, countAt, offsetAt, entryAt, keyAt, keyBy, contractsBefore, contractsOf}
-use Rattle.contracts.specs.FileLaws.{none-before, before-sum, before-next, before-reaches, whole-key}
+use Rattle.files.specs.declared.habit.Habit.{Habit}
+use Rattle.files.specs.Below.{allBelow}
+use Rattle.files.specs.BelowLaws.{each-passes, all-pass, sum-under}
+use Rattle.files.specs.File.{segmentsOf, letterAt, zeroAt, countAt, offsetAt, entryAt, keyAt, keyBy, contractsBefore, contractsOf}
+use Rattle.files.specs.FileLaws.{none-before, before-sum, before-next, before-reaches, whole-key}
 use Rattle.contracts.specs.Sound.{HeaderBy, mostSegments, letterD, letterT}
 use Rattle.contracts.specs.SoundTests.{within, isLetter, letterAscends, bodyAt, entrySound, headerSoundBy}
 

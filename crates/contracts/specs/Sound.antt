@@ -5,11 +5,11 @@ use mathlib.Core.Logic.{_⊎_}
 use mathlib.Core.List.{List}
 use lib.ListN.{length, getD}
 use Rattle.wire.specs.Bytes.{lowestByte, highestByte}
-use Rattle.contracts.specs.declared.habit.Habit.{Habit}
-use Rattle.contracts.specs.declared.key.Stands.the-variants.{Below}
-use Rattle.contracts.specs.File.{segmentsOf, entryAt, letterAt, zeroAt, countAt, offsetAt, keyBy}
-use Rattle.contracts.specs.Habits.{contracts}
-use Rattle.contracts.specs.Keys.{orderOf}
+use Rattle.files.specs.declared.habit.Habit.{Habit}
+use Rattle.files.specs.declared.key.Stands.the-variants.{Below}
+use Rattle.files.specs.File.{segmentsOf, entryAt, letterAt, zeroAt, countAt, offsetAt, keyBy}
+use Rattle.files.specs.Habits.{contracts}
+use Rattle.files.specs.Keys.{orderOf}
 
 -- 01 "The contract list": 1 or 2 segments
 abbrev pub mostSegments : ℕ

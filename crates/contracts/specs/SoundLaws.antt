@@ -11,15 +11,15 @@ use Rattle.laws.specs.Order.{climbs}
 use Rattle.laws.specs.Tests.{both, conj}
 use Rattle.wire.specs.Bytes.{allPrintable}
 use Rattle.wire.specs.BytesLaws.{all-printable-exact}
-use Rattle.contracts.specs.declared.habit.Habit.{Habit}
-use Rattle.contracts.specs.declared.key.Stands.{Stands}
-use Rattle.contracts.specs.declared.key.Stands.the-variants.{Below, Same, Above}
-use Rattle.contracts.specs.Below.{allBelow}
-use Rattle.contracts.specs.BelowLaws.{each-passes, all-pass}
-use Rattle.contracts.specs.File.{segmentsOf, countAt, keyBy}
+use Rattle.files.specs.declared.habit.Habit.{Habit}
+use Rattle.files.specs.declared.key.Stands.{Stands}
+use Rattle.files.specs.declared.key.Stands.the-variants.{Below, Same, Above}
+use Rattle.files.specs.Below.{allBelow}
+use Rattle.files.specs.BelowLaws.{each-passes, all-pass}
+use Rattle.files.specs.File.{segmentsOf, countAt, keyBy}
 use Rattle.contracts.specs.HeaderLaws.{header-exact, key-length}
-use Rattle.contracts.specs.Keys.{orderOf}
-use Rattle.contracts.specs.KeysLaws.{below-trans}
+use Rattle.files.specs.Keys.{orderOf}
+use Rattle.files.specs.KeysLaws.{below-trans}
 use Rattle.contracts.specs.Sound.{SoundBy}
 use Rattle.contracts.specs.SoundTests.{headerSoundBy, isBelow, keyAscends, keySound, bodySound, soundBy}
 

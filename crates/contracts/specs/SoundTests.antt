@@ -6,13 +6,13 @@ use mathlib.Core.List.{List}
 use lib.Dec.{leb, ltb, eqb}
 use lib.ListN.{length}
 use Rattle.wire.specs.Bytes.{allPrintable}
-use Rattle.contracts.specs.declared.habit.Habit.{Habit}
-use Rattle.contracts.specs.declared.key.Stands.{Stands}
-use Rattle.contracts.specs.declared.key.Stands.the-variants.{Below, Same, Above}
-use Rattle.contracts.specs.Below.{allBelow}
-use Rattle.contracts.specs.File.{segmentsOf, entryAt, letterAt, zeroAt, countAt, offsetAt, keyBy, contractsBefore}
-use Rattle.contracts.specs.Habits.{contracts}
-use Rattle.contracts.specs.Keys.{orderOf}
+use Rattle.files.specs.declared.habit.Habit.{Habit}
+use Rattle.files.specs.declared.key.Stands.{Stands}
+use Rattle.files.specs.declared.key.Stands.the-variants.{Below, Same, Above}
+use Rattle.files.specs.Below.{allBelow}
+use Rattle.files.specs.File.{segmentsOf, entryAt, letterAt, zeroAt, countAt, offsetAt, keyBy, contractsBefore}
+use Rattle.files.specs.Habits.{contracts}
+use Rattle.files.specs.Keys.{orderOf}
 use Rattle.contracts.specs.Sound.{letterD, letterT, mostSegments}
 
 -- a word of our own: n is not under `low` and not above `high`

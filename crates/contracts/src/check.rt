@@ -1,12 +1,10 @@
 ghost use mathlib.Core.Path.{_≡_};
 ghost use Prim.Native.Nat.{_<_};
-ghost use Rattle.contracts.specs.File.{countAt, keyBy};
+ghost use Rattle.files.specs.File.{countAt, keyBy};
 ghost use Rattle.contracts.specs.Inner.{partSound, eachSound};
 ghost use Rattle.contracts.specs.SoundTests.{within, isLetter, letterAscends, bodyAt, entrySound, headerSoundBy, isBelow, keyAscends, keySound, bodySound, soundBy};
-use crate::habit::Habit;
-use crate::header;
-use crate::key;
-use crate::key::Stands;
+use files::Habit;
+use files::Stands;
 
 const MOST_SEGMENTS: usize = 2;
 
@@ -36,37 +34,37 @@ fn letter_ascends(list: &[u8], segment: usize) -> bool
     if segment == 0 {
         return true;
     }
-    header::letter_at(list, segment - 1) < header::letter_at(list, segment)
+    files::letter_at(list, segment - 1) < files::letter_at(list, segment)
 }
 
 // Where the body of a segment begins, with no hole before it.
 fn body_at(list: &[u8], habit: Habit, segment: usize) -> usize
     ensures { λ r. ⌜ r ≡ bodyAt habit (now (list .entry)) segment ⌝ }
 {
-    header::NUMBER
-        + header::ENTRY * header::segments(list)
-        + (habit.key as usize) * header::contracts_before(list, segment)
+    files::NUMBER
+        + files::ENTRY * files::segments(list)
+        + (habit.key as usize) * files::contracts_before(list, segment)
 }
 
 fn entry_sound(list: &[u8], habit: Habit, segment: usize) -> bool
     ensures { λ r. ⌜ r ≡ entrySound habit (now (list .entry)) segment ⌝ }
 {
-    is_letter(header::letter_at(list, segment))
+    is_letter(files::letter_at(list, segment))
         & letter_ascends(list, segment)
-        & (header::zero_at(list, segment) == 0)
+        & (files::zero_at(list, segment) == 0)
         & within(
             habit.fewest as usize,
             habit.most as usize,
-            header::count_at(list, segment),
+            files::count_at(list, segment),
         )
-        & (header::offset_at(list, segment) == body_at(list, habit, segment))
+        & (files::offset_at(list, segment) == body_at(list, habit, segment))
 }
 
 pub fn key_of(list: &[u8], habit: Habit, segment: usize, place: usize) -> &[u8]
     requires { ⌜ place < countAt (now list) segment ⌝ }
     ensures { λ r. ⌜ now r ≡ keyBy habit (now (list .entry)) segment place ⌝ }
 {
-    key::key_in(list, habit, header::offset_at(list, segment), place)
+    files::key_in(list, habit, files::offset_at(list, segment), place)
 }
 
 fn is_below(order: Stands) -> bool
@@ -86,7 +84,7 @@ fn key_ascends(list: &[u8], habit: Habit, segment: usize, place: usize) -> bool
     if place == 0 {
         return true;
     }
-    is_below(key::order_of(
+    is_below(files::order_of(
         key_of(list, habit, segment, place - 1),
         key_of(list, habit, segment, place),
     ))
@@ -103,7 +101,7 @@ fn key_sound(list: &[u8], habit: Habit, segment: usize, place: usize) -> bool
 fn body_sound(list: &[u8], habit: Habit, segment: usize) -> bool
     ensures { λ r. ⌜ r ≡ bodySound habit (now (list .entry)) segment ⌝ }
 {
-    let count = header::count_at(list, segment);
+    let count = files::count_at(list, segment);
     let mut place = 0;
     while place < count {
         if !key_sound(list, habit, segment, place) {
@@ -126,7 +124,7 @@ fn part_sound(list: &[u8], habit: Habit, segment: usize, part: Part) -> bool
 pub fn each_sound(list: &[u8], habit: Habit, part: Part) -> bool
     ensures { λ r. ⌜ r ≡ eachSound habit (now (list .entry)) part ⌝ }
 {
-    let listed = header::segments(list);
+    let listed = files::segments(list);
     let mut i = 0;
     while i < listed {
         if !part_sound(list, habit, i, part) {
@@ -141,7 +139,7 @@ pub fn each_sound(list: &[u8], habit: Habit, part: Part) -> bool
 pub fn header_sound(list: &[u8], habit: Habit) -> bool
     ensures { λ r. ⌜ r ≡ headerSoundBy habit (now (list .entry)) ⌝ }
 {
-    let listed = header::segments(list);
+    let listed = files::segments(list);
     if within(1, MOST_SEGMENTS, listed) {
         each_sound(list, habit, Part::Entry) & (list.len() == body_at(list, habit, listed))
     } else {

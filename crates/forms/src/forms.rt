@@ -1,12 +1,10 @@
 // The forms of messages as data: which code and length name which form, and what a form has.
 ghost use mathlib.Core.Path.{_≡_};
-ghost use lib.ListN.{length};
 ghost use Rattle.forms.specs.Answers.{Tells, subjectNumbers, namedNumbers, formNamed, chosenNumbers, formChosen};
-ghost use Rattle.forms.specs.Rows.{padded, dataLength};
+ghost use Rattle.forms.specs.Rows.{dataLength};
 ghost use Rattle.forms.specs.Forms.{rowsOf, subjectOf, keyRowsOf, keyBytesOf, recordForm, formsOf, formOf, sumOf, sumRule, writtenBy, writtenForm};
 ghost use Rattle.forms.specs.Inner.{familyForms, sumNamed};
 use crate::rows::Level;
-use crate::rows::Row;
 
 // What the longest form has, a contract key, and the two keys of a pair.
 pub const MOST_ROWS: usize = 37;
@@ -24,9 +22,7 @@ pub const PAIR_BYTES: usize = 78;
 // What a message has beside its data.
 pub const BARE: usize = 11;
 
-// Level 1 has fewer rows and less data than level 2, which has the most rows; that of a contract has the most data.
-const LEVEL_ONE_ROWS: usize = 19;
-
+// Level 1 has less data than level 2; that of a contract has the most data.
 const LEVEL_ONE_DATA: usize = 238;
 
 const LEVEL_ONE_LENGTH: usize = LEVEL_ONE_DATA + BARE;
@@ -89,208 +85,6 @@ enum Family {
 pub enum Chosen {
     Form(Form),
     NoForm,
-}
-
-// The papers' widths.
-const PRICE: Row = Row::Price(17);
-
-const DIFFERENCE: Row = Row::Difference(17);
-
-const QUANTITY: Row = Row::Quantity(12);
-
-const TURNOVER: Row = Row::Turnover(25);
-
-// A row behind the last, which is never looked at.
-const NO_ROW: Row = Row::Key(0);
-
-const NO_ROWS: [Row; MOST_ROWS] = [NO_ROW; MOST_ROWS];
-
-// 000 section 4.4 and 003 section 4.5.
-const LEVEL_ONE: [Row; MOST_ROWS] = [
-    Row::Key(6),
-    Row::Key(10),
-    Row::Key(11),
-    Row::Key(10),
-    Row::Key(2),
-    Row::MarketType,
-    PRICE,
-    QUANTITY,
-    PRICE,
-    QUANTITY,
-    PRICE,
-    QUANTITY,
-    Row::Status,
-    PRICE,
-    PRICE,
-    PRICE,
-    PRICE,
-    PRICE,
-    TURNOVER,
-    NO_ROW,
-    NO_ROW,
-    NO_ROW,
-    NO_ROW,
-    NO_ROW,
-    NO_ROW,
-    NO_ROW,
-    NO_ROW,
-    NO_ROW,
-    NO_ROW,
-    NO_ROW,
-    NO_ROW,
-    NO_ROW,
-    NO_ROW,
-    NO_ROW,
-    NO_ROW,
-    NO_ROW,
-    NO_ROW,
-];
-
-// 000 section 4.5 and 003 section 4.6.
-const LEVEL_TWO: [Row; MOST_ROWS] = [
-    Row::Key(6),
-    Row::Key(10),
-    Row::Key(11),
-    Row::Key(10),
-    Row::Key(2),
-    Row::MarketType,
-    PRICE,
-    QUANTITY,
-    PRICE,
-    QUANTITY,
-    PRICE,
-    QUANTITY,
-    PRICE,
-    QUANTITY,
-    PRICE,
-    QUANTITY,
-    PRICE,
-    QUANTITY,
-    PRICE,
-    QUANTITY,
-    PRICE,
-    QUANTITY,
-    PRICE,
-    QUANTITY,
-    PRICE,
-    QUANTITY,
-    PRICE,
-    QUANTITY,
-    Row::Status,
-    PRICE,
-    PRICE,
-    PRICE,
-    PRICE,
-    PRICE,
-    QUANTITY,
-    QUANTITY,
-    TURNOVER,
-];
-
-// 000 section 4.6 and 003 section 4.3.
-const PAIR_ONE: [Row; MOST_ROWS] = [
-    Row::Key(6),
-    Row::Key(10),
-    Row::Key(11),
-    Row::Key(10),
-    Row::Key(2),
-    Row::Key(6),
-    Row::Key(10),
-    Row::Key(11),
-    Row::Key(10),
-    Row::Key(2),
-    DIFFERENCE,
-    QUANTITY,
-    DIFFERENCE,
-    QUANTITY,
-    DIFFERENCE,
-    QUANTITY,
-    DIFFERENCE,
-    DIFFERENCE,
-    DIFFERENCE,
-    NO_ROW,
-    NO_ROW,
-    NO_ROW,
-    NO_ROW,
-    NO_ROW,
-    NO_ROW,
-    NO_ROW,
-    NO_ROW,
-    NO_ROW,
-    NO_ROW,
-    NO_ROW,
-    NO_ROW,
-    NO_ROW,
-    NO_ROW,
-    NO_ROW,
-    NO_ROW,
-    NO_ROW,
-    NO_ROW,
-];
-
-// 000 section 4.7 and 003 section 4.4.
-const PAIR_TWO: [Row; MOST_ROWS] = [
-    Row::Key(6),
-    Row::Key(10),
-    Row::Key(11),
-    Row::Key(10),
-    Row::Key(2),
-    Row::Key(6),
-    Row::Key(10),
-    Row::Key(11),
-    Row::Key(10),
-    Row::Key(2),
-    DIFFERENCE,
-    QUANTITY,
-    DIFFERENCE,
-    QUANTITY,
-    DIFFERENCE,
-    QUANTITY,
-    DIFFERENCE,
-    QUANTITY,
-    DIFFERENCE,
-    QUANTITY,
-    DIFFERENCE,
-    QUANTITY,
-    DIFFERENCE,
-    QUANTITY,
-    DIFFERENCE,
-    QUANTITY,
-    DIFFERENCE,
-    QUANTITY,
-    DIFFERENCE,
-    QUANTITY,
-    DIFFERENCE,
-    QUANTITY,
-    DIFFERENCE,
-    DIFFERENCE,
-    DIFFERENCE,
-    QUANTITY,
-    QUANTITY,
-];
-
-pub fn rows_of(form: Form) -> [Row; MOST_ROWS]
-    ensures { λ r. ⌜ r ≡ padded (rowsOf form) ⌝ }
-{
-    match form {
-        Form::Heartbeat => NO_ROWS,
-        Form::LevelOne => LEVEL_ONE,
-        Form::LevelTwo => LEVEL_TWO,
-        Form::PairOne => PAIR_ONE,
-        Form::PairTwo => PAIR_TWO,
-    }
-}
-
-pub fn count_of(form: Form) -> usize
-    ensures { λ r. ⌜ r ≡ length (rowsOf form) ⌝ }
-{
-    match form {
-        Form::Heartbeat => 0,
-        Form::LevelOne => LEVEL_ONE_ROWS,
-        Form::LevelTwo => MOST_ROWS,
-        Form::PairOne => LEVEL_ONE_ROWS,
-        Form::PairTwo => MOST_ROWS,
-    }
 }
 
 pub fn data_length(form: Form) -> usize

@@ -1,4 +1,4 @@
-// The forms of messages as data: which code and length name which form, and the rows of each.
+// The forms of messages as data: which code and length name which form, and what a form has.
 mod forms;
 mod rows;
 
@@ -15,13 +15,11 @@ pub use forms::PAIR_BYTES;
 pub use forms::PAIR_ROWS;
 pub use forms::Subject;
 pub use forms::Sum;
-pub use forms::count_of;
 pub use forms::data_length;
 pub use forms::form_of;
 pub use forms::key_bytes_of;
 pub use forms::key_rows_of;
 pub use forms::record_form;
-pub use forms::rows_of;
 pub use forms::subject_of;
 pub use forms::sum_named;
 pub use forms::sum_rule;

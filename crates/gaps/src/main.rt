@@ -20,10 +20,10 @@ const NO_ROOM: Refusal = Refusal::Memory(0);
 
 // Whether a segment of the list has more keys than the program holds.
 fn too_many(list: &[u8]) -> bool {
-    let segments = contracts::segments(list);
+    let segments = files::segments(list);
     let mut i = 0;
     while i < segments {
-        if MOST_KEYS < contracts::count_at(list, i) {
+        if MOST_KEYS < files::count_at(list, i) {
             return true;
         }
         i += 1;

@@ -6,8 +6,8 @@ use Prim.Native.Nat.{ℕ}
 use denote.Ref.{now}
 use Rattle.pairs.specs.Lists.{Lists, lists}
 use Rattle.forms.specs.declared.forms.Item.the-variants.{Contract, Pair}
-use Rattle.quote.specs.Quote.{cellsOf}
-use Rattle.quote.specs.Spread.{spreadCellsOf}
+use Rattle.quote.specs.Quote.{valuesOf}
+use Rattle.spread.specs.Spread.{spreadValuesOf}
 use Rattle.state.specs.Memory.{Lent, lends}
 use Rattle.quotebox.specs.CallPromisesLaws.{one-started, one-listed, one-written-off, one-read, one-no-spreads}
 use Rattle.batch.specs.TookLaws.{one-judged, one-took}
@@ -62,11 +62,11 @@ read-spread-outcome κs a r s x y p q = let one = one-read (r .answer) (s .answe
 
 write-message-outcome : (κs : Lfts 2) (a : _) (r s : _) (x y : _) → write-message.Post κs a r x → write-message.Post κs a s y
     → (r ≡ s) × (now (x .1 .1 .1 .1 .1 .0) ≡ now (y .1 .1 .1 .1 .1 .0))
-write-message-outcome κs a r s x y p q = one-written Contract _ _ _ _ (λ form. cellsOf form (a .1 .1 .1 .1 .0)) _ r s p q
+write-message-outcome κs a r s x y p q = one-written Contract _ _ _ _ (λ form. valuesOf form (a .1 .1 .1 .1 .0)) _ r s p q
 
 write-spread-outcome : (κs : Lfts 2) (a : _) (r s : _) (x y : _) → write-spread.Post κs a r x → write-spread.Post κs a s y
     → (r ≡ s) × (now (x .1 .1 .1 .1 .1 .0) ≡ now (y .1 .1 .1 .1 .1 .0))
-write-spread-outcome κs a r s x y p q = one-written Pair _ _ _ _ (λ form. spreadCellsOf form (a .1 .1 .1 .1 .0)) _ r s p q
+write-spread-outcome κs a r s x y p q = one-written Pair _ _ _ _ (λ form. spreadValuesOf form (a .1 .1 .1 .1 .0)) _ r s p q
 
 no-spreads-outcome : (κs : Lfts 2) (a : _) (r s : _) (x y : _) → no-spreads.Post κs a r x → no-spreads.Post κs a s y → (r ≡ s) × (now (x .1 .0) ≡ now (y .1 .0))
 no-spreads-outcome κs a r s x y p q = one-no-spreads r s p q
@@ -109,11 +109,11 @@ read-spread-steps κs a r x p = read-exactly _ Pair _ _ _ (r .answer) (r .quote)
 -- the writer is handed no memory of the box
 write-message-steps : (κs : Lfts 2) (a : _) (r x : _) (lent : Lent) → write-message.Post κs a r x
     → step lent (calls.writeMessage (a .0) (a .1 .0) (a .1 .1 .0) (now (a .1 .1 .1 .0)) (a .1 .1 .1 .1 .0) (now (a .1 .1 .1 .1 .1 .0))) .answer ≡ wrote r (now (x .1 .1 .1 .1 .1 .0))
-write-message-steps κs a r x lent p = write-exactly lent Contract _ _ _ _ (λ form. cellsOf form (a .1 .1 .1 .1 .0)) _ r _ .0 p
+write-message-steps κs a r x lent p = write-exactly lent Contract _ _ _ _ (λ form. valuesOf form (a .1 .1 .1 .1 .0)) _ r _ .0 p
 
 write-spread-steps : (κs : Lfts 2) (a : _) (r x : _) (lent : Lent) → write-spread.Post κs a r x
     → step lent (calls.writeSpread (a .0) (a .1 .0) (a .1 .1 .0) (now (a .1 .1 .1 .0)) (a .1 .1 .1 .1 .0) (now (a .1 .1 .1 .1 .1 .0))) .answer ≡ wrote r (now (x .1 .1 .1 .1 .1 .0))
-write-spread-steps κs a r x lent p = write-exactly lent Pair _ _ _ _ (λ form. spreadCellsOf form (a .1 .1 .1 .1 .0)) _ r _ .0 p
+write-spread-steps κs a r x lent p = write-exactly lent Pair _ _ _ _ (λ form. spreadValuesOf form (a .1 .1 .1 .1 .0)) _ r _ .0 p
 
 -- nor is the spread list without pairs
 no-spreads-steps : (κs : Lfts 2) (a : _) (r x : _) (lent : Lent) → no-spreads.Post κs a r x

@@ -11,8 +11,8 @@ use Rattle.laws.specs.Rules.{firstBroken}
 use Rattle.laws.specs.RulesLaws.{front-holds, none-hold, front-broken}
 use Rattle.laws.specs.Choice.{clash}
 use Rattle.pairs.specs.Lists.{Lists}
-use Rattle.contracts.specs.Lookup.{segmentOf}
-use Rattle.contracts.specs.LookupLaws.{segment-has}
+use Rattle.lookup.specs.Lookup.{segmentOf}
+use Rattle.lookup.specs.LookupLaws.{segment-has}
 use Rattle.forms.specs.declared.rows.Level.{Level}
 use Rattle.forms.specs.declared.forms.Item.{Item}
 use Rattle.sequence.specs.Runs.{missing}
@@ -25,17 +25,18 @@ use Rattle.state.specs.declared.refusal.Refusal.the-variants.{Code, Contract, M
 use Rattle.state.specs.declared.answers.Listed.{Listed}
 use Rattle.state.specs.declared.answers.Recorded.{Recorded}
 use Rattle.state.specs.Memory.{Lent, lends, gapRowIn}
-use Rattle.state.specs.Slots.{Slot, slot as recordSlot}
-use Rattle.state.specs.Places.{formFor}
+use Rattle.slots.specs.Slots.{Slot, slot as recordSlot}
+use Rattle.slots.specs.Places.{formFor}
 use Rattle.state.specs.AnswersLaws.{listed-told}
 use Rattle.quotebox.specs.CallPromises.{ListedRuns}
 use Rattle.quotebox.specs.CallPromisesLaws.{one-read}
-use Rattle.quotebox.specs.CallsLaws.{record-refused}
+use Rattle.reading.specs.ReadsLaws.{record-refused}
 use Rattle.quotebox.specs.Calls.{listValues, runsPut}
-use Rattle.quotebox.specs.CallRules.{gapsOfLetter, listRules, recordRules}
+use Rattle.quotebox.specs.CallRules.{gapsOfLetter, listRules}
+use Rattle.reading.specs.ReadRules.{recordRules}
 use Rattle.state.specs.Answers.{leftBy, answered}
 use Rattle.state.specs.Refusals.{Rule}
-use Rattle.quotebox.specs.RecordLaws.{segment-broken, key-broken}
+use Rattle.reading.specs.RecordLaws.{segment-broken, key-broken}
 use Rattle.quotebox.specs.Start.{startOf}
 use Rattle.state.specs.State.{segmentRules}
 use Rattle.state.specs.StateLaws.{good-unrefused, letter-broken}

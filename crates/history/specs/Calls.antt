@@ -5,7 +5,7 @@ use Rattle.pairs.specs.Lists.{Lists}
 use Rattle.forms.specs.declared.rows.Level.{Level}
 use Rattle.forms.specs.declared.forms.Item.{Item}
 use Rattle.quote.specs.declared.quote.Quote.{Quote}
-use Rattle.quote.specs.declared.spread.SpreadQuote.{SpreadQuote}
+use Rattle.spread.specs.declared.spread.SpreadQuote.{SpreadQuote}
 use Rattle.state.specs.declared.answers.Started.{Started}
 use Rattle.state.specs.declared.answers.Judged.{Judged}
 use Rattle.state.specs.declared.answers.Listed.{Listed}

@@ -15,9 +15,9 @@ use Rattle.forms.specs.declared.forms.Item.{Item}
 use Rattle.forms.specs.declared.forms.Item.the-variants.{Contract, Pair}
 use Rattle.pairs.specs.NoSpreads.{noSpreads}
 use Rattle.quote.specs.declared.quote.Quote.{Quote}
-use Rattle.quote.specs.declared.spread.SpreadQuote.{SpreadQuote}
-use Rattle.quote.specs.Quote.{cellsOf}
-use Rattle.quote.specs.Spread.{spreadCellsOf}
+use Rattle.spread.specs.declared.spread.SpreadQuote.{SpreadQuote}
+use Rattle.quote.specs.Quote.{valuesOf}
+use Rattle.spread.specs.Spread.{spreadValuesOf}
 use Rattle.sequence.specs.Gaps.{Gaps}
 use Rattle.sequence.specs.Runs.{Run}
 use Rattle.state.specs.declared.refusal.Refusal.{Refusal}
@@ -36,14 +36,14 @@ use Rattle.batch.specs.TookLaws.{answer-numbers, one-judged, one-took}
 use Rattle.writer.specs.declared.writing.Code.{Code}
 use Rattle.writer.specs.Writer.{lengthWritten}
 use Rattle.writer.specs.Chosen.{formWritten}
-use Rattle.writer.specs.WriterPromises.{WroteCells, WroteMessage, WroteSpread}
+use Rattle.writer.specs.WriterPromises.{WroteValues, WroteMessage, WroteSpread}
 use Rattle.writer.specs.WriterPromisesLaws.{one-written}
 use Rattle.quotebox.specs.StartActs.{lentStarted}
 use Rattle.quotebox.specs.Calls.{listValues, runsPut, runValues, lowestRun, lentWrittenOff}
 use Rattle.quotebox.specs.CallRules.{gapsOfLetter}
 use Rattle.quotebox.specs.CallPromises.{StartedBox, ListedRuns, WroteOffRun, PutNoSpreads}
 use Rattle.quotebox.specs.CallPromisesLaws.{one-started, one-listed, one-written-off, one-read, one-no-spreads}
-use Rattle.quotebox.specs.Record.{recordNumber, recordOfKey, recordValues}
+use Rattle.reading.specs.Record.{recordNumber, recordOfKey, recordValues}
 use Rattle.history.specs.Shown.{QuoteFor, ReadsItem}
 use Rattle.history.specs.Calls as calls
 use Rattle.history.specs.Calls.{Answer, started, judged, took, listed, wroteOff, read, wrote, start, judge, take, listGaps, writeOff, readRecord, writeMessage, writeSpread, withLists}
@@ -121,7 +121,7 @@ module _ (item : Item) (code : Code) (level : Level) (number : ℕ) (key : List 
   abbrev saidWritten : Written
   saidWritten = writeAnswer (writeRefusal item code level number key cells out) (lengthWritten (formWritten item code level))
 
-  pub write-promised : WroteCells item code level number key cells out saidWritten (writeLeaves item code level number key cells out)
+  pub write-promised : WroteValues item code level number key cells out saidWritten (writeLeaves item code level number key cells out)
   write-promised = record { answers = write-numbers (writeRefusal item code level number key cells out) (lengthWritten (formWritten item code level)); out-left = refl }
 
 module _ (list out : List ℕ) where
@@ -227,7 +227,7 @@ module _ (lent : Lent) where
   )
 
   pub write-exactly : (item : Item) (code : Code) (level : Level) (number : ℕ) (key : List ℕ) (cells : Form → List ℕ) (out : List ℕ) (answer : Written) (out′ : List ℕ)
-      → WroteCells item code level number key cells out answer out′ ↔ written item code level number key cells out ≡ wrote answer out′
+      → WroteValues item code level number key cells out answer out′ ↔ written item code level number key cells out ≡ wrote answer out′
   write-exactly item code level number key cells out answer out′ =
       let said : Written = saidWritten item code level number key cells out in
       let put : List ℕ = writeLeaves item code level number key cells out in (
@@ -235,7 +235,7 @@ module _ (lent : Lent) where
         (λ e.
             let same : said ≡ answer = cc in
             let left : put ≡ out′ = cc in
-            both (WroteCells item code level number key cells out) said answer put out′ same left (write-promised item code level number key cells out)),
+            both (WroteValues item code level number key cells out) said answer put out′ same left (write-promised item code level number key cells out)),
       )
 
   pub no-spreads-exactly : (list out : List ℕ) (answer : Written) (out′ : List ℕ)

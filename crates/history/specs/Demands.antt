@@ -7,8 +7,8 @@ use mathlib.Core.Logic.{_↔_}
 use mathlib.Core.Option.{some}
 use lib.Dec.{ltb, eqb}
 use lib.ListN.{length}
-use Rattle.contracts.specs.File.{segmentsOf}
-use Rattle.contracts.specs.Lookup.{segmentOf}
+use Rattle.files.specs.File.{segmentsOf}
+use Rattle.lookup.specs.Lookup.{segmentOf}
 use Rattle.pairs.specs.Lists.{SoundLists}
 use Rattle.sequence.specs.Runs.{_to_, names}
 use Rattle.forms.specs.declared.forms.Form.{Form}
@@ -25,11 +25,11 @@ use Rattle.state.specs.declared.answers.Written.{Written}
 use Rattle.writer.specs.declared.writing.Code.{Code}
 use Rattle.batch.specs.Promises.{JudgedBatch, TookBatch}
 use Rattle.quotebox.specs.CallPromises.{StartedBox, ListedRuns, WroteOffRun, PutNoSpreads}
-use Rattle.writer.specs.WriterPromises.{WroteCells}
+use Rattle.writer.specs.WriterPromises.{WroteValues}
 use Rattle.quotebox.specs.Start.{startOf}
 use Rattle.state.specs.GoodState.{GoodState}
 use Rattle.state.specs.Memory.{Lent}
-use Rattle.state.specs.Slots.{Slot, SlotListed}
+use Rattle.slots.specs.Slots.{Slot, SlotListed}
 use Rattle.history.specs.Past.{Event, afterWriteOff, wroteOffIn, takenOf, highestIn, missingIn, runsStanding, takenFor}
 use Rattle.history.specs.Shown.{QuoteFor, ReadsItem}
 use Rattle.history.specs.Updates.{itemIn, letterIn, keyIn, levelIn}
@@ -98,7 +98,7 @@ pub record RefusalsKeep (lent : Lent) : Type 0 where
       → ListedRuns lent letter cells (Listed.Refused refusal) cells′ → cells′ ≡ cells
   pub write-off-keeps : (letter : ℕ) (refusal : Refusal) (lent′ : Lent) → WroteOffRun lent letter (WrittenOff.Refused refusal) lent′ → lent′ ≡ lent
   pub write-keeps : (item : Item) (code : Code) (level : Level) (number : ℕ) (key : List ℕ) (cells : Form → List ℕ) (out : List ℕ) (refusal : Refusal) (out′ : List ℕ)
-      → WroteCells item code level number key cells out (Written.Refused refusal) out′ → out′ ≡ out
+      → WroteValues item code level number key cells out (Written.Refused refusal) out′ → out′ ≡ out
   pub no-spreads-keeps : (list out : List ℕ) (refusal : Refusal) (out′ : List ℕ) → PutNoSpreads list out (Written.Refused refusal) out′ → out′ ≡ out
 
 -- demand 1, and 01, the table's rows 15, 16 and 18: an accepted call leaves gap rows and records that pass 16, 15 and 18,

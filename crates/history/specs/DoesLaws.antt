@@ -4,8 +4,8 @@ use mathlib.Core.Path.{_≡_, refl, sym, ap, subst, _∙_}
 use mathlib.Core.Bool.{true, false}
 use mathlib.Core.List.{List}
 use mathlib.Core.Option.{Option, none, some}
-use Rattle.contracts.specs.Lookup.{segmentOf}
-use Rattle.contracts.specs.LookupLaws.{segment-has, key-at-place}
+use Rattle.lookup.specs.Lookup.{segmentOf}
+use Rattle.lookup.specs.LookupLaws.{segment-has, key-at-place}
 use Rattle.pairs.specs.Lists.{Lists}
 use Rattle.forms.specs.declared.rows.Level.{Level}
 use Rattle.forms.specs.declared.forms.Form.{Form}
@@ -18,30 +18,33 @@ use Rattle.forms.specs.Forms.{namedRows, rowsOf, recordForm, subjectOf}
 use Rattle.layout.specs.Read.{readRows}
 use Rattle.forms.specs.Rows.{messageLength}
 use Rattle.quote.specs.Quote.{ofPair}
-use Rattle.quote.specs.QuoteTrip.{read-kept, spread-read-kept}
+use Rattle.quote.specs.QuoteTrip.{read-kept}
+use Rattle.spread.specs.SpreadTrip.{spread-read-kept}
 use Rattle.quote.specs.Shows.{fieldNamed}
-use Rattle.quote.specs.ShowsLaws.{shows-fields, shows-spread-fields}
+use Rattle.quote.specs.ShowsLaws.{shows-fields}
+use Rattle.spread.specs.ShowsLaws.{shows-spread-fields}
 use Rattle.layout.specs.declared.read.Verdict.the-variants as verdict
 use Rattle.message.specs.Items.{habitOf, fileOf}
 use Rattle.message.specs.declared.body.What.{What}
 use Rattle.message.specs.declared.body.What.the-variants as what
-use Rattle.message.specs.declared.head.Fault.{Fault}
-use Rattle.message.specs.declared.head.Head.the-variants.{Good}
+use Rattle.head.specs.declared.head.Fault.{Fault}
+use Rattle.head.specs.declared.head.Head.the-variants.{Good}
 use Rattle.message.specs.CallerLaws.{update-told}
-use Rattle.message.specs.Fields.{dataOf}
+use Rattle.head.specs.Fields.{dataOf}
 use Rattle.message.specs.GoodLaws.{good-exact}
 use Rattle.message.specs.Message.{Message, messageKey}
 use Rattle.message.specs.Reads.{messageOf}
 use Rattle.message.specs.MessageLaws.{key-in}
 use Rattle.message.specs.Numbers.{verdictOf, numberIn}
-use Rattle.state.specs.Slots.{Slot, slot as recordSlot, SlotListed, slotFor}
-use Rattle.state.specs.Places.{slotAt, formFor, recordOf}
+use Rattle.slots.specs.Slots.{Slot, slot as recordSlot, SlotListed, slotFor}
+use Rattle.slots.specs.Places.{slotAt, formFor, recordOf}
 use Rattle.forms.specs.FormsLaws.{record-form}
 use Rattle.turns.specs.ActsLaws.{acts-as}
 use Rattle.turns.specs.Turns.{Box, numberActs, updated, messageActs}
 use Rattle.stores.specs.Stored.{stored}
 use Rattle.history.specs.Exactly.{UpdateSays}
-use Rattle.history.specs.Shown.{QuoteFor, shown, cellsFor, ShowsEach}
+use Rattle.history.specs.Shown.{QuoteFor, shown, ShowsEach}
+use Rattle.history.specs.Kept.{cellsFor}
 use Rattle.history.specs.Updates.{slotOf, itemIn, levelIn}
 use Rattle.history.specs.Machine.{isNumbered, sequenceNumber}
 

@@ -6,20 +6,20 @@ use mathlib.Core.List.{List, _∷_, List·Memᴰ}
 use mathlib.Core.Logic.{_⊎_, _↔_}
 use mathlib.Core.Option.{Option, none, some}
 use lib.ListN.{drop}
-use Rattle.contracts.specs.File.{segmentsOf}
-use Rattle.contracts.specs.Lookup.{segmentOf}
+use Rattle.files.specs.File.{segmentsOf}
+use Rattle.lookup.specs.Lookup.{segmentOf}
 use Rattle.pairs.specs.Lists.{Lists}
 use Rattle.sequence.specs.Gaps.{most}
 use Rattle.quote.specs.Shows.{fieldNamed}
 use Rattle.forms.specs.Forms.{namedRows, rowsOf}
 use Rattle.forms.specs.Rows.{messageLength}
-use Rattle.message.specs.Fields.{lengthOf, numberOf, dataOf as dataIn}
+use Rattle.head.specs.Fields.{lengthOf, numberOf, dataOf as dataIn}
 use Rattle.message.specs.Good.{GoodMessage}
 use Rattle.message.specs.Message.{Message, messageKey as bytesKey}
 use Rattle.message.specs.Reads.{messageOf}
 use Rattle.state.specs.declared.answers.Recorded.{Recorded}
-use Rattle.state.specs.Slots.{Slot}
-use Rattle.state.specs.Places.{formFor}
+use Rattle.slots.specs.Slots.{Slot}
+use Rattle.slots.specs.Places.{formFor}
 use Rattle.batch.specs.Batch.{batchLetter, countOf, batchData}
 use Rattle.batch.specs.Good.{GoodFront}
 use Rattle.quotebox.specs.Start.{startOf}

@@ -4,7 +4,7 @@ use Prim.Native.Nat.{_≤_}
 use mathlib.Core.Path.{_≡_}
 use lib.ListN.{length, take}
 use Rattle.state.specs.Memory.{Lent, lends, gapRowsWanted}
-use Rattle.state.specs.Slots.{recordsWanted}
+use Rattle.slots.specs.Slots.{recordsWanted}
 use Rattle.history.specs.Calls.{Call, start, judge, take as taking, listGaps, writeOff, readRecord, writeMessage, writeSpread, noSpreads, withLists}
 use Rattle.history.specs.Step.{step}
 

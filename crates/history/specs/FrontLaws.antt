@@ -13,10 +13,10 @@ use lib.Seq.{sets, sets-eq, take-at, take-take, take-set-lt, getD-take, length-t
 use Rattle.laws.specs.Rules.{firstBroken}
 use Rattle.laws.specs.RulesLaws.{last-held, none-hold, hold-append}
 use Rattle.laws.specs.Lists.{part-of-front}
-use Rattle.contracts.specs.BelowLaws.{all-same}
-use Rattle.contracts.specs.File.{segmentsOf}
-use Rattle.contracts.specs.Lookup.{segmentOf}
-use Rattle.contracts.specs.LookupLaws.{segment-has, key-at-place}
+use Rattle.files.specs.BelowLaws.{all-same}
+use Rattle.files.specs.File.{segmentsOf}
+use Rattle.lookup.specs.Lookup.{segmentOf}
+use Rattle.lookup.specs.LookupLaws.{segment-has, key-at-place}
 use Rattle.contracts.specs.SoundTests.{headerSound, sound}
 use Rattle.pairs.specs.SpreadTests.{spreadHeaderSound, spreadsSound}
 use Rattle.pairs.specs.Lists.{Lists, Headers}
@@ -35,8 +35,8 @@ use Rattle.sequence.specs.RowLaid.{laid, soundGapRow}
 use Rattle.sequence.specs.RowLaws.{laid-sound, sound-row-exactly}
 use Rattle.message.specs.declared.body.What.{What}
 use Rattle.message.specs.declared.body.What.the-variants as what
-use Rattle.message.specs.Fields.{lengthOf}
-use Rattle.message.specs.Tests.{isSome}
+use Rattle.head.specs.Fields.{lengthOf}
+use Rattle.head.specs.Tests.{isSome}
 use Rattle.message.specs.Message.{keyPlace}
 use Rattle.message.specs.Reads.{messageOf}
 use Rattle.message.specs.MessageLaws.{key-found}
@@ -46,9 +46,9 @@ use Rattle.state.specs.Answers.{leftBy}
 use Rattle.state.specs.Refusals.{Rule}
 use Rattle.state.specs.Memory.{Lent, lends, gapRowCells, gapRowsWanted, gapRowOf, gapRowIn}
 use Rattle.state.specs.MemoryRows.{withGapRow, withGapRowIn}
-use Rattle.state.specs.Slots.{Slot, slot as recordSlot, SlotListed, recordsWanted}
-use Rattle.state.specs.Places.{slotAt, slotIn, recordOf, recordRows}
-use Rattle.state.specs.SlotsLaws.{cells-by-rows, slot-inside}
+use Rattle.slots.specs.Slots.{Slot, slot as recordSlot, SlotListed, recordsWanted}
+use Rattle.slots.specs.Places.{slotAt, slotIn, recordOf, recordRows}
+use Rattle.slots.specs.SlotsLaws.{cells-by-rows, slot-inside}
 use Rattle.state.specs.State.{memoryRules, stateRules, segmentRules}
 use Rattle.state.specs.StateLaws.{is-some, state-exact, state-held, letter-listed, row-sound}
 use Rattle.turns.specs.ActsLaws.{acts-as}
@@ -60,10 +60,11 @@ use Rattle.batch.specs.BatchLaws.{good-state, messages-accepted}
 use Rattle.batch.specs.LeftLaws.{is-listed, messages-leave}
 use Rattle.turns.specs.UpdateLaws.{item-of, tells-of, record-wanted}
 use Rattle.quotebox.specs.Calls.{runsPut, lowestRun, lentWrittenOff}
-use Rattle.quotebox.specs.CallRules.{gapsOfLetter, listRules, writeOffRules, recordRules}
+use Rattle.quotebox.specs.CallRules.{gapsOfLetter, listRules, writeOffRules}
+use Rattle.reading.specs.ReadRules.{recordRules}
 use Rattle.quotebox.specs.CallsLaws.{off-left}
-use Rattle.quotebox.specs.Record.{recordOfKey, recordNumber, cellsAt, quoteAt, quoteBeside}
-use Rattle.quotebox.specs.RecordLaws.{record-found}
+use Rattle.reading.specs.Record.{recordOfKey, recordNumber, cellsAt, quoteAt, quoteBeside}
+use Rattle.reading.specs.RecordLaws.{record-found}
 use Rattle.quotebox.specs.Start.{startRules, eachStarts}
 use Rattle.quotebox.specs.StartActs.{startBroken, startedRows, rowsStarted, recordsCleared, lentStarted}
 use Rattle.quotebox.specs.StartLaws.{started-lengths}

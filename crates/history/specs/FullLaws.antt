@@ -12,17 +12,17 @@ use lib.ListN.{length, drop}
 use Rattle.laws.specs.Rules.{firstBroken, Hold, Broken}
 use Rattle.laws.specs.RulesLaws.{unlike, none-hold, hold-none, broken-some}
 use Rattle.laws.specs.Choice.{clash, either}
-use Rattle.contracts.specs.Lookup.{segmentOf}
+use Rattle.lookup.specs.Lookup.{segmentOf}
 use Rattle.pairs.specs.Lists.{Lists}
 use Rattle.sequence.specs.Gaps.{Gaps, most, takes}
 use Rattle.sequence.specs.Changes.{full, runsAfter}
 use Rattle.sequence.specs.Row.{gapsOf}
 use Rattle.message.specs.declared.body.What.{What}
 use Rattle.message.specs.declared.body.What.the-variants as what
-use Rattle.message.specs.declared.head.Fault.{Fault}
-use Rattle.message.specs.declared.head.Fault.the-variants as fault
-use Rattle.message.specs.declared.head.Head.the-variants.{Good}
-use Rattle.message.specs.Fields.{lengthOf}
+use Rattle.head.specs.declared.head.Fault.{Fault}
+use Rattle.head.specs.declared.head.Fault.the-variants as fault
+use Rattle.head.specs.declared.head.Head.the-variants.{Good}
+use Rattle.head.specs.Fields.{lengthOf}
 use Rattle.message.specs.Good.{GoodMessage}
 use Rattle.message.specs.GoodLaws.{rules-exact, good-exact}
 use Rattle.message.specs.Order.{messageRules}

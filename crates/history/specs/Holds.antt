@@ -1,7 +1,7 @@
 -- What holds after every history: the words of the laws on its steps.
 use Prim.Native.Nat.{ℕ, _<_}
 use mathlib.Core.List.{List}
-use Rattle.contracts.specs.File.{segmentsOf}
+use Rattle.files.specs.File.{segmentsOf}
 use Rattle.pairs.specs.Lists.{SoundLists}
 use Rattle.sequence.specs.Row.{gapsOf}
 use Rattle.state.specs.Memory.{Lent, gapRowOf}

@@ -12,9 +12,9 @@ use lib.ListN.{length}
 use Rattle.laws.specs.Rules.{firstBroken}
 use Rattle.laws.specs.RulesLaws.{last-held}
 use Rattle.laws.specs.Order.{same}
-use Rattle.contracts.specs.File.{segmentsOf}
-use Rattle.contracts.specs.Lookup.{segmentOf}
-use Rattle.contracts.specs.LookupLaws.{segment-has}
+use Rattle.files.specs.File.{segmentsOf}
+use Rattle.lookup.specs.Lookup.{segmentOf}
+use Rattle.lookup.specs.LookupLaws.{segment-has}
 use Rattle.pairs.specs.Lists.{Lists}
 use Rattle.sequence.specs.Runs.{Run, _to_, run, names}
 use Rattle.sequence.specs.Answers.{writeOffAnswer, lowest, writtenOff}

@@ -11,13 +11,13 @@ use lib.Dec.{eqb}
 use lib.ListN.{length, getD, drop}
 use Rattle.laws.specs.Rules.{Rule, firstBroken, Hold, Broken}
 use Rattle.laws.specs.RulesLaws.{unlike, none-hold, hold-none, some-broken, broken-some}
-use Rattle.contracts.specs.Lookup.{segmentOf}
+use Rattle.lookup.specs.Lookup.{segmentOf}
 use Rattle.pairs.specs.Lists.{Lists}
 use Rattle.sequence.specs.Gaps.{most}
 use Rattle.message.specs.declared.body.What.{What}
 use Rattle.message.specs.declared.body.What.the-variants as what
-use Rattle.message.specs.declared.head.Fault.{Fault}
-use Rattle.message.specs.Fields.{lengthOf}
+use Rattle.head.specs.declared.head.Fault.{Fault}
+use Rattle.head.specs.Fields.{lengthOf}
 use Rattle.message.specs.Good.{GoodMessage}
 use Rattle.message.specs.Message.{Message}
 use Rattle.message.specs.Reads.{messageOf}

@@ -6,11 +6,16 @@ use mathlib.Core.List.{List, [], _∷_}
 use mathlib.Core.Option.{Option, none, some}
 use lib.ListN.{getD, take, drop}
 use Rattle.pairs.specs.Lists.{Lists}
+use Rattle.forms.specs.declared.forms.Form.{Form}
+use Rattle.forms.specs.declared.forms.Item.{Item}
+use Rattle.forms.specs.declared.forms.Item.the-variants.{Contract, Pair}
+use Rattle.quote.specs.Quote.{valuesOf}
+use Rattle.spread.specs.Spread.{spreadValuesOf}
 use Rattle.message.specs.Message.{Message}
-use Rattle.state.specs.Slots.{Slot, SlotListed}
-use Rattle.state.specs.Places.{formFor, slotAt, slotCells, recordOf}
+use Rattle.slots.specs.Slots.{Slot, SlotListed}
+use Rattle.slots.specs.Places.{formFor, slotAt, slotCells, recordOf}
 use Rattle.history.specs.Past.{Event, takenFor}
-use Rattle.history.specs.Shown.{QuoteFor, cellsFor}
+use Rattle.history.specs.Shown.{QuoteFor}
 use Rattle.history.specs.Updates.{itemIn, levelIn, isOf}
 use Rattle.history.specs.Machine.{higher, sequenceNumber}
 
@@ -18,6 +23,11 @@ use Rattle.history.specs.Machine.{higher, sequenceNumber}
 abbrev pub newest : Slot → List Message → Option Message
 newest slot [] = none
 newest slot (m ∷ ms) = cond (isOf slot (m .what)) (higher m (newest slot ms)) (newest slot ms)
+
+-- lent memory: the cells of a quote that was read: an amount in range is its own cell, as it is its own value (`layout` PlainLaws: `has-value`)
+abbrev pub cellsFor : (item : Item) → Form → QuoteFor item → List ℕ
+cellsFor Contract form quote = valuesOf form quote
+cellsFor Pair form quote = spreadValuesOf form quote
 
 -- 01 "What may be asked": a record that holds an update: its number, then its rows; its cells are those of a quote
 pub record HoldsUpdate (lists : Lists) (records : List ℕ) (slot : Slot) (m : Message) : Type 0 where

@@ -18,8 +18,8 @@ use Rattle.forms.specs.declared.rows.Level.the-variants.{One, Two}
 use Rattle.forms.specs.declared.forms.Item.{Item}
 use Rattle.forms.specs.declared.forms.Item.the-variants.{Contract, Pair}
 use Rattle.layout.specs.Cells.{zerosBehind}
-use Rattle.quote.specs.Quote.{cellsOf}
-use Rattle.quote.specs.Spread.{spreadCellsOf}
+use Rattle.quote.specs.Quote.{valuesOf}
+use Rattle.spread.specs.Spread.{spreadValuesOf}
 use Rattle.forms.specs.declared.forms.Subject.{Subject}
 use Rattle.forms.specs.declared.forms.Subject.the-variants.{Nothing, Of}
 use Rattle.pairs.specs.Lists.{Headers}
@@ -28,19 +28,19 @@ use Rattle.message.specs.declared.body.What.{What}
 use Rattle.message.specs.declared.body.What.the-variants as what
 use Rattle.message.specs.Message.{Message}
 use Rattle.stores.specs.Stored.{stored}
-use Rattle.state.specs.Slots.{Slot, slot as recordSlot, slotFor, SlotListed, recordsWanted}
-use Rattle.state.specs.Places.{formFor, slotAt, slotCells, recordOf, recordRows}
-use Rattle.state.specs.SlotsLaws.{cells-by-rows, slot-inside, slot-some, slots-apart}
-use Rattle.history.specs.Shown.{QuoteFor, cellsFor}
+use Rattle.slots.specs.Slots.{Slot, slot as recordSlot, slotFor, SlotListed, recordsWanted}
+use Rattle.slots.specs.Places.{formFor, slotAt, slotCells, recordOf, recordRows}
+use Rattle.slots.specs.SlotsLaws.{cells-by-rows, slot-inside, slot-some, slots-apart}
+use Rattle.history.specs.Shown.{QuoteFor}
 use Rattle.history.specs.Updates.{sameSlot, slotOf, isSlot, segmentIn, itemIn, levelIn}
-use Rattle.history.specs.Kept.{RecordHolds, HoldsUpdate}
+use Rattle.history.specs.Kept.{cellsFor, RecordHolds, HoldsUpdate}
 use Rattle.history.specs.StoresLaws.{part-first, stored-here, stored-apart}
 use Rattle.history.specs.Machine.{sequenceNumber, higher}
 
 -- ---- the cells of an update
 
 pub quote-long : (slot : Slot) (quote : QuoteFor (itemIn slot)) → length (recordOf (itemIn slot) (levelIn slot) (cellsFor (itemIn slot) (formFor slot) quote)) ≡ recordRows (itemIn slot) (levelIn slot)
-unfolding recordRows rowsOf namedRows cellsOf spreadCellsOf
+unfolding recordRows rowsOf namedRows valuesOf spreadValuesOf
 quote-long (recordSlot Contract i place One) quote = refl
 quote-long (recordSlot Contract i place Two) quote = refl
 quote-long (recordSlot Pair i place One) quote = refl
@@ -49,7 +49,7 @@ quote-long (recordSlot Pair i place Two) quote = refl
 -- the key's cells are 0, and so are those behind the last row
 pub quote-cells : (slot : Slot) (quote : QuoteFor (itemIn slot))
     → zerosBehind (replicate (keyRowsOf (itemIn slot)) 0 ++ recordOf (itemIn slot) (levelIn slot) (cellsFor (itemIn slot) (formFor slot) quote)) ≡ cellsFor (itemIn slot) (formFor slot) quote
-unfolding rowsOf namedRows cellsOf spreadCellsOf
+unfolding rowsOf namedRows valuesOf spreadValuesOf
 quote-cells (recordSlot Contract i place One) quote = refl
 quote-cells (recordSlot Contract i place Two) quote = refl
 quote-cells (recordSlot Pair i place One) quote = refl

@@ -5,7 +5,6 @@ pub mod Demands
 pub mod DemandsLaws
 pub mod DoesLaws
 pub mod Exactly
-pub mod Example
 pub mod Front
 pub mod FrontLaws
 pub mod FullLaws
@@ -22,7 +21,6 @@ pub mod MachineLaws
 pub mod NewestLaws
 pub mod OffLaws
 pub mod OneAnswerLaws
-pub mod PaperCases
 pub mod Past
 pub mod RecordLaws
 pub mod Refines

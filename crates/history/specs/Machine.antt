@@ -9,7 +9,7 @@ use mathlib.Core.Option.{Option, none, some}
 use lib.Dec.{leb, ltb, eqb}
 use lib.ListN.{length, take, drop}
 use Rattle.laws.specs.Rules.{Broken}
-use Rattle.contracts.specs.Lookup.{segmentOf}
+use Rattle.lookup.specs.Lookup.{segmentOf}
 use Rattle.pairs.specs.Lists.{Lists}
 use Rattle.sequence.specs.Apart.{Apart}
 use Rattle.sequence.specs.Gaps.{most}
@@ -20,9 +20,10 @@ use Rattle.forms.specs.declared.forms.Item.{Item}
 use Rattle.forms.specs.Forms.{recordForm}
 use Rattle.message.specs.declared.body.What.{What}
 use Rattle.message.specs.declared.body.What.the-variants.{Heartbeat, PassedOver, Update, Bad}
-use Rattle.message.specs.declared.head.Fault.{Fault}
-use Rattle.message.specs.Fields.{lengthOf}
-use Rattle.message.specs.Good.{GoodMessage, LetterListed, KeyListed}
+use Rattle.head.specs.declared.head.Fault.{Fault}
+use Rattle.head.specs.Fields.{lengthOf}
+use Rattle.message.specs.Good.{GoodMessage, KeyListed}
+use Rattle.head.specs.GoodHead.{LetterListed}
 use Rattle.message.specs.Message.{Message}
 use Rattle.message.specs.Reads.{messageOf}
 use Rattle.message.specs.Numbers.{numberIn}
@@ -35,7 +36,7 @@ use Rattle.state.specs.declared.answers.Listed.{Listed}
 use Rattle.state.specs.declared.answers.WrittenOff.{WrittenOff}
 use Rattle.state.specs.declared.answers.Recorded.{Recorded}
 use Rattle.state.specs.Refusals.{ofFault}
-use Rattle.state.specs.Slots.{Slot, SlotListed}
+use Rattle.slots.specs.Slots.{Slot, SlotListed}
 use Rattle.batch.specs.Batch.{batchLetter, countOf, batchData, batchRules}
 use Rattle.batch.specs.Good.{GoodFront}
 use Rattle.writer.specs.WriterPromises.{WroteMessage, WroteSpread}

@@ -6,12 +6,12 @@ use mathlib.Core.List.{List, _∷_}
 use mathlib.Core.Option.{Option, some}
 use lib.Dec.{eqb}
 use lib.ListN.{drop}
-use Rattle.contracts.specs.Lookup.{segmentOf}
+use Rattle.lookup.specs.Lookup.{segmentOf}
 use Rattle.pairs.specs.Lists.{Lists}
-use Rattle.message.specs.Fields.{lengthOf}
+use Rattle.head.specs.Fields.{lengthOf}
 use Rattle.message.specs.Message.{Message}
 use Rattle.message.specs.Reads.{messageOf}
-use Rattle.state.specs.Slots.{Slot}
+use Rattle.slots.specs.Slots.{Slot}
 use Rattle.quotebox.specs.Start.{startOf}
 use Rattle.history.specs.Machine.{Machine, comesNew, higher, arrives, inSegment, comesTo, standingFor, standing, allCome, counted}
 use Rattle.history.specs.Past.{Event, came, messagesOf, allCame, wroteOffIn, takenOf, takenFor, howMany, runsStanding}

@@ -9,7 +9,7 @@ use borrow.Author.Tests.{ltb-true, ltb-false}
 use lib.Dec.{ltb}
 use Rattle.laws.specs.Choice.{either}
 use Rattle.message.specs.Message.{Message}
-use Rattle.state.specs.Slots.{Slot}
+use Rattle.slots.specs.Slots.{Slot}
 use Rattle.history.specs.Kept.{newest}
 use Rattle.history.specs.Updates.{isOf}
 use Rattle.history.specs.Exactly.{FoundNewest}

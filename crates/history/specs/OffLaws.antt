@@ -12,8 +12,8 @@ use lib.ListN.{length}
 use Rattle.laws.specs.Choice.{clash, either}
 use Rattle.laws.specs.Rules.{firstBroken}
 use Rattle.laws.specs.RulesLaws.{last-holds, last-broken}
-use Rattle.contracts.specs.Lookup.{segmentOf}
-use Rattle.contracts.specs.LookupLaws.{segment-has}
+use Rattle.lookup.specs.Lookup.{segmentOf}
+use Rattle.lookup.specs.LookupLaws.{segment-has}
 use Rattle.sequence.specs.Answers.{writeOffAnswer, lowest, refusedNoGap}
 use Rattle.sequence.specs.Gaps.{Gaps}
 use Rattle.sequence.specs.GapsLaws.{wroteOff-lowest, wroteOff-proper, no-gap-exactly}

@@ -10,9 +10,9 @@ use lib.ListN.{length, take, drop, length-take, take-append-drop}
 use Rattle.laws.specs.Choice.{clash}
 use Rattle.laws.specs.Order.{order}
 use Rattle.laws.specs.RulesLaws.{unlike, broken-some}
-use Rattle.contracts.specs.File.{segmentsOf, countAt, keyBy}
-use Rattle.contracts.specs.Lookup.{segmentOf}
-use Rattle.contracts.specs.LookupLaws.{segment-has, segment-exact, key-exact}
+use Rattle.files.specs.File.{segmentsOf, countAt, keyBy}
+use Rattle.lookup.specs.Lookup.{segmentOf}
+use Rattle.lookup.specs.LookupLaws.{segment-has, segment-exact, key-exact}
 use Rattle.pairs.specs.Lists.{Lists, SoundLists}
 use Rattle.sequence.specs.Row.{pairs}
 use Rattle.sequence.specs.Runs.{Run, _to_, runsIn}
@@ -24,15 +24,16 @@ use Rattle.forms.specs.declared.forms.Item.the-variants as item
 use Rattle.message.specs.Items.{fileOf, habitOf}
 use Rattle.message.specs.ItemsLaws.{sound-headers, segments-of, sound-of}
 use Rattle.message.specs.Message.{placeIn}
-use Rattle.quote.specs.Quote.{cellsOf}
-use Rattle.quote.specs.Spread.{spreadCellsOf}
+use Rattle.quote.specs.Quote.{valuesOf}
+use Rattle.spread.specs.Spread.{spreadValuesOf}
 use Rattle.state.specs.declared.answers.Recorded.{Recorded}
-use Rattle.message.specs.Good.{LetterListed, KeyListed}
+use Rattle.message.specs.Good.{KeyListed}
+use Rattle.head.specs.GoodHead.{LetterListed}
 use Rattle.state.specs.declared.refusal.Refusal.the-variants.{Memory}
 use Rattle.state.specs.declared.answers.Started.{Started}
 use Rattle.state.specs.declared.answers.Listed.{Listed}
 use Rattle.state.specs.declared.answers.WrittenOff.{WrittenOff}
-use Rattle.state.specs.Slots.{Slot, slot as recordSlot}
+use Rattle.slots.specs.Slots.{Slot, slot as recordSlot}
 use Rattle.writer.specs.WriterPromisesLaws.{one-written}
 use Rattle.quotebox.specs.CallPromisesLaws.{one-no-spreads}
 use Rattle.quotebox.specs.Start.{startRules}
@@ -209,9 +210,9 @@ module _ (rows records : ℕ) (m : Machine) where
   one-answer sound (machine.Answers.writes-off {letter} p) (machine.Answers.writes-off q) = let one = one-off m letter p q in (ap calls.wroteOff (one .0), one .1)
   one-answer sound (machine.Answers.reads {item} {letter} p) (machine.Answers.reads q) = let one = one-reading m letter sound p q in (ap₂ (calls.read item) (one .0) (one .1), refl)
   one-answer sound (machine.Answers.writes {code} {level} {number} {key} {out} {quote = quote} {a} p) (machine.Answers.writes {a = b} q) =
-      let one = one-written item.Contract code level number key (λ form. cellsOf form quote) out a b p q in (ap₂ calls.wrote (one .0) (one .1), refl)
+      let one = one-written item.Contract code level number key (λ form. valuesOf form quote) out a b p q in (ap₂ calls.wrote (one .0) (one .1), refl)
   one-answer sound (machine.Answers.writes-spread {code} {level} {number} {key} {out} {quote = quote} {a} p) (machine.Answers.writes-spread {a = b} q) =
-      let one = one-written item.Pair code level number key (λ form. spreadCellsOf form quote) out a b p q in (ap₂ calls.wrote (one .0) (one .1), refl)
+      let one = one-written item.Pair code level number key (λ form. spreadValuesOf form quote) out a b p q in (ap₂ calls.wrote (one .0) (one .1), refl)
   one-answer sound (machine.Answers.no-spreads {a = a} p) (machine.Answers.no-spreads {a = b} q) = let one = one-no-spreads a b p q in (ap₂ calls.wrote (one .0) (one .1), refl)
 
 -- after every history a call answers what the machine says, and nothing else is said of it

@@ -6,10 +6,10 @@ use mathlib.Core.List.{List, [], _∷_}
 use mathlib.Core.Option.{Option, none, some}
 use lib.Dec.{eqb}
 use lib.ListN.{drop}
-use Rattle.contracts.specs.Lookup.{segmentOf}
+use Rattle.lookup.specs.Lookup.{segmentOf}
 use Rattle.pairs.specs.Lists.{Lists}
 use Rattle.sequence.specs.Runs.{Run, _to_, names}
-use Rattle.message.specs.Fields.{lengthOf}
+use Rattle.head.specs.Fields.{lengthOf}
 use Rattle.message.specs.Message.{Message}
 use Rattle.message.specs.Reads.{messageOf}
 use Rattle.state.specs.declared.answers.Judged.{Judged}
@@ -17,7 +17,7 @@ use Rattle.state.specs.declared.answers.Judged.the-variants as judged
 use Rattle.state.specs.declared.answers.WrittenOff.{WrittenOff}
 use Rattle.state.specs.declared.answers.WrittenOff.the-variants as answer
 use Rattle.batch.specs.Batch.{batchLetter, countOf, batchData}
-use Rattle.state.specs.Slots.{Slot}
+use Rattle.slots.specs.Slots.{Slot}
 use Rattle.quotebox.specs.Start.{startOf}
 use Rattle.history.specs.Machine.{isNumbered, comesNew, taking, highestOf, missingBy, standingBy}
 use Rattle.history.specs.Updates.{segmentIn}

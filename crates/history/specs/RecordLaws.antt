@@ -12,9 +12,9 @@ use lib.ListN.{length, take, drop, replicate, length-drop}
 use lib.Seq.{drop-drop}
 use Rattle.laws.specs.Choice.{clash}
 use Rattle.laws.specs.Lists.{middle}
-use Rattle.contracts.specs.File.{letterAt, keyBy}
-use Rattle.contracts.specs.Lookup.{segmentOf}
-use Rattle.contracts.specs.LookupLaws.{segment-has, segment-exact, key-exact, key-at-place}
+use Rattle.files.specs.File.{letterAt, keyBy}
+use Rattle.lookup.specs.Lookup.{segmentOf}
+use Rattle.lookup.specs.LookupLaws.{segment-has, segment-exact, key-exact, key-at-place}
 use Rattle.pairs.specs.Lists.{Lists}
 use Rattle.forms.specs.declared.rows.Level.{Level}
 use Rattle.layout.specs.Cells.{zerosBehind}
@@ -29,12 +29,12 @@ use Rattle.state.specs.declared.refusal.Refusal.{Refusal}
 use Rattle.state.specs.declared.answers.Recorded.{Recorded}
 use Rattle.state.specs.Answers.{recordedNumbers, answered}
 use Rattle.state.specs.Memory.{Lent}
-use Rattle.state.specs.Slots.{Slot, slot as recordSlot, SlotListed}
-use Rattle.state.specs.Places.{formFor, slotAt, slotCells, recordOf, recordRows}
-use Rattle.state.specs.SlotsLaws.{slot-inside}
+use Rattle.slots.specs.Slots.{Slot, slot as recordSlot, SlotListed}
+use Rattle.slots.specs.Places.{formFor, slotAt, slotCells, recordOf, recordRows}
+use Rattle.slots.specs.SlotsLaws.{slot-inside}
 use Rattle.state.specs.AnswersLaws.{recorded-told}
-use Rattle.quotebox.specs.Record.{recordOfKey, recordNumber, recordValues, cellsAt, quoteAt, quoteBeside}
-use Rattle.quotebox.specs.RecordLaws.{key-holds, record-found}
+use Rattle.reading.specs.Record.{recordOfKey, recordNumber, recordValues, cellsAt, quoteAt, quoteBeside}
+use Rattle.reading.specs.RecordLaws.{key-holds, record-found}
 use Rattle.quotebox.specs.Start.{startOf}
 use Rattle.history.specs.Past.{Event, takenOf, takenFor}
 use Rattle.history.specs.Shown.{QuoteFor, shown, blankFor, ReadsItem}

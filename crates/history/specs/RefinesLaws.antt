@@ -9,8 +9,8 @@ use Rattle.laws.specs.Rules.{firstBroken}
 use Rattle.laws.specs.RulesLaws.{some-broken, front-broken}
 use Rattle.laws.specs.Choice.{never}
 use Rattle.laws.specs.Order.{order}
-use Rattle.contracts.specs.Lookup.{segmentOf}
-use Rattle.contracts.specs.LookupLaws.{segment-has, segment-exact, key-at-place}
+use Rattle.lookup.specs.Lookup.{segmentOf}
+use Rattle.lookup.specs.LookupLaws.{segment-has, segment-exact, key-at-place}
 use Rattle.pairs.specs.Lists.{Lists, SoundLists}
 use Rattle.sequence.specs.Runs.{_to_}
 use Rattle.forms.specs.declared.rows.Level.{Level}
@@ -18,9 +18,10 @@ use Rattle.forms.specs.declared.forms.Item.{Item}
 use Rattle.forms.specs.declared.forms.Item.the-variants as item
 use Rattle.message.specs.Items.{fileOf, habitOf}
 use Rattle.message.specs.Message.{placeIn}
-use Rattle.quote.specs.Quote.{cellsOf}
-use Rattle.quote.specs.Spread.{spreadCellsOf}
-use Rattle.message.specs.Good.{LetterListed, KeyListed}
+use Rattle.quote.specs.Quote.{valuesOf}
+use Rattle.spread.specs.Spread.{spreadValuesOf}
+use Rattle.message.specs.Good.{KeyListed}
+use Rattle.head.specs.GoodHead.{LetterListed}
 use Rattle.message.specs.GoodLaws.{key-listed}
 use Rattle.message.specs.MessageLaws.{key-in}
 use Rattle.state.specs.declared.refusal.Refusal.{Refusal}
@@ -33,7 +34,7 @@ use Rattle.state.specs.declared.answers.Recorded.{Recorded}
 use Rattle.state.specs.Answers.{answered}
 use Rattle.state.specs.AnswersLaws.{listed-told, written-off-told, recorded-told}
 use Rattle.state.specs.Memory.{Lent}
-use Rattle.state.specs.Slots.{slot}
+use Rattle.slots.specs.Slots.{slot}
 use Rattle.state.specs.State.{segmentRules}
 use Rattle.state.specs.StateLaws.{good-unrefused, letter-broken}
 use Rattle.batch.specs.Batch.{batchLetter, countOf, batchData}
@@ -42,9 +43,10 @@ use Rattle.batch.specs.Promises.{JudgedBatch}
 use Rattle.quotebox.specs.CallPromises.{StartedBox, ListedRuns, WroteOffRun}
 use Rattle.quotebox.specs.CallPromisesLaws.{start-left, list-refusal, runs-in-cells}
 use Rattle.quotebox.specs.Calls.{listValues, lowestRun, runValues}
-use Rattle.quotebox.specs.CallRules.{gapsOfLetter, listRules, writeOffRules, recordRules}
-use Rattle.quotebox.specs.Record.{recordNumber, recordOfKey, recordValues, quoteAt, quoteBeside}
-use Rattle.quotebox.specs.RecordLaws.{segment-broken, key-broken}
+use Rattle.quotebox.specs.CallRules.{gapsOfLetter, listRules, writeOffRules}
+use Rattle.reading.specs.ReadRules.{recordRules}
+use Rattle.reading.specs.Record.{recordNumber, recordOfKey, recordValues, quoteAt, quoteBeside}
+use Rattle.reading.specs.RecordLaws.{segment-broken, key-broken}
 use Rattle.quotebox.specs.Start.{startOf, startRules}
 use Rattle.quotebox.specs.StartLaws.{start-exact}
 use Rattle.history.specs.Machine as machine
@@ -229,13 +231,13 @@ module _ {starts : List ℕ} {lent : Lent} {past : List Event} (r : Reached star
       record {
         later = record { starts = starts; past = past };
         then = refl;
-        answers = machine.Answers.writes (write-promised item.Contract code level number key (λ form. cellsOf form quote) out);
+        answers = machine.Answers.writes (write-promised item.Contract code level number key (λ form. valuesOf form quote) out);
       }
   refines (writeSpread code level number key quote out) =
       record {
         later = record { starts = starts; past = past };
         then = refl;
-        answers = machine.Answers.writes-spread (write-promised item.Pair code level number key (λ form. spreadCellsOf form quote) out);
+        answers = machine.Answers.writes-spread (write-promised item.Pair code level number key (λ form. spreadValuesOf form quote) out);
       }
   refines (noSpreads list out) =
       record { later = record { starts = starts; past = past }; then = refl; answers = machine.Answers.no-spreads (no-spreads-promised list out) }

@@ -9,8 +9,8 @@ use Rattle.forms.specs.Forms.{namedRows, rowsOf, recordForm}
 use Rattle.forms.specs.Rows.{messageLength}
 use Rattle.forms.specs.declared.forms.Item.{Item}
 use Rattle.quote.specs.Shows.{fieldNamed}
-use Rattle.message.specs.Fields.{lengthOf, numberOf, dataOf}
-use Rattle.contracts.specs.Lookup.{segmentOf}
+use Rattle.head.specs.Fields.{lengthOf, numberOf, dataOf}
+use Rattle.lookup.specs.Lookup.{segmentOf}
 use Rattle.pairs.specs.Lists.{Lists}
 use Rattle.message.specs.Message.{Message, messageKey}
 use Rattle.message.specs.Reads.{messageOf}

@@ -11,16 +11,16 @@ use Rattle.laws.specs.Choice.{clash}
 use Rattle.laws.specs.Tests.{eqb-is}
 use Rattle.laws.specs.Rules.{firstBroken}
 use Rattle.laws.specs.RulesLaws.{last-held}
-use Rattle.contracts.specs.File.{keyBy}
-use Rattle.contracts.specs.Lookup.{segmentOf}
-use Rattle.contracts.specs.LookupLaws.{segment-has, key-at-place}
+use Rattle.files.specs.File.{keyBy}
+use Rattle.lookup.specs.Lookup.{segmentOf}
+use Rattle.lookup.specs.LookupLaws.{segment-has, key-at-place}
 use Rattle.pairs.specs.Lists.{Lists}
 use Rattle.forms.specs.declared.rows.Level.{Level}
 use Rattle.forms.specs.Forms.{recordForm}
 use Rattle.forms.specs.declared.forms.Item.{Item}
 use Rattle.message.specs.Items.{fileOf, habitOf}
 use Rattle.message.specs.declared.body.What.{What}
-use Rattle.message.specs.Fields.{lengthOf}
+use Rattle.head.specs.Fields.{lengthOf}
 use Rattle.message.specs.Message.{Message, keyPlace, placeIn}
 use Rattle.message.specs.Reads.{messageOf}
 use Rattle.message.specs.MessageLaws.{key-found}
@@ -33,12 +33,12 @@ use Rattle.state.specs.declared.answers.Recorded.{Recorded}
 use Rattle.state.specs.Answers.{recordedNumbers, leftBy}
 use Rattle.state.specs.AnswersLaws.{accepted-by}
 use Rattle.state.specs.Memory.{Lent}
-use Rattle.state.specs.Slots.{Slot, slot as recordSlot}
+use Rattle.slots.specs.Slots.{Slot, slot as recordSlot}
 use Rattle.state.specs.State.{segmentRules}
 use Rattle.state.specs.StateLaws.{is-some}
 use Rattle.batch.specs.Batch.{batchLetter, countOf, batchData}
 use Rattle.batch.specs.Acts.{batchActs}
-use Rattle.quotebox.specs.CallRules.{recordRules}
+use Rattle.reading.specs.ReadRules.{recordRules}
 use Rattle.quotebox.specs.Start.{startOf}
 use Rattle.quotebox.specs.StartActs.{lentStarted}
 use Rattle.sequence.specs.Runs.{Run}

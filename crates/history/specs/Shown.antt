@@ -8,14 +8,15 @@ use Rattle.forms.specs.declared.forms.Item.{Item}
 use Rattle.forms.specs.declared.forms.Item.the-variants.{Contract, Pair}
 use Rattle.forms.specs.Names.{Name}
 use Rattle.quote.specs.declared.quote.Quote.{Quote}
-use Rattle.quote.specs.declared.spread.SpreadQuote.{SpreadQuote}
-use Rattle.quote.specs.Quote.{quoteOf, cellsOf}
-use Rattle.quote.specs.Spread.{spreadQuoteOf, spreadCellsOf}
-use Rattle.quote.specs.Shows.{ShowsFields, ShowsSpreadFields}
+use Rattle.spread.specs.declared.spread.SpreadQuote.{SpreadQuote}
+use Rattle.quote.specs.Quote.{quoteOf}
+use Rattle.spread.specs.Spread.{spreadQuoteOf}
+use Rattle.quote.specs.Shows.{ShowsFields}
+use Rattle.spread.specs.Shows.{ShowsSpreadFields}
 use Rattle.state.specs.declared.answers.Recorded.{Recorded}
 use Rattle.state.specs.Memory.{Lent}
-use Rattle.quotebox.specs.Record.{blank, blankSpread}
-use Rattle.quotebox.specs.CallPromises.{ReadsFor}
+use Rattle.reading.specs.Record.{blank, blankSpread}
+use Rattle.reading.specs.Reads.{ReadsFor}
 
 -- 01 "What may be asked", M-100: a contract's record is shown as a quote, a pair's as one of a pair
 abbrev pub QuoteFor : Item → Type 0
@@ -27,11 +28,6 @@ abbrev pub shown : (item : Item) → Form → List ℕ → QuoteFor item
 shown Contract form cells = quoteOf form cells
 shown Pair form cells = spreadQuoteOf form cells
 
--- lent memory: the cells of a quote in a form
-abbrev pub cellsFor : (item : Item) → Form → QuoteFor item → List ℕ
-cellsFor Contract form quote = cellsOf form quote
-cellsFor Pair form quote = spreadCellsOf form quote
-
 -- 01 "What may be asked": the quote beside an answer that is no record
 abbrev pub blankFor : (item : Item) → QuoteFor item
 blankFor Contract = blank
@@ -42,6 +38,6 @@ abbrev pub ShowsEach : (item : Item) → (Name → Option (List ℕ)) → QuoteF
 ShowsEach Contract text quote = ShowsFields text quote
 ShowsEach Pair text quote = ShowsSpreadFields text quote
 
--- 01 "What may be asked", M-100: what reading a record promises: for a contract `ReadRecord`, for a pair `ReadSpread` (`quotebox`)
+-- 01 "What may be asked", M-100: what reading a record promises: for a contract `ReadRecord`, for a pair `ReadSpread` (`reading`)
 abbrev pub ReadsItem : (item : Item) → Lent → ℕ → List ℕ → Level → Recorded → QuoteFor item → Type 0
 ReadsItem item lent letter key level answer quote = ReadsFor (shown item) (blankFor item) item lent letter key level answer quote

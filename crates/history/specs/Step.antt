@@ -14,8 +14,8 @@ use Rattle.forms.specs.declared.forms.Form.{Form}
 use Rattle.forms.specs.declared.forms.Item.{Item}
 use Rattle.forms.specs.declared.forms.Item.the-variants.{Contract, Pair}
 use Rattle.pairs.specs.NoSpreads.{noSpreads}
-use Rattle.quote.specs.Quote.{cellsOf}
-use Rattle.quote.specs.Spread.{spreadCellsOf}
+use Rattle.quote.specs.Quote.{valuesOf}
+use Rattle.spread.specs.Spread.{spreadValuesOf}
 use Rattle.sequence.specs.Gaps.{Gaps}
 use Rattle.sequence.specs.Runs.{Run}
 use Rattle.state.specs.declared.refusal.Refusal.{Refusal}
@@ -30,12 +30,13 @@ use Rattle.state.specs.Memory.{Lent}
 use Rattle.batch.specs.Batch.{batchLetter}
 use Rattle.batch.specs.Acts.{batchActs, answerOf, lentAfter}
 use Rattle.writer.specs.declared.writing.Code.{Code}
-use Rattle.writer.specs.Writer.{cellsWritten, dataWritten, lengthWritten, writeRules, messagePut}
+use Rattle.writer.specs.Writer.{valuesWritten, dataWritten, lengthWritten, writeRules, messagePut}
 use Rattle.writer.specs.Chosen.{formWritten}
 use Rattle.quotebox.specs.StartActs.{startBroken, lentStarted}
 use Rattle.quotebox.specs.Calls.{runsPut, lowestRun, lentWrittenOff}
-use Rattle.quotebox.specs.CallRules.{gapsOfLetter, listRules, writeOffRules, recordRules, noSpreadsRules}
-use Rattle.quotebox.specs.Record.{recordOfKey, recordNumber, quoteAt, quoteBeside}
+use Rattle.quotebox.specs.CallRules.{gapsOfLetter, listRules, writeOffRules, noSpreadsRules}
+use Rattle.reading.specs.ReadRules.{recordRules}
+use Rattle.reading.specs.Record.{recordOfKey, recordNumber, quoteAt, quoteBeside}
 use Rattle.history.specs.Shown.{QuoteFor, shown, blankFor}
 use Rattle.history.specs.Calls as calls
 use Rattle.history.specs.Calls.{Answer, Call, judge, judged, listGaps, listed, read, readRecord, start, started, take, took, withLists, writeMessage, writeSpread, writeOff, wrote, wroteOff}
@@ -101,7 +102,7 @@ readQuote item lent letter key level =
 -- 01, the order of checks: the first broken rule of the writer, of a contract or of a pair, with the cells of its quote
 abbrev pub writeRefusal : Item → Code → Level → ℕ → List ℕ → (Form → List ℕ) → List ℕ → Option Refusal
 writeRefusal item code level number key cells out =
-    firstBroken (writeRules (formWritten item code level) number key (cellsWritten (formWritten item code level) cells) (length out))
+    firstBroken (writeRules (formWritten item code level) number key (valuesWritten (formWritten item code level) cells) (length out))
 
 -- 01 "What may be asked": "the writer its length"
 abbrev pub writeAnswer : Option Refusal → ℕ → Written
@@ -112,7 +113,7 @@ writeAnswer none long = Written.Message long
 abbrev pub writeLeaves : Item → Code → Level → ℕ → List ℕ → (Form → List ℕ) → List ℕ → List ℕ
 writeLeaves item code level number key cells out =
     leftBy (writeRefusal item code level number key cells out) out
-    (messagePut code number (dataWritten (formWritten item code level) key (cellsWritten (formWritten item code level) cells) .bytes) out)
+    (messagePut code number (dataWritten (formWritten item code level) key (valuesWritten (formWritten item code level) cells) .bytes) out)
 
 -- 01 "What may be asked": the answer of the writer, with the bytes lent
 abbrev pub written : Item → Code → Level → ℕ → List ℕ → (Form → List ℕ) → List ℕ → Answer
@@ -144,8 +145,8 @@ step lent (listGaps letter cells) =
 step lent (writeOff letter) =
     record { answer = wroteOff (offAnswer lent letter); left = leftBy (offRefusal lent letter) lent (lentWrittenOff lent letter) }
 step lent (readRecord item letter key level) = record { answer = read item (readAnswer item lent letter key level) (readQuote item lent letter key level); left = lent }
-step lent (writeMessage code level number key quote out) = record { answer = written Contract code level number key (λ form. cellsOf form quote) out; left = lent }
-step lent (writeSpread code level number key quote out) = record { answer = written Pair code level number key (λ form. spreadCellsOf form quote) out; left = lent }
+step lent (writeMessage code level number key quote out) = record { answer = written Contract code level number key (λ form. valuesOf form quote) out; left = lent }
+step lent (writeSpread code level number key quote out) = record { answer = written Pair code level number key (λ form. spreadValuesOf form quote) out; left = lent }
 step lent (calls.noSpreads list out) =
     record {
       answer = wrote (writeAnswer (noSpreadsRefusal list out) (length (noSpreads list))) (leftBy (noSpreadsRefusal list out) out (sets out 0 (noSpreads list)));

@@ -13,7 +13,7 @@ use lib.Dec.{leb, eqb}
 use Rattle.laws.specs.Choice.{either}
 use Rattle.laws.specs.Tests.{any, both, all-three, or-true}
 use Rattle.message.specs.Message.{Message}
-use Rattle.state.specs.Slots.{Slot}
+use Rattle.slots.specs.Slots.{Slot}
 use Rattle.history.specs.Past.{Event, came, off, wroteOffIn, takenOf}
 use Rattle.history.specs.Exactly.{FoundNewest}
 use Rattle.history.specs.Machine.{isNumbered, held, isNew, comesNew, highestOf, sequenceNumber}

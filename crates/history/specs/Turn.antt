@@ -9,7 +9,7 @@ use Rattle.sequence.specs.Row.{gapsOf}
 use Rattle.sequence.specs.RowLaid.{soundGapRow}
 use Rattle.message.specs.Message.{Message}
 use Rattle.turns.specs.Turns.{Box}
-use Rattle.state.specs.Slots.{recordsWanted}
+use Rattle.slots.specs.Slots.{recordsWanted}
 use Rattle.quotebox.specs.Start.{startOf}
 use Rattle.history.specs.Past.{Event, wroteOffIn, takenOf, isTaken, isOld, howMany, allCame}
 use Rattle.history.specs.Segment.{Fits}

@@ -12,7 +12,7 @@ use lib.ListN.{length, getD, drop}
 use lib.Seq.{sets, length-sets}
 use Rattle.laws.specs.Choice.{either}
 use Rattle.laws.specs.Order.{same}
-use Rattle.contracts.specs.Lookup.{segmentOf}
+use Rattle.lookup.specs.Lookup.{segmentOf}
 use Rattle.pairs.specs.Lists.{Lists}
 use Rattle.sequence.specs.Gaps.{Gaps, takes}
 use Rattle.sequence.specs.Changes.{full, after}
@@ -22,14 +22,14 @@ use Rattle.sequence.specs.RowLaid.{laid}
 use Rattle.sequence.specs.RowLaws.{laid-gaps, laid-sound, sound-row-exactly}
 use Rattle.message.specs.declared.body.What.{What}
 use Rattle.message.specs.declared.body.What.the-variants as what
-use Rattle.message.specs.Fields.{lengthOf}
+use Rattle.head.specs.Fields.{lengthOf}
 use Rattle.message.specs.Message.{Message}
 use Rattle.message.specs.Reads.{messageOf}
 use Rattle.turns.specs.ActsLaws.{acts-as}
 use Rattle.turns.specs.Turns.{Box, Acted, acted, refused, numberActs, messageActs, messagesAct}
 use Rattle.stores.specs.Stored.{stored}
-use Rattle.state.specs.Slots.{Slot, SlotListed}
-use Rattle.state.specs.Places.{slotAt, recordOf}
+use Rattle.slots.specs.Slots.{Slot, SlotListed}
+use Rattle.slots.specs.Places.{slotAt, recordOf}
 use Rattle.batch.specs.LeftLaws.{last-box}
 use Rattle.turns.specs.MessagesLaws.{not-both, messages-next, messages-refused}
 use Rattle.quotebox.specs.Start.{startOf}

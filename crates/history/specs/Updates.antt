@@ -7,12 +7,12 @@ use lib.Dec.{eqb}
 use Rattle.forms.specs.declared.rows.Level.{Level}
 use Rattle.forms.specs.declared.forms.Item.{Item}
 use Rattle.forms.specs.Forms.{sameLevel, sameItem, subjectOf}
-use Rattle.contracts.specs.File.{letterAt, keyBy}
+use Rattle.files.specs.File.{letterAt, keyBy}
 use Rattle.pairs.specs.Lists.{Lists}
 use Rattle.message.specs.declared.body.What.{What}
 use Rattle.message.specs.declared.body.What.the-variants.{Heartbeat, PassedOver, Update, Bad}
 use Rattle.message.specs.Items.{fileOf, habitOf}
-use Rattle.state.specs.Slots.{Slot, slot as recordSlot, slotFor}
+use Rattle.slots.specs.Slots.{Slot, slot as recordSlot, slotFor}
 
 -- 01 "What may be asked": one record's slot
 abbrev pub sameSlot : Slot → Slot → Bool

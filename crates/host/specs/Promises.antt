@@ -7,8 +7,8 @@ use Rattle.forms.specs.declared.forms.Form.{Form}
 use Rattle.forms.specs.declared.forms.Item.{Item}
 use Rattle.forms.specs.declared.forms.Item.the-variants.{Contract, Pair}
 use Rattle.forms.specs.declared.rows.Level.{Level}
-use Rattle.quote.specs.Quote.{quoteOf, cellsOf}
-use Rattle.quote.specs.Spread.{spreadQuoteOf, spreadCellsOf}
+use Rattle.quote.specs.Quote.{quoteOf, valuesOf}
+use Rattle.spread.specs.Spread.{spreadQuoteOf, spreadValuesOf}
 use Rattle.state.specs.declared.answers.Started.{Started}
 use Rattle.state.specs.declared.answers.Judged.{Judged}
 use Rattle.state.specs.declared.answers.Listed.{Listed}
@@ -19,9 +19,10 @@ use Rattle.writer.specs.declared.writing.Code.{Code}
 use Rattle.state.specs.Answers.{startedNumbers, judgedNumbers, listedNumbers, writtenOffNumbers, writtenNumbers}
 use Rattle.state.specs.Memory.{Lent}
 use Rattle.batch.specs.Promises.{JudgedBatch, TookBatch}
-use Rattle.quotebox.specs.Record.{blank, blankSpread}
-use Rattle.quotebox.specs.CallPromises.{StartedBox, ListedRuns, WroteOffRun, ReadsFor, PutNoSpreads}
-use Rattle.writer.specs.WriterPromises.{WroteCells}
+use Rattle.reading.specs.Record.{blank, blankSpread}
+use Rattle.quotebox.specs.CallPromises.{StartedBox, ListedRuns, WroteOffRun, PutNoSpreads}
+use Rattle.reading.specs.Reads.{ReadsFor}
+use Rattle.writer.specs.WriterPromises.{WroteValues}
 use Rattle.told.specs.Told.{Tells, recordNumbers}
 use Rattle.values.specs.Values.{rowValues, quoteIn, spreadValues, spreadIn}
 use Rattle.told.specs.Shown.{valuesAfter}
@@ -76,19 +77,19 @@ HostReadSpread lent letter pair level values returned values′ answer′ = Host
 abbrev pub codeOf : List ℕ → Code
 codeOf bytes = record { 0 = getD bytes 0 0; 1 = getD bytes 1 0 }
 
--- 01 "What may be asked", M-100: write a message, of a contract or of a pair, told to a host, from the cells of its quote
-pub record HostWrites (item : Item) (code : List ℕ) (level : Level) (number : ℕ) (key : List ℕ) (cells : Form → List ℕ) (out : List ℕ) (returned : ℕ) (out′ answer′ : List ℕ) : Type 0 where
+-- 01 "What may be asked", M-100: write a message, of a contract or of a pair, told to a host, from the values of its quote
+pub record HostWrites (item : Item) (code : List ℕ) (level : Level) (number : ℕ) (key : List ℕ) (values : Form → List ℕ) (out : List ℕ) (returned : ℕ) (out′ answer′ : List ℕ) : Type 0 where
   pub written : Written
-  pub promised : WroteCells item (codeOf code) level number key cells out written out′
+  pub promised : WroteValues item (codeOf code) level number key values out written out′
   pub tells : Tells (writtenNumbers written) returned answer′
 
 -- 01 "What may be asked": a heartbeat, or an update of a contract, its rows handed as values
 abbrev pub HostWrote : List ℕ → Level → ℕ → List ℕ → List ℕ → List ℕ → ℕ → List ℕ → List ℕ → Type 0
-HostWrote code level number key values out returned out′ answer′ = HostWrites Contract code level number key (λ form. cellsOf form (quoteIn level values)) out returned out′ answer′
+HostWrote code level number key values out returned out′ answer′ = HostWrites Contract code level number key (λ form. valuesOf form (quoteIn level values)) out returned out′ answer′
 
 -- M-100: an update of a pair, its rows handed as values
 abbrev pub HostWroteSpread : List ℕ → Level → ℕ → List ℕ → List ℕ → List ℕ → ℕ → List ℕ → List ℕ → Type 0
-HostWroteSpread code level number pair values out returned out′ answer′ = HostWrites Pair code level number pair (λ form. spreadCellsOf form (spreadIn level values)) out returned out′ answer′
+HostWroteSpread code level number pair values out returned out′ answer′ = HostWrites Pair code level number pair (λ form. spreadValuesOf form (spreadIn level values)) out returned out′ answer′
 
 -- M-100: the spread list without pairs, told to a host
 pub record HostPutNoSpreads (list out : List ℕ) (returned : ℕ) (out′ answer′ : List ℕ) : Type 0 where

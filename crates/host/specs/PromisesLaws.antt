@@ -58,11 +58,11 @@ read-once {A} {valuesOf = valuesOf} {values = values} {level = level} p q =
       p .shows ∙ ap₂ (λ (r : Recorded) (x : A). valuesAfter r (valuesOf level x) values) same quotes ∙ sym (q .shows),
     )
 
-pub write-once : {item : Item} {cells : Form → List ℕ} {code key out out′ out″ answer′ answer″ : List ℕ} {level : Level} {number r s : ℕ}
-    → HostWrites item code level number key cells out r out′ answer′ → HostWrites item code level number key cells out s out″ answer″
+pub write-once : {item : Item} {values : Form → List ℕ} {code key out out′ out″ answer′ answer″ : List ℕ} {level : Level} {number r s : ℕ}
+    → HostWrites item code level number key values out r out′ answer′ → HostWrites item code level number key values out s out″ answer″
     → ((r ≡ s) × (answer′ ≡ answer″)) × (out′ ≡ out″)
-write-once {item} {cells} {code} {key} {out} {level = level} {number = number} p q =
-    let one = one-written item (codeOf code) level number key cells out (p .written) (q .written) (p .promised) (q .promised) in
+write-once {item} {values} {code} {key} {out} {level = level} {number = number} p q =
+    let one = one-written item (codeOf code) level number key values out (p .written) (q .written) (p .promised) (q .promised) in
     (told-once writtenNumbers (one .0) (p .tells) (q .tells), one .1)
 
 pub no-spreads-once : {list out out′ out″ answer′ answer″ : List ℕ} {r s : ℕ} → HostPutNoSpreads list out r out′ answer′

@@ -9,7 +9,7 @@ use lib.ListN.{length, drop}
 use Rattle.laws.specs.Rules.{firstBroken}
 use Rattle.laws.specs.RulesLaws.{front-holds}
 use Rattle.pairs.specs.Lists.{Lists}
-use Rattle.contracts.specs.Lookup.{segmentOf}
+use Rattle.lookup.specs.Lookup.{segmentOf}
 use Rattle.forms.specs.Forms.{subjectOf}
 use Rattle.sequence.specs.Gaps.{Gaps, takes}
 use Rattle.sequence.specs.Changes.{full, after}
@@ -18,7 +18,7 @@ use Rattle.sequence.specs.RowLaid.{laid}
 use Rattle.sequence.specs.RowLaws.{laid-gaps}
 use Rattle.message.specs.declared.body.What.{What}
 use Rattle.message.specs.declared.body.What.the-variants as what
-use Rattle.message.specs.Fields.{lengthOf}
+use Rattle.head.specs.Fields.{lengthOf}
 use Rattle.message.specs.Reads.{messageOf}
 use Rattle.state.specs.declared.refusal.Refusal.{Refusal}
 use Rattle.state.specs.declared.refusal.Refusal.the-variants.{Count, Gaps as GapsOver}

@@ -21,7 +21,7 @@ use Rattle.history.specs.Step.{Outcome, step, startRefusal, startAnswer, batchA
 use Rattle.history.specs.CallsLaws as exactly
 use Rattle.host.specs.Promises.{HostStarted, HostJudged, HostTook, HostListed, HostWroteOff, HostPutNoSpreads, codeOf}
 use Rattle.told.specs.Told.{Tells}
-use Rattle.hosted.specs.HostItems.{cellsIn, HostReadItem, HostWroteItem}
+use Rattle.hosted.specs.HostItems.{laidFrom, HostReadItem, HostWroteItem}
 use Rattle.hosted.specs.HostCalls.{HostCall, HostOutcome, start, judge, take, listGaps, writeOff, read, write, noSpreads, callOf, numbersTold, besideOf, toldBy, hostStep}
 
 -- what is returned, answered and left, as one
@@ -129,7 +129,7 @@ module _ (lent : Lent) where
 
   -- the writer is handed no memory of the box
   write-steps : (item : Item) (level : Level) (code : List ℕ) (number : ℕ) (key values out : List ℕ)
-      → step lent (callOf (write item level code number key values out)) ≡ record { answer = written item (codeOf code) level number key (cellsIn item level values) out; left = lent }
+      → step lent (callOf (write item level code number key values out)) ≡ record { answer = written item (codeOf code) level number key (laidFrom item level values) out; left = lent }
   write-steps Contract level code number key values out = refl
   write-steps Pair level code number key values out = refl
 
@@ -138,19 +138,19 @@ module _ (lent : Lent) where
       ↔ hostStep lent (write item level code number key values out) ≡ gives returned answer′ out′ lent
   write-says item level code number key values out returned out′ answer′ =
       let said : Written =
-      writeAnswer (writeRefusal item (codeOf code) level number key (cellsIn item level values) out) (lengthWritten (formWritten item (codeOf code) level)) in
+      writeAnswer (writeRefusal item (codeOf code) level number key (laidFrom item level values) out) (lengthWritten (formWritten item (codeOf code) level)) in
       let call : HostCall = write item level code number key values out in
       let does = write-steps item level code number key values out in (
         (λ p.
             step-is call
-            (ap (λ (o : Outcome). o .answer) does ∙ exactly.write-exactly lent item (codeOf code) level number key (cellsIn item level values) out (p .written) out′ .0 (p .promised))
+            (ap (λ (o : Outcome). o .answer) does ∙ exactly.write-exactly lent item (codeOf code) level number key (laidFrom item level values) out (p .written) out′ .0 (p .promised))
             (ap (λ (o : Outcome). o .left) does) (p .tells)),
         (λ e.
             let told = sym (ap (toldBy call) does) ∙ e in
             record {
               written = said;
               promised =
-                  exactly.write-exactly lent item (codeOf code) level number key (cellsIn item level values) out said out′ .1
+                  exactly.write-exactly lent item (codeOf code) level number key (laidFrom item level values) out said out′ .1
                   (ap (λ (o : HostOutcome). calls.wrote said (o .beside)) told);
               tells = record { number = sym (ap (λ (o : HostOutcome). o .returned) told); values = sym (ap (λ (o : HostOutcome). o .answer) told) };
             }),

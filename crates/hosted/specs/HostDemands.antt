@@ -7,15 +7,15 @@ use mathlib.Core.List.{List, [], _∷_, _++_}
 use mathlib.Core.Logic.{_↔_}
 use mathlib.Core.Option.{some}
 use lib.ListN.{length, drop}
-use Rattle.contracts.specs.Lookup.{segmentOf}
+use Rattle.lookup.specs.Lookup.{segmentOf}
 use Rattle.pairs.specs.Lists.{Lists}
 use Rattle.forms.specs.declared.forms.Item.{Item}
 use Rattle.forms.specs.declared.rows.Level.{Level}
 use Rattle.message.specs.Message.{Message}
 use Rattle.state.specs.GoodState.{GoodState}
 use Rattle.state.specs.Memory.{Lent}
-use Rattle.state.specs.Slots.{Slot, SlotListed}
-use Rattle.state.specs.Places.{formFor}
+use Rattle.slots.specs.Slots.{Slot, SlotListed}
+use Rattle.slots.specs.Places.{formFor}
 use Rattle.quotebox.specs.Start.{startOf}
 use Rattle.values.specs.Values.{most}
 use Rattle.history.specs.Past.{Event, highestIn, missingIn, runsStanding, takenFor}

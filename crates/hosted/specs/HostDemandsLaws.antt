@@ -7,7 +7,7 @@ use mathlib.Core.Option.{Option, none, some}
 use native.Mathlib.Omega.{arith}
 use lib.ListN.{length}
 use Rattle.laws.specs.Rules.{firstBroken}
-use Rattle.contracts.specs.Lookup.{segmentOf}
+use Rattle.lookup.specs.Lookup.{segmentOf}
 use Rattle.pairs.specs.NoSpreads.{noSpreads}
 use Rattle.forms.specs.declared.forms.Item.{Item}
 use Rattle.forms.specs.declared.rows.Level.{Level}
@@ -23,8 +23,8 @@ use Rattle.state.specs.GoodState.{GoodState}
 use Rattle.state.specs.Memory.{Lent}
 use Rattle.state.specs.Refusals.{refusalNumbers}
 use Rattle.state.specs.RefusalsLaws.{refusalOf}
-use Rattle.state.specs.Slots.{Slot, SlotListed}
-use Rattle.state.specs.Places.{formFor}
+use Rattle.slots.specs.Slots.{Slot, SlotListed}
+use Rattle.slots.specs.Places.{formFor}
 use Rattle.batch.specs.Promises.{JudgedBatch, TookBatch}
 use Rattle.quotebox.specs.CallPromises.{StartedBox, ListedRuns, WroteOffRun}
 use Rattle.quotebox.specs.CallPromisesLaws.{off-refusal, runs-in-cells}
@@ -50,7 +50,7 @@ use Rattle.told.specs.Shown.{valuesAfter}
 use Rattle.told.specs.Told.{toldOf, Tells, recordNumbers}
 use Rattle.hosted.specs.HostCalls.{HostReached}
 use Rattle.hosted.specs.HostHistoriesLaws.{host-reached}
-use Rattle.hosted.specs.HostItems.{valuesFor, cellsIn, HostReadItem}
+use Rattle.hosted.specs.HostItems.{valuesFor, laidFrom, HostReadItem}
 use Rattle.hosted.specs.HostItemsLaws.{item-put}
 use Rattle.hosted.specs.HostToldLaws.{which-refusal, is-refused}
 use Rattle.hosted.specs.HostDemands.{Gives, ListsMissing, TellsLowest, a-run, no-run, TellsNewest, no-record, a-record, TellsCounts, AfterHostCalls, IsRefused, HostRefusalsKeep, HostAcceptedLeave}
@@ -187,7 +187,7 @@ host-refusals-keep lent =
       read-keeps = λ item letter key level values returned values′ answer′ p refused.
           p .shows ∙ stays (p .recorded) (valuesFor item level (p .quote)) values (p .tells) refused;
       write-keeps = λ item code level number key values out returned out′ answer′ p.
-          kept (writeRefusal item (codeOf code) level number key (cellsIn item level values) out) (lengthWritten (formWritten item (codeOf code) level) ∷ []) _
+          kept (writeRefusal item (codeOf code) level number key (laidFrom item level values) out) (lengthWritten (formWritten item (codeOf code) level) ∷ []) _
           (p .promised .answers) (p .promised .out-left) (p .tells);
       no-spreads-keeps = λ list out returned out′ answer′ p.
           kept (noSpreadsRefusal list out) (length (noSpreads list) ∷ []) _ (p .promised .answers) (p .promised .left) (p .tells);

@@ -8,8 +8,8 @@ use Rattle.pairs.specs.Lists.{Lists}
 use Rattle.message.specs.Message.{Message}
 use Rattle.message.specs.Reads.{messageOf}
 use Rattle.state.specs.Memory.{Lent}
-use Rattle.state.specs.Slots.{Slot, SlotListed}
-use Rattle.state.specs.Places.{formFor}
+use Rattle.slots.specs.Slots.{Slot, SlotListed}
+use Rattle.slots.specs.Places.{formFor}
 use Rattle.batch.specs.Batch.{batchLetter}
 use Rattle.values.specs.Values.{most}
 use Rattle.history.specs.Past.{Event, takenFor}

@@ -5,8 +5,8 @@ use Rattle.forms.specs.declared.forms.Form.{Form}
 use Rattle.forms.specs.declared.forms.Item.{Item}
 use Rattle.forms.specs.declared.forms.Item.the-variants.{Contract, Pair}
 use Rattle.forms.specs.declared.rows.Level.{Level}
-use Rattle.quote.specs.Quote.{cellsOf}
-use Rattle.quote.specs.Spread.{spreadCellsOf}
+use Rattle.quote.specs.Quote.{valuesOf}
+use Rattle.spread.specs.Spread.{spreadValuesOf}
 use Rattle.state.specs.Memory.{Lent}
 use Rattle.values.specs.Values.{rowValues, quoteIn, spreadValues, spreadIn}
 use Rattle.history.specs.Shown.{QuoteFor, shown, blankFor}
@@ -17,10 +17,10 @@ abbrev pub valuesFor : (item : Item) → Level → QuoteFor item → List ℕ
 valuesFor Contract level quote = rowValues level quote
 valuesFor Pair level quote = spreadValues level quote
 
--- the host's header: the cells that values hold, of a contract's quote or of a pair's
-abbrev pub cellsIn : Item → Level → List ℕ → Form → List ℕ
-cellsIn Contract level values form = cellsOf form (quoteIn level values)
-cellsIn Pair level values form = spreadCellsOf form (spreadIn level values)
+-- the host's header: what a message is written from: the values of the quote that a host's values hold, a contract's or a pair's
+abbrev pub laidFrom : Item → Level → List ℕ → Form → List ℕ
+laidFrom Contract level values form = valuesOf form (quoteIn level values)
+laidFrom Pair level values form = spreadValuesOf form (spreadIn level values)
 
 -- 01 "What may be asked", M-100: for a contract `HostRead`, for a pair `HostReadSpread` (`host`)
 abbrev pub HostReadItem : Item → Lent → ℕ → List ℕ → Level → List ℕ → ℕ → List ℕ → List ℕ → Type 0
@@ -28,4 +28,4 @@ HostReadItem item lent letter key level values returned values′ answer′ = Ho
 
 -- 01 "What may be asked", M-100: for a contract `HostWrote`, for a pair `HostWroteSpread` (`host`)
 abbrev pub HostWroteItem : Item → List ℕ → Level → ℕ → List ℕ → List ℕ → List ℕ → ℕ → List ℕ → List ℕ → Type 0
-HostWroteItem item code level number key values out returned out′ answer′ = HostWrites item code level number key (cellsIn item level values) out returned out′ answer′
+HostWroteItem item code level number key values out returned out′ answer′ = HostWrites item code level number key (laidFrom item level values) out returned out′ answer′

@@ -18,7 +18,8 @@ use Rattle.message.specs.Message.{keyPlace}
 use Rattle.state.specs.GoodState.{GoodState}
 use Rattle.state.specs.Memory.{Lent}
 use Rattle.quotebox.specs.CallRules.{gapsOfLetter}
-use Rattle.values.specs.Values.{first, most, valueRows, valueOf, heldOf}
+use Rattle.layout.specs.Plain.{valueOf, heldOf}
+use Rattle.values.specs.Values.{first, most, valueRows}
 use Rattle.written.specs.ReadBack.{batchOf}
 use Rattle.host.specs.Promises.{HostJudged, HostTook}
 use Rattle.told.specs.Shown.{valueCount}

@@ -22,13 +22,14 @@ use Rattle.forms.specs.Forms.{rowsOf, recordForm, formsOf, keyBytesOf}
 use Rattle.forms.specs.FormsLaws.{about-subject}
 use Rattle.layout.specs.declared.read.Verdict.the-variants as verdict
 use Rattle.layout.specs.Cells.{zerosBehind}
-use Rattle.layout.specs.Write.{writeRows}
+use Rattle.compose.specs.Write.{writeRows}
 use Rattle.quote.specs.Quote.{ofPair, seenQuote}
-use Rattle.quote.specs.Spread.{seenSpread}
-use Rattle.quote.specs.QuoteTrip.{readAgain, written-back, spread-written-back}
+use Rattle.spread.specs.Spread.{seenSpread}
+use Rattle.quote.specs.QuoteTrip.{readAgain, written-back}
+use Rattle.spread.specs.SpreadTrip.{spread-written-back}
 use Rattle.sequence.specs.Gaps.{Gaps, takes}
 use Rattle.sequence.specs.Changes.{runsAfter, full}
-use Rattle.message.specs.Fields.{numberOf, formIn}
+use Rattle.head.specs.Fields.{numberOf, formIn}
 use Rattle.message.specs.Message.{messageKey, keyPlace}
 use Rattle.state.specs.declared.answers.Judged.{Judged}
 use Rattle.state.specs.declared.answers.Recorded.{Recorded}
@@ -41,9 +42,10 @@ use Rattle.batch.specs.Good.{GoodMessages, GoodBatch}
 use Rattle.batch.specs.Promises.{JudgedBatch, TookBatch}
 use Rattle.batch.specs.TookLaws.{judged-good}
 use Rattle.writer.specs.Chosen.{formWritten}
-use Rattle.writer.specs.WriterPromises.{WroteCells}
-use Rattle.quotebox.specs.CallRules.{gapsOfLetter, recordRules}
-use Rattle.quotebox.specs.Record.{recordOfKey, recordNumber, recordValues}
+use Rattle.writer.specs.WriterPromises.{WroteValues}
+use Rattle.quotebox.specs.CallRules.{gapsOfLetter}
+use Rattle.reading.specs.ReadRules.{recordRules}
+use Rattle.reading.specs.Record.{recordOfKey, recordNumber, recordValues}
 use Rattle.values.specs.Values.{most, quoteIn, spreadIn}
 use Rattle.written.specs.ReadBack.{batchOf, countedAs, ReadsBack}
 use Rattle.written.specs.ReadBackLaws.{numbered, reads-back}
@@ -57,7 +59,7 @@ use Rattle.host.specs.Promises.{HostTook, codeOf}
 use Rattle.told.specs.Shown.{valuesAfter, valueCount}
 use Rattle.told.specs.Told.{Tells, recordNumbers}
 use Rattle.hosted.specs.HostDemands.{Gives}
-use Rattle.hosted.specs.HostItems.{valuesFor, cellsIn, HostReadItem, HostWroteItem}
+use Rattle.hosted.specs.HostItems.{valuesFor, laidFrom, HostReadItem, HostWroteItem}
 use Rattle.hosted.specs.HostItemsLaws.{item-put}
 use Rattle.hosted.specs.HostToldLaws.{is-refused}
 use Rattle.hosted.specs.HostReadBack.{IsUpdate, rowsIn, GivesOne, ReadsOlder, HostReadsBack}
@@ -102,7 +104,7 @@ update-form Pair code level update =
 
 -- values whose rows can be written
 abbrev Writes : Item → Level → List ℕ → List ℕ → Type 0
-Writes item level key values = writeRows 0 (rowsOf (recordForm item level)) key (cellsIn item level values (recordForm item level)) .verdict ≡ verdict.Good
+Writes item level key values = writeRows 0 (rowsOf (recordForm item level)) key (laidFrom item level values (recordForm item level)) .verdict ≡ verdict.Good
 
 -- a word of our own: what the form sees of the quote that values hold
 abbrev seenIn : (item : Item) → Level → List ℕ → QuoteFor item
@@ -110,7 +112,7 @@ seenIn Contract level values = seenQuote (recordForm Contract level) (quoteIn le
 seenIn Pair level values = seenSpread (recordForm Pair level) (spreadIn level values)
 
 seen-shown : (item : Item) (level : Level) (key values : List ℕ) → Writes item level key values
-    → shown item (recordForm item level) (zerosBehind (readAgain (recordForm item level) key (cellsIn item level values (recordForm item level)) .cells)) ≡ seenIn item level values
+    → shown item (recordForm item level) (zerosBehind (readAgain (recordForm item level) key (laidFrom item level values (recordForm item level)) .cells)) ≡ seenIn item level values
 seen-shown Contract level key values fine = written-back (recordForm Contract level) (ap ofPair (about-subject (Of Contract level))) (quoteIn level values) key fine .1
 seen-shown Pair level key values fine = spread-written-back (recordForm Pair level) (ap ofPair (about-subject (Of Pair level))) (spreadIn level values) key fine .1
 
@@ -125,17 +127,17 @@ module _ (item : Item) (code : List ℕ) (level : Level) (number : ℕ) (key val
     abbrev letter : ℕ
     letter = getD code 0 0
 
-    abbrev cells : Form → List ℕ
-    cells = cellsIn item level values
+    abbrev laid : Form → List ℕ
+    laid = laidFrom item level values
 
     abbrev batch : List ℕ
     batch = batchOf (take n out′)
 
-    message-written : WroteCells item (codeOf code) level number key cells out (Written.Message n) out′
+    message-written : WroteValues item (codeOf code) level number key laid out (Written.Message n) out′
     message-written = go (wrote .written) (wrote .promised) (wrote .tells)
       where
-        go : (a : Written) → WroteCells item (codeOf code) level number key cells out a out′ → Tells (writtenNumbers a) 0 (n ∷ 0 ∷ 0 ∷ 0 ∷ [])
-            → WroteCells item (codeOf code) level number key cells out (Written.Message n) out′
+        go : (a : Written) → WroteValues item (codeOf code) level number key laid out a out′ → Tells (writtenNumbers a) 0 (n ∷ 0 ∷ 0 ∷ 0 ∷ [])
+            → WroteValues item (codeOf code) level number key laid out (Written.Message n) out′
         go (Written.Message m) p t = let same : m ≡ n = ap (λ (ns : List ℕ). getD ns 0 0) (sym (t .values)) in rw same at p
         go (Written.Refused refusal) p t = absurd (is-refused refusal t refl)
 
@@ -143,13 +145,13 @@ module _ (item : Item) (code : List ℕ) (level : Level) (number : ℕ) (key val
     form = update-form item code level update
 
     abbrev message : List ℕ
-    message = written item (codeOf code) level number key cells out out′ n (recordForm item level) form message-written
+    message = written item (codeOf code) level number key laid out out′ n (recordForm item level) form message-written
 
     abbrev rows-laid : List ℕ
-    rows-laid = writeRows 0 (rowsOf (recordForm item level)) key (cells (recordForm item level)) .bytes
+    rows-laid = writeRows 0 (rowsOf (recordForm item level)) key (laid (recordForm item level)) .bytes
 
     writable : Writes item level key values
-    writable = rows-good item (codeOf code) level number key cells out out′ n (recordForm item level) form message-written
+    writable = rows-good item (codeOf code) level number key laid out out′ n (recordForm item level) form message-written
 
     -- ---- against a good state that lists its contract or pair and has room for its number
 
@@ -180,7 +182,7 @@ module _ (item : Item) (code : List ℕ) (level : Level) (number : ℕ) (key val
         back : ReadsBack (λ (lent′ : Lent) (recorded : Recorded) (read : QuoteFor item). ReadsItem item lent′ letter key level recorded read)
             lent batch (gapsOfLetter lent letter) (recordNumber (lent .records) at) number (seenIn item level values)
         back =
-            reads-back item (codeOf code) level number key cells out out′ n form few key-long message-written lent state place listed room (shown item) (blankFor item) (seenIn item level values)
+            reads-back item (codeOf code) level number key laid out out′ n form few key-long message-written lent state place listed room (shown item) (blankFor item) (seenIn item level values)
             (seen-shown item level key values)
 
         judged-one : (a : Judged) → JudgedBatch lent batch a → a ≡ countedAs new
@@ -202,19 +204,19 @@ module _ (item : Item) (code : List ℕ) (level : Level) (number : ℕ) (key val
     -- ---- of any memory, where it was taken
 
     short : length message ≤ 32767
-    short = omega (arith, written-short item (codeOf code) level number key cells out out′ n (recordForm item level) form message-written)
+    short = omega (arith, written-short item (codeOf code) level number key laid out out′ n (recordForm item level) form message-written)
 
     there : take n out′ ≡ message
-    there = message-there item (codeOf code) level number key cells out out′ n (recordForm item level) form message-written
+    there = message-there item (codeOf code) level number key laid out out′ n (recordForm item level) form message-written
 
     named : formIn message ≡ is.Form (recordForm item level)
-    named = form-is item (codeOf code) level number key cells out out′ n (recordForm item level) form message-written
+    named = form-is item (codeOf code) level number key laid out out′ n (recordForm item level) form message-written
 
     has-key : messageKey item message ≡ key
-    has-key = key-is item (codeOf code) level number key cells out out′ n (recordForm item level) form message-written (level, about-subject (Of item level)) key-long
+    has-key = key-is item (codeOf code) level number key laid out out′ n (recordForm item level) form message-written (level, about-subject (Of item level)) key-long
 
     has-number : numberOf message ≡ number
-    has-number = number-is item (codeOf code) level number key cells out out′ n (recordForm item level) form message-written few
+    has-number = number-is item (codeOf code) level number key laid out out′ n (recordForm item level) form message-written few
 
     -- what an accepted batch says of the memory that was lent
     module _ (lent : Lent) (good : GoodBatch lent batch) where
@@ -246,6 +248,6 @@ module _ (item : Item) (code : List ℕ) (level : Level) (number : ℕ) (key val
           reads = λ lent lent′ t older.
               let good = took-good t in
               let listed = is-listed lent good in
-              let newer = older-number item lent level letter key number (numbered item (codeOf code) level number key cells out out′ n form few key-long message-written) older in
+              let newer = older-number item lent level letter key number (numbered item (codeOf code) level number key laid out out′ n form few key-long message-written) older in
               values-read lent (good .state) (listed .0) (listed .1) (has-room lent good) newer lent′ t;
         }

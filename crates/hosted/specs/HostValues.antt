@@ -10,10 +10,10 @@ use Rattle.forms.specs.declared.rows.Row.{Row}
 use Rattle.forms.specs.Forms.{rowsOf, recordForm, keyRowsOf}
 use Rattle.layout.specs.declared.read.RowRead.the-variants.{Cell}
 use Rattle.layout.specs.Says.{rowAt, fieldAt, RowSays}
-use Rattle.message.specs.Fields.{numberOf, dataOf}
+use Rattle.head.specs.Fields.{numberOf, dataOf}
 use Rattle.message.specs.Message.{Message}
-use Rattle.state.specs.Slots.{Slot}
-use Rattle.state.specs.Places.{recordRows}
+use Rattle.slots.specs.Slots.{Slot}
+use Rattle.slots.specs.Places.{recordRows}
 use Rattle.values.specs.Values.{first}
 use Rattle.history.specs.Exactly.{IsNewest, NoUpdate}
 use Rattle.history.specs.Updates.{segmentIn, itemIn, levelIn}

@@ -27,20 +27,22 @@ use Rattle.layout.specs.Says.{rowAt, fieldAt, RowSays}
 use Rattle.layout.specs.Read.{readRow, Outcome, rowThen, readRows}
 use Rattle.layout.specs.SaysLaws.{row-exactly}
 use Rattle.quote.specs.Quote.{ofPair}
-use Rattle.quote.specs.QuoteTrip.{read-kept, spread-read-kept}
+use Rattle.quote.specs.QuoteTrip.{read-kept}
+use Rattle.spread.specs.SpreadTrip.{spread-read-kept}
 use Rattle.message.specs.declared.body.What.{What}
 use Rattle.message.specs.declared.body.What.the-variants as what
 use Rattle.message.specs.CallerLaws.{update-told}
-use Rattle.message.specs.Fields.{dataOf}
+use Rattle.head.specs.Fields.{dataOf}
 use Rattle.message.specs.Message.{Message}
 use Rattle.message.specs.Reads.{messageOf}
 use Rattle.message.specs.Numbers.{verdictOf, numberIn}
-use Rattle.state.specs.Slots.{Slot, slot as recordSlot}
-use Rattle.state.specs.Places.{formFor, recordRows}
-use Rattle.state.specs.SlotsLaws.{rows-few, rows-kept}
-use Rattle.values.specs.ValuesLaws.{values-cells, spread-values-cells}
+use Rattle.slots.specs.Slots.{Slot, slot as recordSlot}
+use Rattle.slots.specs.Places.{formFor, recordRows}
+use Rattle.slots.specs.SlotsLaws.{rows-few, rows-kept}
+use Rattle.values.specs.ValuesLaws.{values-behind, spread-values-behind}
 use Rattle.history.specs.KeptLaws.{same-slot}
-use Rattle.history.specs.Shown.{QuoteFor, shown, cellsFor}
+use Rattle.history.specs.Kept.{cellsFor}
+use Rattle.history.specs.Shown.{QuoteFor, shown}
 use Rattle.history.specs.Updates.{sameSlot, slotOf, itemIn, levelIn, isSlot, isOf}
 use Rattle.hosted.specs.HostItems.{valuesFor}
 use Rattle.hosted.specs.HostValues.{levelRows, ValuesSay}
@@ -75,8 +77,8 @@ rows-read i (row ∷ rows) bytes good = go (readRow row (take (widthOf row) byte
 -- the values of the rows are the cells behind the key
 item-cells : (item : Item) (level : Level) (quote : QuoteFor item)
     → take (recordRows item level) (drop (keyRowsOf item) (cellsFor item (recordForm item level) quote)) ≡ valuesFor item level quote
-item-cells Contract level quote = values-cells level quote
-item-cells Pair level quote = spread-values-cells level quote
+item-cells Contract level quote = values-behind level quote
+item-cells Pair level quote = spread-values-behind level quote
 
 -- a quote that was read has the cells that were read
 item-kept : (item : Item) (level : Level) (bytes : List ℕ) → readRows 0 (levelRows item level) bytes .verdict ≡ Good

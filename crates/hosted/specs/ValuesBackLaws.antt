@@ -1,11 +1,11 @@
 -- The values of what was written are those that were handed, from the first row behind the key on; minus zero is zero.
 use Prim.Native.Nat.{ℕ, zero, suc, _+_, _-_, _≤_, _<_, _^_}
 use mathlib.Core.Path.{_≡_, refl, sym, ap, _∙_}
-use mathlib.Core.Bool.{Bool, true, false, cond}
+use mathlib.Core.Bool.{Bool, true, false}
 use mathlib.Core.List.{List, [], _∷_}
 use mathlib.Core.Logic.{⊎-elim}
 use native.Mathlib.Omega.{arith}
-use borrow.Author.Tests.{eqb-true, lt-ltb, le-ltb, ne-eqb}
+use borrow.Author.Tests.{lt-ltb, le-ltb, ne-eqb}
 use lib.Dec.{eqb, leb, ltb}
 use lib.ListN.{length, getD, take, drop, length-drop}
 use lib.Seq.{getD-drop}
@@ -16,22 +16,25 @@ use Rattle.forms.specs.declared.forms.Item.the-variants.{Contract, Pair}
 use Rattle.forms.specs.declared.rows.Level.{Level}
 use Rattle.forms.specs.declared.rows.Level.the-variants.{One, Two}
 use Rattle.forms.specs.Forms.{namedRows, rowsOf, recordForm}
-use Rattle.layout.specs.declared.cells.Held.the-variants.{Nothing, Units}
 use Rattle.layout.specs.declared.read.Verdict.the-variants as verdict
 use Rattle.layout.specs.Cells.{sided}
 use Rattle.layout.specs.Read.{isMarketType, isStatus}
-use Rattle.layout.specs.Write.{letterText, rowText, writeRows, writeRefusal}
-use Rattle.layout.specs.FirstBad.{refusalWritten}
-use Rattle.layout.specs.FirstBadLaws.{write-first}
+use Rattle.compose.specs.Write.{letterText, rowText, writeRows, writeRefusal}
+use Rattle.compose.specs.FirstBad.{refusalWritten}
+use Rattle.compose.specs.FirstBadLaws.{write-first}
 use Rattle.quote.specs.declared.quote.Quote.{Quote}
-use Rattle.quote.specs.declared.spread.SpreadQuote.{SpreadQuote}
-use Rattle.quote.specs.declared.spread.DifferenceCell.{DifferenceCell}
-use Rattle.quote.specs.declared.spread.DifferenceCell.the-variants as difference
-use Rattle.quote.specs.Quote.{priceOf, quantityOf, turnoverOf, cellsOf, seenQuote}
-use Rattle.quote.specs.Spread.{differenceOf, plainZero, seenSpread}
-use Rattle.quote.specs.Shows.{heldPrice, heldQuantity, heldTurnover, heldDifference}
-use Rattle.quote.specs.NumberLaws.{price-number, quantity-number, turnover-number, difference-number, cell-held}
-use Rattle.values.specs.Values.{noValue, minusValue, valueOf, heldOf, letterOf, first, most, valueRows, rowValues, quoteIn, spreadValues, spreadIn}
+use Rattle.spread.specs.declared.spread.SpreadQuote.{SpreadQuote}
+use Rattle.spread.specs.declared.spread.DifferenceCell.{DifferenceCell}
+use Rattle.spread.specs.declared.spread.DifferenceCell.the-variants as difference
+use Rattle.quote.specs.Quote.{priceOf, quantityOf, turnoverOf, valuesOf, seenQuote}
+use Rattle.spread.specs.Spread.{differenceOf, plainZero, seenSpread}
+use Rattle.quote.specs.Shows.{heldPrice, heldQuantity, heldTurnover}
+use Rattle.spread.specs.Shows.{heldDifference}
+use Rattle.quote.specs.NumberLaws.{price-number, quantity-number, turnover-number, cell-held}
+use Rattle.spread.specs.NumberLaws.{difference-number}
+use Rattle.layout.specs.Plain.{noValue, minusValue, valueOf, heldOf, letterOf}
+use Rattle.layout.specs.PlainLaws.{value-back}
+use Rattle.values.specs.Values.{first, most, valueRows, rowValues, quoteIn, spreadValues, spreadIn}
 use Rattle.told.specs.Shown.{valueCount}
 use Rattle.hosted.specs.HostReadBack.{rowsIn}
 
@@ -54,14 +57,6 @@ seen-spread-values : (level : Level) (quote : SpreadQuote) → spreadValues leve
 unfolding spreadValues valueRows namedRows seenSpread
 seen-spread-values One quote = simp seen-difference
 seen-spread-values Two quote = simp seen-difference
-
--- a number that has no sign has its value
-value-back : (v : ℕ) → valueOf false (heldOf false v) ≡ v
-value-back v = go (eqb v noValue) refl
-  where
-    go : (none : Bool) → eqb v noValue ≡ none → valueOf false (cond none Nothing (Units v)) ≡ v
-    go true t = sym (eqb-true v noValue t)
-    go false t = rw t
 
 -- each number holds what its value stands for
 price-held : (v : ℕ) → heldPrice (priceOf (heldOf false v)) ≡ heldOf false v
@@ -96,18 +91,18 @@ take-firsts (suc n) (v ∷ vs) h = ap (λ (l : List ℕ). v ∷ l) (take-firsts 
 
 -- values whose rows can be written
 abbrev pub Writable : Level → List ℕ → List ℕ → Type 0
-Writable level key values = writeRows 0 (rowsOf (recordForm Contract level)) key (cellsOf (recordForm Contract level) (quoteIn level values)) .verdict ≡ verdict.Good
+Writable level key values = writeRows 0 (rowsOf (recordForm Contract level)) key (valuesOf (recordForm Contract level) (quoteIn level values)) .verdict ≡ verdict.Good
 
 module _ (key values : List ℕ) where
   abbrev vs : List ℕ
   vs = drop first values
 
   row-written : (level : Level) → Writable level key values → (k : ℕ) → k < length (rowsOf (recordForm Contract level))
-      → refusalWritten (rowsOf (recordForm Contract level)) key (cellsOf (recordForm Contract level) (quoteIn level values)) k ≡ 0
-  row-written level good = rw good at (write-first (rowsOf (recordForm Contract level)) key (cellsOf (recordForm Contract level) (quoteIn level values)))
+      → refusalWritten (rowsOf (recordForm Contract level)) key (valuesOf (recordForm Contract level) (quoteIn level values)) k ≡ 0
+  row-written level good = rw good at (write-first (rowsOf (recordForm Contract level)) key (valuesOf (recordForm Contract level) (quoteIn level values)))
 
   values-held : (level : Level) → Writable level key values → rowValues level (quoteIn level values) ≡ rowsIn Contract level values
-  unfolding rowValues valueRows namedRows quoteIn rowsOf cellsOf rowText
+  unfolding rowValues valueRows namedRows quoteIn rowsOf valuesOf rowText
   values-held One good =
       let market : letterOf (getD vs 0 0) ≡ getD vs 0 0 = letter-back isMarketType refl (getD vs 0 0) (row-written One good 5 (omega arith)) in
       let status : letterOf (getD vs 7 0) ≡ getD vs 7 0 = letter-back isStatus refl (getD vs 7 0) (row-written One good 12 (omega arith)) in

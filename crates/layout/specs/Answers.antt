@@ -6,8 +6,6 @@ use Rattle.layout.specs.declared.read.RowRead.{RowRead}
 use Rattle.layout.specs.declared.read.RowRead.the-variants.{Cell, Field, Range}
 use Rattle.layout.specs.declared.read.Verdict.{Verdict}
 use Rattle.layout.specs.declared.read.Verdict.the-variants.{Good, Field as FieldAt, Range as RangeAt}
-use Rattle.layout.specs.declared.write.RowPut.{RowPut}
-use Rattle.layout.specs.declared.write.RowPut.the-variants as put
 
 -- 01, the table's rows 11 and 12: what a row's field reads as: its cell, or the refusal
 abbrev pub rowNumbers : RowRead → List ℕ
@@ -20,9 +18,3 @@ abbrev pub verdictNumbers : Verdict → List ℕ
 verdictNumbers Good = 0 ∷ []
 verdictNumbers (FieldAt row) = fieldNo ∷ row ∷ []
 verdictNumbers (RangeAt row) = rangeNo ∷ row ∷ []
-
--- 01, the table's rows 11 and 12: what becomes of one row that is written
-abbrev pub rowPutNumber : RowPut → ℕ
-rowPutNumber put.Fits = 0
-rowPutNumber put.Field = fieldNo
-rowPutNumber put.Range = rangeNo

@@ -1,9 +1,9 @@
 -- What a cell holds: one number for each row of an update; and what a row takes of the key, which has no cell.
 use Prim.Native.Nat.{ℕ, _+_, _^_, _-_}
 use mathlib.Core.Bool.{Bool, true, cond}
-use mathlib.Core.List.{List, [], _∷_, _++_}
+use mathlib.Core.List.{List, _++_}
 use lib.Dec.{eqb, leb, ltb}
-use lib.ListN.{length, getD, drop, replicate}
+use lib.ListN.{length, replicate}
 use Rattle.decimal.specs.Denotes.{belowZero}
 use Rattle.forms.specs.Sizes.{mostRows}
 use Rattle.layout.specs.declared.cells.Held.{Held}
@@ -32,38 +32,15 @@ sideIn cell = cond (ltb cell minus) (Units cell) (sided true (cell - minus))
 abbrev pub heldIn : Bool → ℕ → Held
 heldIn signed cell = cond (eqb cell none) Nothing (cond signed (sideIn cell) (Units cell))
 
--- lent memory: the cell of an amount that has none: all ones less one, which is as far out of every kind's range
-abbrev pub noRoom : ℕ
-noRoom = none - 1
-
--- lent memory: an amount is its own cell: but all ones is no amount's, and where the row has a sign no amount has the minus
-abbrev pub unitsCell : Bool → ℕ → ℕ
-unitsCell signed n = cond signed (cond (ltb n minus) n noRoom) (cond (eqb n none) noRoom n)
-
--- lent memory: the cell of a number: an amount's own, below zero with the minus beside it
-abbrev pub cellOf : Bool → Held → ℕ
-cellOf signed Nothing = none
-cellOf signed (Units n) = unitsCell signed n
-cellOf signed (Below n) = cond (ltb n (minus - 1)) (minus + n) noRoom
+-- lent memory: the cell of a number that was read, which is in range: an amount's own, below zero with the minus beside it
+abbrev pub cellOf : Held → ℕ
+cellOf Nothing = none
+cellOf (Units n) = n
+cellOf (Below n) = minus + n
 
 -- lent memory: a letter's cell holds its byte; any larger number counts as 0
 abbrev pub byteIn : ℕ → ℕ
 byteIn cell = cond (leb cell 255) cell 0
-
--- lent memory: a cell as its row sees it: a key's text has none
-abbrev pub seenCell : Row → ℕ → ℕ
-seenCell (Key width) cell = 0
-seenCell MarketType cell = byteIn cell
-seenCell Status cell = byteIn cell
-seenCell (Price width) cell = cell
-seenCell (Quantity width) cell = cell
-seenCell (Turnover width) cell = cell
-seenCell (Difference width) cell = cellOf true (heldIn true cell)
-
--- lent memory: cells as rows see them, one a row
-abbrev pub seenCells : List Row → List ℕ → List ℕ
-seenCells [] cells = []
-seenCells (row ∷ rows) cells = seenCell row (getD cells 0 0) ∷ seenCells rows (drop 1 cells)
 
 -- lent memory: cells with zeros behind them, as many as the most rows of a form
 abbrev pub zerosBehind : List ℕ → List ℕ

@@ -1,22 +1,13 @@
 -- The laws of a cell's meaning.
-use Prim.Native.Nat.{ℕ, _+_, _-_, _≤_, _<_}
+use Prim.Native.Nat.{ℕ, _+_, _-_, _<_}
 use mathlib.Core.Path.{_≡_, refl}
 use mathlib.Core.Bool.{Bool, true, false, cond, not, false≢true}
-use mathlib.Core.Logic.{⊎-elim}
 use native.Mathlib.Omega.{arith}
 use borrow.Author.Tests.{le-leb, lt-ltb, le-ltb, ne-eqb, eqb-false}
 use lib.Dec.{eqb, ltb}
-use Rattle.laws.specs.Order.{order, same}
 use Rattle.layout.specs.declared.cells.Held.{Held}
 use Rattle.layout.specs.declared.cells.Held.the-variants.{Nothing, Units, Below}
-use Rattle.layout.specs.Cells.{none, minus, noRoom, sided, sideIn, heldIn, cellOf, byteIn}
-
--- where the row has no sign, a cell's meaning gives the cell back
-pub cell-back : (cell : ℕ) → cellOf false (heldIn false cell) ≡ cell
-cell-back cell =
-    ⊎-elim (λ (h : cell ≡ none). rw h)
-    (λ (h : cell ≡ none → ⊥). simp (ne-eqb cell none h))
-    (same cell none)
+use Rattle.layout.specs.Cells.{none, minus, sided, sideIn, heldIn, cellOf, byteIn}
 
 -- a number that a row with a sign, or one without, may hold: only a sign puts it below zero, and minus zero is zero
 abbrev pub MayHold : Bool → Held → Type 0
@@ -50,32 +41,21 @@ holds-so signed cell = whole signed (eqb cell none)
     whole false false = tt
     whole true false = part (ltb cell minus)
 
--- what is put in a cell is read from it, if it is no amount that no cell holds
-pub held-back : (signed : Bool) (held : Held) → MayHold signed held → (cellOf signed held ≡ noRoom → ⊥) → heldIn signed (cellOf signed held) ≡ held
-held-back signed Nothing may small = refl
-held-back false (Units n) may small =
-    ⊎-elim (λ (h : n ≡ none). absurd (small (rw h)))
-    (λ (h : n ≡ none → ⊥). simp (ne-eqb n none h))
-    (same n none)
-held-back true (Units n) may small =
-    ⊎-elim (λ (h : minus ≤ n). absurd (small (simp (le-ltb n minus h))))
-    (λ (h : n < minus). simp (lt-ltb n minus h, ne-eqb n none (λ e. omega arith)))
-    (order minus n)
-held-back false (Below n) may small = absurd (false≢true (may .0))
-held-back true (Below n) may small =
-    ⊎-elim (λ (h : minus - 1 ≤ n). absurd (small (simp (le-ltb n (minus - 1) h))))
-    (λ (h : n < minus - 1).
+-- an amount that every kind's range is under
+abbrev pub Small : Held → Type 0
+Small Nothing = Unit {0}
+Small (Units n) = n < minus - 2
+Small (Below n) = n < minus - 2
+
+-- what was put in a cell is read from it
+pub stored-held : (signed : Bool) (held : Held) → MayHold signed held → Small held → heldIn signed (cellOf held) ≡ held
+stored-held signed Nothing may small = refl
+stored-held false (Units n) may small = simp (ne-eqb n none (λ e. omega arith))
+stored-held true (Units n) may small = simp (lt-ltb n minus (omega arith), ne-eqb n none (λ e. omega arith))
+stored-held false (Below n) may small = absurd (false≢true (may .0))
+stored-held true (Below n) may small =
     let off : minus + n - minus ≡ n = omega arith in
-    simp (lt-ltb n (minus - 1) h, ne-eqb (minus + n) none (λ e. omega arith), le-ltb (minus + n) minus (omega arith), off, ne-eqb n 0 (λ e. omega (arith, may .1))))
-    (order (minus - 1) n)
-
--- an amount that every kind's range is under has a cell
-pub has-cell : (signed : Bool) (n : ℕ) → n < minus - 2 → cellOf signed (Units n) ≡ n
-has-cell false n h = simp (ne-eqb n none (λ e. omega arith))
-has-cell true n h = simp (lt-ltb n minus (omega arith))
-
-pub has-cell-below : (signed : Bool) (n : ℕ) → n < minus - 2 → cellOf signed (Below n) ≡ minus + n
-has-cell-below signed n h = simp (lt-ltb n (minus - 1) (omega arith))
+    simp (ne-eqb (minus + n) none (λ e. omega arith), le-ltb (minus + n) minus (omega arith), off, ne-eqb n 0 (λ e. omega (arith, may .1)))
 
 pub byte-back : (byte : ℕ) → byte < 256 → byteIn byte ≡ byte
 byte-back byte h = simp (le-leb byte 255 (omega arith))

@@ -2,17 +2,13 @@
 use Prim.Native.Nat.{ℕ, _<_}
 use mathlib.Core.Path.{_≡_}
 use mathlib.Core.List.{List}
-use lib.ListN.{getD, take, drop}
 use Rattle.laws.specs.Refused.{fieldNo, rangeNo}
 use Rattle.forms.specs.declared.rows.Row.{Row}
 use Rattle.layout.specs.declared.read.RowRead.{RowRead}
 use Rattle.layout.specs.declared.read.RowRead.the-variants.{Cell, Field, Range}
 use Rattle.layout.specs.declared.read.Verdict.{Verdict}
 use Rattle.layout.specs.declared.read.Verdict.the-variants.{Good, Field as FieldAt, Range as RangeAt}
-use Rattle.forms.specs.Rows.{total}
 use Rattle.layout.specs.Read.{readRow}
-use Rattle.layout.specs.Write.{RowText, rowText, writeRefusal}
-use Rattle.layout.specs.Cells.{keyUsed}
 use Rattle.layout.specs.Says.{fieldAt, rowAt}
 
 -- 01, the table's row 11: FIELD
@@ -27,10 +23,6 @@ range = rangeNo
 abbrev pub rowRead : List Row → List ℕ → ℕ → RowRead
 rowRead rows bytes k = readRow (rowAt rows k) (fieldAt rows bytes k)
 
--- 01 "The message": what row k is to hold, from the bytes of the key that the rows in front leave and from its cell
-abbrev pub rowWritten : List Row → List ℕ → List ℕ → ℕ → RowText
-rowWritten rows key cells k = rowText (rowAt rows k) (drop (total keyUsed (take k rows)) key) (getD cells k 0)
-
 -- 01, the table's rows 11 and 12: a row's refusal by what its field reads as, 0 where there is none
 abbrev pub readRefusal : RowRead → ℕ
 readRefusal (Cell cell) = 0
@@ -40,10 +32,6 @@ readRefusal Range = range
 -- 01, the table's rows 11 and 12: row k's refusal in reading
 abbrev pub refusalRead : List Row → List ℕ → ℕ → ℕ
 refusalRead rows bytes k = readRefusal (rowRead rows bytes k)
-
--- 01, the table's rows 11 and 12: row k's refusal in writing
-abbrev pub refusalWritten : List Row → List ℕ → List ℕ → ℕ → ℕ
-refusalWritten rows key cells k = writeRefusal (rowWritten rows key cells k)
 
 -- 01, the order of checks: row i of so many is refused with this number, and no row in front of it is refused
 pub record FirstAt (refusal : ℕ → ℕ) (count number i : ℕ) : Type 0 where

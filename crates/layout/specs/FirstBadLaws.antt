@@ -1,14 +1,13 @@
--- The verdict of reading rows, and of writing them, is that of the first bad row; and there is one such verdict.
+-- The verdict on rows in turn is that of the first bad row, and there is one such verdict; so that of reading them.
 use Prim.Native.Nat.{ℕ, zero, suc, _+_, _≤_, _<_}
 use mathlib.Core.Path.{_≡_, refl, ap}
 use mathlib.Core.List.{List}
 use mathlib.Core.Logic.{_↔_, ⊎-elim}
 use native.Mathlib.Omega.{arith}
-use native.Mathlib.Nat.{add-zero}
 use native.Mathlib.Numerals.{add-one}
 use borrow.Author.Count.{below-more}
-use lib.ListN.{length, take, drop}
-use lib.Seq.{drop-length, drop-cons, drop-drop, getD-drop}
+use lib.ListN.{length, drop}
+use lib.Seq.{drop-length, drop-cons, drop-drop}
 use Rattle.laws.specs.Order.{order}
 use Rattle.forms.specs.declared.rows.Row.{Row}
 use Rattle.forms.specs.declared.rows.Row.the-variants.{Key}
@@ -16,12 +15,10 @@ use Rattle.layout.specs.declared.read.RowRead.{RowRead}
 use Rattle.layout.specs.declared.read.RowRead.the-variants.{Cell, Field, Range}
 use Rattle.layout.specs.declared.read.Verdict.{Verdict}
 use Rattle.layout.specs.declared.read.Verdict.the-variants.{Good, Field as FieldAt, Range as RangeAt}
-use Rattle.forms.specs.Rows.{widthOf, total, offsetOf}
+use Rattle.forms.specs.Rows.{widthOf, offsetOf}
 use Rattle.forms.specs.RowsLaws.{total-suc}
 use Rattle.layout.specs.Read.{rowThen, readRows}
-use Rattle.layout.specs.Write.{RowText, text, malformed, out-of-range, textThen, writeRefusal, writeRows}
-use Rattle.layout.specs.Cells.{keyUsed}
-use Rattle.layout.specs.FirstBad.{field, range, rowRead, rowWritten, readRefusal, refusalRead, refusalWritten, FirstAt, FirstBad}
+use Rattle.layout.specs.FirstBad.{field, range, rowRead, readRefusal, refusalRead, FirstAt, FirstBad}
 use Rattle.layout.specs.Says.{rowAt}
 
 -- ---- one verdict
@@ -48,13 +45,13 @@ module _ (refusal : ℕ → ℕ) (count : ℕ) where
   one-verdict (RangeAt i) (FieldAt j) p q = absurd (omega (arith, ap refusal (one-place (omega arith) (omega arith) p q), p .refused, q .refused))
   one-verdict (RangeAt i) (RangeAt j) p q = ap RangeAt (one-place (omega arith) (omega arith) p q)
 
-  exactly : (v : Verdict) → FirstBad refusal count v → (w : Verdict) → (v ≡ w) ↔ FirstBad refusal count w
+  pub exactly : (v : Verdict) → FirstBad refusal count v → (w : Verdict) → (v ≡ w) ↔ FirstBad refusal count w
   exactly v p w = (λ e. rw e at p, λ q. one-verdict v w p q)
 
 -- ---- the rows in turn
 
 -- what row i does to the verdict on it and the rows behind it
-data Turn (refusal : ℕ → ℕ) (verdict : ℕ → Verdict) (i : ℕ) : Type 0 where
+pub data Turn (refusal : ℕ → ℕ) (verdict : ℕ → Verdict) (i : ℕ) : Type 0 where
   passes : refusal i ≡ 0 → verdict i ≡ verdict (suc i) → Turn refusal verdict i
   malforms : refusal i ≡ field → verdict i ≡ FieldAt i → Turn refusal verdict i
   overflows : refusal i ≡ range → verdict i ≡ RangeAt i → Turn refusal verdict i
@@ -74,7 +71,7 @@ module _ (refusal : ℕ → ℕ) (count : ℕ) (verdict : ℕ → Verdict) (ends
         go (malforms bad here) later = rw here (record { within = omega arith; refused = bad; none-before = before })
         go (overflows bad here) later = rw here (record { within = omega arith; refused = bad; none-before = before })
 
-    first-bad : FirstBad refusal count (verdict 0)
+    pub first-bad : FirstBad refusal count (verdict 0)
     first-bad = from-row count 0 (omega arith) (λ k h. absurd (omega arith))
 
 -- ---- reading
@@ -102,30 +99,3 @@ module _ (rows : List Row) (bytes : List ℕ) where
   -- and each verdict is given exactly so
   pub read-exactly : (verdict : Verdict) → (readRows 0 rows bytes .verdict ≡ verdict) ↔ FirstBad (refusalRead rows bytes) (length rows) verdict
   read-exactly = exactly (refusalRead rows bytes) (length rows) (readRows 0 rows bytes .verdict) read-first
-
--- ---- writing
-
-module _ (rows : List Row) (key cells : List ℕ) where
-  abbrev from-written : ℕ → Verdict
-  from-written i = writeRows i (drop i rows) (drop (total keyUsed (take i rows)) key) (drop i cells) .verdict
-
-  write-turns : (i : ℕ) → i < length rows → Turn (refusalWritten rows key cells) from-written i
-  write-turns i h = go (rowWritten rows key cells i) refl
-    where
-      begins : {t : RowText} → rowWritten rows key cells i ≡ t
-          → from-written i ≡ textThen t i (writeRows (suc i) (drop (suc i) rows) (drop (total keyUsed (take (suc i) rows)) key) (drop (suc i) cells)) .verdict
-      begins e =
-          rw (from-written, drop-cons rows i (Key 0) h, getD-drop i cells 0 0, add-zero i, e, drop-drop 1 i cells, add-one i, drop-drop (keyUsed (rowAt rows i)) (total keyUsed (take i rows)) key, total-suc keyUsed rows i h)
-
-      go : (t : RowText) → rowWritten rows key cells i ≡ t → Turn (refusalWritten rows key cells) from-written i
-      go (text characters) e = passes (ap writeRefusal e) (begins e)
-      go malformed e = malforms (ap writeRefusal e) (begins e)
-      go out-of-range e = overflows (ap writeRefusal e) (begins e)
-
-  -- the verdict of writing is that of the first bad row
-  pub write-first : FirstBad (refusalWritten rows key cells) (length rows) (writeRows 0 rows key cells .verdict)
-  write-first = first-bad (refusalWritten rows key cells) (length rows) from-written (rw (from-written, drop-length rows)) write-turns
-
-  -- and each verdict is given exactly so
-  pub write-exactly : (verdict : Verdict) → (writeRows 0 rows key cells .verdict ≡ verdict) ↔ FirstBad (refusalWritten rows key cells) (length rows) verdict
-  write-exactly = exactly (refusalWritten rows key cells) (length rows) (writeRows 0 rows key cells .verdict) write-first

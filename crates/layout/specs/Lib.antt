@@ -2,14 +2,11 @@ pub mod Answers
 pub mod AnswersLaws
 pub mod Cells
 pub mod CellsLaws
+pub mod Plain
+pub mod PlainLaws
 pub mod Read
 pub mod ReadLaws
 pub mod Says
 pub mod SaysLaws
-pub mod Write
-pub mod PutLaws
-pub mod RowTextLaws
-pub mod WriteLaws
-pub mod RoundTrip
 pub mod FirstBad
 pub mod FirstBadLaws

@@ -23,14 +23,23 @@ use Rattle.scan.specs.Read.{readAs}
 use Rattle.forms.specs.Rows.{widthOf}
 use Rattle.layout.specs.Answers.{verdictNumbers}
 use Rattle.layout.specs.Cells.{cellOf}
+use Rattle.layout.specs.CellsLaws.{Small}
 
 -- 01, the table's rows 11 and 12: a number's cell, where the text is one
-abbrev pub ofNumber : Bool → Number → RowRead
-ofNumber signed None = Cell (cellOf signed Nothing)
-ofNumber signed (Amount units) = Cell (cellOf signed (Units units))
-ofNumber signed (Below units) = Cell (cellOf signed (held.Below units))
-ofNumber signed Malformed = Field
-ofNumber signed OutOfRange = Range
+abbrev pub ofNumber : Number → RowRead
+ofNumber None = Cell (cellOf Nothing)
+ofNumber (Amount units) = Cell (cellOf (Units units))
+ofNumber (Below units) = Cell (cellOf (held.Below units))
+ofNumber Malformed = Field
+ofNumber OutOfRange = Range
+
+-- a word of our own: what was read has a cell
+abbrev pub SmallRead : Number → Type 0
+SmallRead None = Small Nothing
+SmallRead (Amount units) = Small (Units units)
+SmallRead (Below units) = Small (held.Below units)
+SmallRead Malformed = Unit {0}
+SmallRead OutOfRange = Unit {0}
 
 -- 01 "The message": market type 'N'
 abbrev pub isMarketType : ℕ → Bool
@@ -46,7 +55,7 @@ letterCell taken byte = cond (taken byte) (Cell byte) Field
 
 -- 01 "Numbers in text": a field as a number of its kind
 abbrev pub numberCell : Kind → List ℕ → RowRead
-numberCell kind field = ofNumber (kind .signed) (readAs kind field)
+numberCell kind field = ofNumber (readAs kind field)
 
 -- 01 "The message": one row's field; a key's text is only looked up, and its cell is 0
 unfoldable pub readRow : Row → List ℕ → RowRead

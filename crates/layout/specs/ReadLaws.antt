@@ -9,9 +9,11 @@ use lib.ListN.{length, getD, take, drop, set, length-append, length-drop, drop-o
 use lib.Seq.{sets, sets-eq, drop-cons, drop-drop, take-at}
 use Rattle.decimal.specs.declared.Kind.{Kind}
 use Rattle.scan.specs.declared.Number.{Number}
-use Rattle.scan.specs.Answers.{numberNumbers}
+use Rattle.scan.specs.declared.Number.the-variants.{None, Amount, Below, Malformed, OutOfRange}
+use Rattle.scan.specs.Answers.{Says, numberNumbers}
 use Rattle.scan.specs.AnswersLaws.{number-told}
 use Rattle.scan.specs.Read.{readAs}
+use Rattle.scan.specs.ReadLaws.{reads-exactly}
 use Rattle.forms.specs.declared.rows.Row.{Row}
 use Rattle.forms.specs.declared.rows.Row.the-variants.{Key}
 use Rattle.layout.specs.declared.read.RowRead.{RowRead}
@@ -20,14 +22,25 @@ use Rattle.layout.specs.declared.read.Verdict.{Verdict}
 use Rattle.layout.specs.declared.read.Verdict.the-variants.{Good}
 use Rattle.forms.specs.Rows.{widthOf}
 use Rattle.layout.specs.Answers.{rowNumbers, verdictNumbers}
-use Rattle.layout.specs.Cells.{zerosBehind}
-use Rattle.layout.specs.Read.{ofNumber, numberCell, Outcome, readRows, rowThen, readRow, ReadsRows}
+use Rattle.layout.specs.Cells.{minus, zerosBehind}
+use Rattle.layout.specs.Read.{SmallRead, ofNumber, numberCell, Outcome, readRows, rowThen, readRow, ReadsRows}
 
 -- what the number reader answers of a field, as its row's
 pub of-numbers : (kind : Kind) (field : List ℕ) (number : Number) {row : List ℕ} → numberNumbers number ≡ numberNumbers (readAs kind field)
-    → row ≡ rowNumbers (ofNumber (kind .signed) number) → row ≡ rowNumbers (numberCell kind field)
+    → row ≡ rowNumbers (ofNumber number) → row ≡ rowNumbers (numberCell kind field)
 of-numbers kind field number same e =
-    e ∙ ap (λ (n : Number). rowNumbers (ofNumber (kind .signed) n)) (number-told number (readAs kind field) same)
+    e ∙ ap (λ (n : Number). rowNumbers (ofNumber n)) (number-told number (readAs kind field) same)
+
+-- an amount that was read is in range, and every kind's range has cells
+read-said : (kind : Kind) → kind .most < minus - 2 → (field : List ℕ) (number : Number) → Says kind field number → SmallRead number
+read-said kind small field None says = tt
+read-said kind small field (Amount n) says = omega (arith, says .1)
+read-said kind small field (Below n) says = omega (arith, says .1)
+read-said kind small field Malformed says = tt
+read-said kind small field OutOfRange says = tt
+
+pub read-small : (kind : Kind) → kind .most < minus - 2 → (field : List ℕ) (number : Number) → numberNumbers number ≡ numberNumbers (readAs kind field) → SmallRead number
+read-small kind small field number same = read-said kind small field number (reads-exactly kind field number .0 (sym (number-told number (readAs kind field) same)))
 
 -- cells read earlier stand in front
 abbrev pub behind : List ℕ → Outcome → Outcome

@@ -47,7 +47,7 @@ HeldSays kind field (Below n) = Denotes kind field true n × (n ≤ kind .most)
 -- 01 "Numbers in text" and the table's rows 11 and 12: the cell of the number that the field says; 11 where it has not the shape;
 -- 12 where it is too fine or too large
 abbrev pub NumberSays : Kind → List ℕ → RowRead → Type 0
-NumberSays kind field (Cell cell) = (held : Held) × HeldSays kind field held × (cell ≡ cellOf (kind .signed) held)
+NumberSays kind field (Cell cell) = (held : Held) × HeldSays kind field held × (cell ≡ cellOf held)
 NumberSays kind field Field = (AllSpaces field → ⊥) × (Shape kind field → ⊥)
 NumberSays kind field Range = (s : Shape kind field) × Beyond kind s
 

@@ -43,22 +43,22 @@ module _ (taken : ℕ → Bool) (Takes : ℕ → Type 0) (is : (letter : ℕ) �
 -- ---- a number
 
 module _ (kind : Kind) (field : List ℕ) where
-  number-says : (r : Number) → Says kind field r → NumberSays kind field (ofNumber (kind .signed) r)
+  number-says : (r : Number) → Says kind field r → NumberSays kind field (ofNumber r)
   number-says None h = (Nothing, h, refl)
   number-says (Amount n) h = (Units n, h, refl)
   number-says (number.Below n) h = (Below n, h, refl)
   number-says Malformed h = h
   number-says OutOfRange h = h
 
-  held-said : (held : Held) → HeldSays kind field held → numberCell kind field ≡ Cell (cellOf (kind .signed) held)
-  held-said Nothing h = ap (ofNumber (kind .signed)) (reads-exactly kind field None .1 h)
-  held-said (Units n) h = ap (ofNumber (kind .signed)) (reads-exactly kind field (Amount n) .1 h)
-  held-said (Below n) h = ap (ofNumber (kind .signed)) (reads-exactly kind field (number.Below n) .1 h)
+  held-said : (held : Held) → HeldSays kind field held → numberCell kind field ≡ Cell (cellOf held)
+  held-said Nothing h = ap ofNumber (reads-exactly kind field None .1 h)
+  held-said (Units n) h = ap ofNumber (reads-exactly kind field (Amount n) .1 h)
+  held-said (Below n) h = ap ofNumber (reads-exactly kind field (number.Below n) .1 h)
 
   number-said : (answer : RowRead) → NumberSays kind field answer → numberCell kind field ≡ answer
   number-said (Cell cell) h = held-said (h .0) (h .1) ∙ ap Cell (sym (h .2))
-  number-said Field h = ap (ofNumber (kind .signed)) (reads-exactly kind field Malformed .1 h)
-  number-said Range h = ap (ofNumber (kind .signed)) (reads-exactly kind field OutOfRange .1 h)
+  number-said Field h = ap ofNumber (reads-exactly kind field Malformed .1 h)
+  number-said Range h = ap ofNumber (reads-exactly kind field OutOfRange .1 h)
 
   number-exactly : (answer : RowRead) → numberCell kind field ≡ answer ↔ NumberSays kind field answer
   number-exactly answer =

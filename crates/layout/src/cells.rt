@@ -1,5 +1,7 @@
 ghost use mathlib.Core.Path.{_≡_};
-ghost use Rattle.layout.specs.Cells.{sided, sideIn, heldIn, unitsCell, cellOf, byteIn};
+ghost use Rattle.layout.specs.Cells.{sided, sideIn, heldIn, cellOf, byteIn};
+ghost use Rattle.layout.specs.CellsLaws.{Small};
+ghost use Rattle.layout.specs.Plain.{valueOf};
 
 // What a cell holds for "none".
 pub const NONE: u64 = 0xffff_ffff_ffff_ffff;
@@ -7,10 +9,10 @@ pub const NONE: u64 = 0xffff_ffff_ffff_ffff;
 // The minus of a cell, where its row has a sign.
 const MINUS: u64 = 0x8000_0000_0000_0000;
 
-// The cell of an amount that has none: it is as far out of every kind's range.
+// The value of an amount that has none of its own: it is as far out of every kind's range.
 const NO_ROOM: u64 = NONE - 1;
 
-// What a number's cell means: "none", which is not zero, so many of the kind's unit, or so many below zero.
+// What a number's cell or value means: "none", which is not zero, so many of the kind's unit, or so many below zero.
 pub enum Held {
     Nothing,
     Units(u64),
@@ -40,6 +42,7 @@ fn side_in(cell: u64) -> Held
     sided(true, cell - MINUS)
 }
 
+// Today a value stands for what a cell of the same bits holds.
 pub fn held_in(signed: bool, cell: u64) -> Held
     ensures { λ r. ⌜ r ≡ heldIn signed cell ⌝ }
 {
@@ -52,9 +55,21 @@ pub fn held_in(signed: bool, cell: u64) -> Held
     Held::Units(cell)
 }
 
-// All ones is no amount's cell; and where the row has a sign, no amount has the minus.
-fn units_cell(signed: bool, units: u64) -> u64
-    ensures { λ r. ⌜ r ≡ unitsCell signed units ⌝ }
+// The cell of a number that was read.
+pub fn cell_of(held: Held) -> u64
+    requires { ⌜ Small held ⌝ }
+    ensures { λ r. ⌜ r ≡ cellOf held ⌝ }
+{
+    match held {
+        Held::Nothing => NONE,
+        Held::Units(units) => units,
+        Held::Below(units) => MINUS + units,
+    }
+}
+
+// All ones is no amount's value; and where the row has a sign, no amount has the minus.
+fn units_value(signed: bool, units: u64) -> u64
+    ensures { λ r. ⌜ r ≡ valueOf signed (Held.Units units) ⌝ }
 {
     if signed {
         if units < MINUS {
@@ -68,12 +83,13 @@ fn units_cell(signed: bool, units: u64) -> u64
     units
 }
 
-pub fn cell_of(signed: bool, held: Held) -> u64
-    ensures { λ r. ⌜ r ≡ cellOf signed held ⌝ }
+// Any number's value, in range or not.
+pub fn value_of(signed: bool, held: Held) -> u64
+    ensures { λ r. ⌜ r ≡ valueOf signed held ⌝ }
 {
     match held {
         Held::Nothing => NONE,
-        Held::Units(units) => units_cell(signed, units),
+        Held::Units(units) => units_value(signed, units),
         Held::Below(units) => {
             if units < MINUS - 1 {
                 return MINUS + units;

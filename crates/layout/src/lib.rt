@@ -1,14 +1,13 @@
-// The rows of each message: reading rows into cells, writing cells into rows.
+// The rows of each message, read into cells; and the plain values of numbers, which rows are written from.
 mod cells;
 mod read;
-mod write;
 
 pub use cells::Held;
 pub use cells::NONE;
 pub use cells::byte_in;
-pub use cells::cell_of;
 pub use cells::held_in;
 pub use cells::sided;
+pub use cells::value_of;
 pub use forms::BARE;
 pub use forms::Chosen;
 pub use forms::Form;
@@ -24,7 +23,6 @@ pub use forms::PAIR_ROWS;
 pub use forms::Row;
 pub use forms::Subject;
 pub use forms::Sum;
-pub use forms::count_of;
 pub use forms::data_length;
 pub use forms::form_of;
 pub use forms::key_bytes_of;
@@ -36,5 +34,3 @@ pub use forms::sum_rule;
 pub use forms::written_form;
 pub use read::Verdict;
 pub use read::read_update;
-pub use write::put_front;
-pub use write::write_update;

@@ -4,7 +4,7 @@ ghost use lib.ListN.{length, take};
 ghost use Rattle.forms.specs.Forms.{rowsOf};
 ghost use Rattle.forms.specs.Sizes.{mostRows};
 ghost use Rattle.layout.specs.Answers.{rowNumbers};
-ghost use Rattle.layout.specs.Read.{readRow, ofNumber, isMarketType, isStatus, letterCell, ReadsRows};
+ghost use Rattle.layout.specs.Read.{readRow, SmallRead, ofNumber, isMarketType, isStatus, letterCell, ReadsRows};
 use crate::cells;
 use crate::cells::Held;
 use amount::Difference;
@@ -30,13 +30,15 @@ pub enum Verdict {
     Range(usize),
 }
 
-fn of_number(signed: bool, number: Number) -> RowRead
-    ensures { λ r. ⌜ rowNumbers r ≡ rowNumbers (ofNumber signed number) ⌝ }
+// Only an amount in range has a cell.
+fn of_number(number: Number) -> RowRead
+    requires { ⌜ SmallRead number ⌝ }
+    ensures { λ r. ⌜ rowNumbers r ≡ rowNumbers (ofNumber number) ⌝ }
 {
     match number {
-        Number::None => RowRead::Cell(cells::cell_of(signed, Held::Nothing)),
-        Number::Amount(units) => RowRead::Cell(cells::cell_of(signed, Held::Units(units))),
-        Number::Below(units) => RowRead::Cell(cells::cell_of(signed, Held::Below(units))),
+        Number::None => RowRead::Cell(cells::cell_of(Held::Nothing)),
+        Number::Amount(units) => RowRead::Cell(cells::cell_of(Held::Units(units))),
+        Number::Below(units) => RowRead::Cell(cells::cell_of(Held::Below(units))),
         Number::Malformed => RowRead::Field,
         Number::OutOfRange => RowRead::Range,
     }
@@ -71,10 +73,10 @@ fn read_row(row: Row, field: &[u8]) -> RowRead
         Row::Key(_) => RowRead::Cell(0),
         Row::MarketType => market_type(wire::u8_at(field, 0)),
         Row::Status => status(wire::u8_at(field, 0)),
-        Row::Price(_) => of_number(false, Price::read(field)),
-        Row::Quantity(_) => of_number(false, Quantity::read(field)),
-        Row::Turnover(_) => of_number(false, Turnover::read(field)),
-        Row::Difference(_) => of_number(true, Difference::read(field)),
+        Row::Price(_) => of_number(Price::read(field)),
+        Row::Quantity(_) => of_number(Quantity::read(field)),
+        Row::Turnover(_) => of_number(Turnover::read(field)),
+        Row::Difference(_) => of_number(Difference::read(field)),
     }
 }
 
@@ -114,5 +116,5 @@ fn read_rows(
 pub fn read_update(form: Form, data: &[u8], cells: &mut [u64; MOST_ROWS]) -> Verdict
     ensures { λ r. ⌜ ReadsRows (rowsOf form) (now («data» .entry)) (now (cells .entry)) r (now (cells .exit)) ⌝ }
 {
-    read_rows(forms::rows_of(form), forms::count_of(form), data, cells)
+    read_rows(rows::rows_of(form), rows::count_of(form), data, cells)
 }

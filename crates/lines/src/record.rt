@@ -75,7 +75,7 @@ fn put_rows(
     requires { ⌜ used ≤ length (now page) ⌝ }
     ensures { λ r. ⌜ r ≤ length (now (page .entry)) ⌝ }
 {
-    let rows = forms::rows_of(forms::record_form(item, level));
+    let rows = rows::rows_of(forms::record_form(item, level));
     let first = forms::key_rows_of(item);
     let count = quotebox::record_rows(item, level);
     put_values(page, used, rows, first, values, count)

@@ -15,7 +15,7 @@ use Rattle.forms.specs.declared.forms.Named.{Named}
 use Rattle.forms.specs.declared.forms.Named.the-variants as is
 use Rattle.forms.specs.declared.forms.Subject.{Subject}
 use Rattle.forms.specs.declared.forms.Subject.the-variants.{Nothing, Of}
-use Rattle.contracts.specs.Lookup.{segmentOf}
+use Rattle.lookup.specs.Lookup.{segmentOf}
 use Rattle.pairs.specs.Lists.{Lists}
 use Rattle.layout.specs.Cells.{zerosBehind}
 use Rattle.layout.specs.Read.{readRows}
@@ -26,17 +26,18 @@ use Rattle.forms.specs.Forms.{rowsOf, subjectOf, formsOf, formOf}
 use Rattle.forms.specs.FormsLaws.{fits, told-form}
 use Rattle.message.specs.declared.body.What.{What}
 use Rattle.message.specs.declared.body.What.the-variants as what
-use Rattle.message.specs.declared.head.Head.{Head}
-use Rattle.message.specs.declared.head.Head.the-variants.{Good, Bad}
-use Rattle.message.specs.Good.{GoodMessage, NumberFor, HasNumber, PlaceFor, HasContract}
-use Rattle.message.specs.Fields.{letterOf, secondOf, formIn, lengthOf, numberOf, dataOf}
-use Rattle.message.specs.Rules.{headOf}
+use Rattle.head.specs.declared.head.Head.{Head}
+use Rattle.head.specs.declared.head.Head.the-variants.{Good, Bad}
+use Rattle.message.specs.Good.{GoodMessage, PlaceFor, HasContract}
+use Rattle.head.specs.GoodHead.{NumberFor, HasNumber}
+use Rattle.head.specs.Fields.{letterOf, secondOf, formIn, lengthOf, numberOf, dataOf}
+use Rattle.head.specs.Rules.{headOf}
 use Rattle.message.specs.Message.{TellsOf, messagePlace, ofPlace, ofSubject, ofNamed}
 use Rattle.message.specs.Reads.{rowsRead, ofVerdict, contentsBy, contentsOf, messageOf}
 use Rattle.message.specs.MessageLaws.{good-head, bad-head, length-is}
 use Rattle.message.specs.Numbers.{verdictOf, numberIn}
 use Rattle.message.specs.GoodLaws.{good-exact}
-use Rattle.message.specs.RulesLaws.{unlike}
+use Rattle.head.specs.RulesLaws.{unlike}
 
 -- what an update with no fault is, in the terms of its bytes
 pub record IsUpdate (lists : Lists) (letter : ℕ) (bytes : List ℕ) (number : ℕ) (form : Form) (place : ℕ) : Type 0 where

@@ -9,14 +9,14 @@ use Rattle.laws.specs.Lists.{part-of-front}
 use Rattle.wire.specs.NumberLaws.{number-of-front}
 use Rattle.wire.specs.Number.{numberAt}
 use mathlib.Core.Option.{Option}
-use Rattle.contracts.specs.Lookup.{segmentOf}
+use Rattle.lookup.specs.Lookup.{segmentOf}
 use Rattle.pairs.specs.Lists.{Lists}
 use Rattle.forms.specs.Sizes.{bareLength}
-use Rattle.message.specs.Good.{Framed}
-use Rattle.message.specs.Fields.{dataAt, letterOf, secondOf, lengthOf, numberOf, dataOf, sumSent, endByte, formIn, sumIn, rightSum}
-use Rattle.message.specs.Rules.{headOf}
-use Rattle.message.specs.Tests.{framed, coded, trailed, summed}
-use Rattle.message.specs.HeadLaws.{framed-exact}
+use Rattle.head.specs.GoodHead.{Framed}
+use Rattle.head.specs.Fields.{dataAt, letterOf, secondOf, lengthOf, numberOf, dataOf, sumSent, endByte, formIn, sumIn, rightSum}
+use Rattle.head.specs.Rules.{headOf}
+use Rattle.head.specs.Tests.{framed, coded, trailed, summed}
+use Rattle.head.specs.HeadLaws.{framed-exact}
 use Rattle.forms.specs.declared.forms.Item.{Item}
 use Rattle.forms.specs.Forms.{keyBytesOf}
 use Rattle.message.specs.Message.{messageKey, keyPlace, messagePlace}

@@ -24,29 +24,29 @@ use Rattle.forms.specs.declared.forms.Named.{Named}
 use Rattle.forms.specs.declared.forms.Named.the-variants as is
 use Rattle.forms.specs.declared.forms.Subject.{Subject}
 use Rattle.forms.specs.declared.forms.Subject.the-variants.{Nothing, Of}
-use Rattle.contracts.specs.Lookup.{segmentOf}
-use Rattle.contracts.specs.LookupLaws.{segment-exact, key-exact}
-use Rattle.contracts.specs.File.{segmentsOf}
+use Rattle.lookup.specs.Lookup.{segmentOf}
+use Rattle.lookup.specs.LookupLaws.{segment-exact, key-exact}
+use Rattle.files.specs.File.{segmentsOf}
 use Rattle.pairs.specs.Lists.{Lists, Headers, SoundLists}
 use Rattle.laws.specs.Choice.{never}
 use Rattle.forms.specs.Forms.{subjectOf}
 use Rattle.message.specs.Good.{GoodMessage, GoodRows, PlaceFor, HasContract, KeyListed, KeyFor, HasListedKey}
-use Rattle.message.specs.Fields.{lengthOf, numberOf, dataOf, formIn}
-use Rattle.message.specs.Head.{headRules}
-use Rattle.message.specs.Rules.{headOf}
-use Rattle.message.specs.HeadLaws.{framed-exact, coded-exact, trailed-exact, length-exact, summed-exact, number-exact}
+use Rattle.head.specs.Fields.{lengthOf, numberOf, dataOf, formIn}
+use Rattle.head.specs.Head.{headRules}
+use Rattle.head.specs.Rules.{headOf}
+use Rattle.head.specs.HeadLaws.{framed-exact, coded-exact, trailed-exact, length-exact, summed-exact, number-exact}
 use Rattle.message.specs.declared.body.What.{What}
-use Rattle.message.specs.declared.head.Head.{Head}
-use Rattle.message.specs.declared.head.Head.the-variants.{Good, Bad}
+use Rattle.head.specs.declared.head.Head.{Head}
+use Rattle.head.specs.declared.head.Head.the-variants.{Good, Bad}
 use Rattle.message.specs.Message.{messagePlace, placeThere, keyPlace, rowsIn, ofNamed}
 use Rattle.message.specs.Items.{fileOf}
 use Rattle.message.specs.ItemsLaws.{sound-headers, segments-of, sound-of}
 use Rattle.message.specs.Reads.{rowsRead, ofVerdict, contentsBy, contentsOf, ofHead, messageOf}
 use Rattle.message.specs.Order.{rowRules, subjectRules, keyRules, bodyRules, messageRules}
-use Rattle.message.specs.Tests.{isSome, isFormed, isInRange}
+use Rattle.head.specs.Tests.{isSome, isFormed, isInRange}
 use Rattle.message.specs.Numbers.{verdictOf}
 use Rattle.message.specs.OrderLaws.{message-first}
-use Rattle.message.specs.RulesLaws.{good-hold, hold-good}
+use Rattle.head.specs.RulesLaws.{good-hold, hold-good}
 
 -- a row that is well formed and in range has a cell
 cell-exact : (answer : RowRead) → (isFormed answer ≡ true) × (isInRange answer ≡ true) ↔ (cell : ℕ) × (answer ≡ Cell cell)

@@ -1,8 +1,8 @@
 -- What is listed, contracts and pairs, each in its house file: 01 "The contract list", M-100.
 use Prim.Native.Nat.{ℕ}
 use mathlib.Core.List.{List}
-use Rattle.contracts.specs.declared.habit.Habit.{Habit}
-use Rattle.contracts.specs.Habits as habits
+use Rattle.files.specs.declared.habit.Habit.{Habit}
+use Rattle.files.specs.Habits as habits
 use Rattle.pairs.specs.Habits as pairHabits
 use Rattle.pairs.specs.Lists.{Lists}
 use Rattle.forms.specs.declared.forms.Item.{Item}

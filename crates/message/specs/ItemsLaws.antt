@@ -2,7 +2,7 @@
 use Prim.Native.Nat.{ℕ, _≤_, _<_}
 use mathlib.Core.Path.{_≡_, refl}
 use native.Mathlib.Omega.{arith}
-use Rattle.contracts.specs.File.{segmentsOf}
+use Rattle.files.specs.File.{segmentsOf}
 use Rattle.pairs.specs.Lists.{Lists, Headers, SoundLists}
 use Rattle.contracts.specs.Sound.{HeaderBy, SoundBy}
 use Rattle.forms.specs.declared.forms.Item.{Item}

@@ -1,11 +1,7 @@
 pub mod CallerLaws
-pub mod Cases
-pub mod Fields
 pub mod FrontLaws
 pub mod Good
 pub mod GoodLaws
-pub mod Head
-pub mod HeadLaws
 pub mod Items
 pub mod ItemsLaws
 pub mod Message
@@ -15,6 +11,3 @@ pub mod NumbersLaws
 pub mod Order
 pub mod OrderLaws
 pub mod Reads
-pub mod Rules
-pub mod RulesLaws
-pub mod Tests

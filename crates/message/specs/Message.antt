@@ -5,7 +5,7 @@ use mathlib.Core.List.{List, []}
 use mathlib.Core.Option.{Option, none, some}
 use lib.ListN.{take}
 use Rattle.pairs.specs.Lists.{Lists}
-use Rattle.contracts.specs.Lookup.{segmentOf, lookup}
+use Rattle.lookup.specs.Lookup.{segmentOf, lookup}
 use Rattle.forms.specs.declared.rows.Level.{Level}
 use Rattle.forms.specs.declared.forms.Form.{Form}
 use Rattle.forms.specs.declared.forms.Named.{Named}
@@ -17,8 +17,8 @@ use Rattle.forms.specs.declared.rows.Row.{Row}
 use Rattle.forms.specs.Forms.{rowsOf, subjectOf, keyBytesOf}
 use Rattle.message.specs.declared.body.What.{What}
 use Rattle.message.specs.declared.body.What.the-variants as what
-use Rattle.message.specs.declared.head.Fault.the-variants as fault
-use Rattle.message.specs.Fields.{dataOf}
+use Rattle.head.specs.declared.head.Fault.the-variants as fault
+use Rattle.head.specs.Fields.{dataOf}
 use Rattle.message.specs.Items.{fileOf, habitOf}
 
 -- 01 "The message", M-100: an update tells of a contract or a pair, at a level

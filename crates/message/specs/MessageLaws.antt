@@ -4,7 +4,7 @@ use mathlib.Core.Path.{_≡_, refl, sym, _∙_}
 use mathlib.Core.List.{List}
 use mathlib.Core.Option.{Option, none, some}
 use Rattle.laws.specs.Choice.{never}
-use Rattle.contracts.specs.Lookup.{segmentOf}
+use Rattle.lookup.specs.Lookup.{segmentOf}
 use Rattle.pairs.specs.Lists.{Lists}
 use Rattle.layout.specs.declared.read.Verdict.{Verdict}
 use Rattle.layout.specs.AnswersLaws.{verdict-told}
@@ -20,11 +20,11 @@ use Rattle.layout.specs.Read.{Outcome, readRows, ReadsRows}
 use Rattle.message.specs.declared.body.What.{What}
 use Rattle.message.specs.declared.body.What.the-variants as what
 use Rattle.message.specs.declared.body.Outline.{Outline}
-use Rattle.message.specs.declared.head.Fault.{Fault}
-use Rattle.message.specs.declared.head.Head.{Head}
-use Rattle.message.specs.declared.head.Head.the-variants as head
-use Rattle.message.specs.Fields.{formIn, lengthOf, numberOf, dataOf}
-use Rattle.message.specs.Rules.{headOf}
+use Rattle.head.specs.declared.head.Fault.{Fault}
+use Rattle.head.specs.declared.head.Head.{Head}
+use Rattle.head.specs.declared.head.Head.the-variants as head
+use Rattle.head.specs.Fields.{formIn, lengthOf, numberOf, dataOf}
+use Rattle.head.specs.Rules.{headOf}
 use Rattle.message.specs.NumbersLaws.{what-told}
 use Rattle.message.specs.Message.{Message, TellsOf, placeIn, placeThere, placesThere, messageKey, messagePlace, keyPlace, ofPlace}
 use Rattle.message.specs.Reads.{Outlines, rowsRead, ofVerdict, bare, contentsBy, contentsOf, messageOf, ReadsMessage}

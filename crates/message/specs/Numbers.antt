@@ -2,33 +2,14 @@
 use Prim.Native.Nat.{ℕ}
 use mathlib.Core.List.{List, [], _∷_}
 use mathlib.Core.Option.{Option, none, some}
-use Rattle.laws.specs.Refused.{frameNo, codeNo, trailerNo, lengthNo, checksumNo, numberingNo, fieldNo, rangeNo, contractNo}
 use Rattle.forms.specs.declared.forms.Form.{Form}
 use Rattle.forms.specs.Answers.{Tells, subjectLevel}
 use Rattle.forms.specs.Forms.{subjectOf}
 use Rattle.message.specs.declared.body.What.{What}
 use Rattle.message.specs.declared.body.What.the-variants.{Heartbeat, PassedOver, Update, Bad}
-use Rattle.message.specs.declared.head.Fault.{Fault}
-use Rattle.message.specs.declared.head.Fault.the-variants.{Frame, Code, Trailer, Length, Checksum, Numbering, Field, Range, Contract}
-use Rattle.message.specs.declared.head.Head.{Head}
-use Rattle.message.specs.declared.head.Head.the-variants as head
-
--- 01, the table: the row's number, and the row of the data where it returns one
-abbrev pub faultNumbers : Fault → List ℕ
-faultNumbers Frame = frameNo ∷ []
-faultNumbers Code = codeNo ∷ []
-faultNumbers Trailer = trailerNo ∷ []
-faultNumbers Length = lengthNo ∷ []
-faultNumbers Checksum = checksumNo ∷ []
-faultNumbers Numbering = numberingNo ∷ []
-faultNumbers (Field row) = fieldNo ∷ row ∷ []
-faultNumbers (Range row) = rangeNo ∷ row ∷ []
-faultNumbers Contract = contractNo ∷ []
-
--- 01, the table's rows 5 to 10: 0 where none of them is broken, or the fault's
-abbrev pub headNumbers : Head → List ℕ
-headNumbers head.Good = 0 ∷ []
-headNumbers (head.Bad fault) = faultNumbers fault
+use Rattle.head.specs.declared.head.Head.{Head}
+use Rattle.head.specs.declared.head.Head.the-variants as head
+use Rattle.head.specs.Faults.{faultNumbers}
 
 -- 01 "The message": 0 for a message with no fault; then the number by which it counts in the sequence, an update's level and
 -- its place

@@ -12,14 +12,14 @@ use Rattle.forms.specs.declared.forms.Subject.the-variants as subject
 use Rattle.forms.specs.declared.rows.Row.{Row}
 use Rattle.forms.specs.Forms.{subjectOf}
 use Rattle.pairs.specs.Lists.{Lists}
-use Rattle.contracts.specs.Lookup.{segmentOf}
+use Rattle.lookup.specs.Lookup.{segmentOf}
 use Rattle.layout.specs.Read.{readRow}
 use Rattle.forms.specs.Rows.{widthOf}
-use Rattle.message.specs.declared.head.Fault.{Fault}
-use Rattle.message.specs.declared.head.Fault.the-variants.{Field, Range, Contract}
-use Rattle.message.specs.Fields.{dataOf, formIn}
-use Rattle.message.specs.Head.{headRules}
-use Rattle.message.specs.Tests.{isSome, isFormed, isInRange}
+use Rattle.head.specs.declared.head.Fault.{Fault}
+use Rattle.head.specs.declared.head.Fault.the-variants.{Field, Range, Contract}
+use Rattle.head.specs.Fields.{dataOf, formIn}
+use Rattle.head.specs.Head.{headRules}
+use Rattle.head.specs.Tests.{isSome, isFormed, isInRange}
 use Rattle.message.specs.Message.{messagePlace, rowsIn}
 
 -- 01, the order of checks: rows in turn from row i on, 11 before 12 in a row

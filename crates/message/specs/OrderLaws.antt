@@ -21,22 +21,22 @@ use Rattle.layout.specs.Read.{readRow, readRows}
 use Rattle.forms.specs.Rows.{widthOf}
 use Rattle.message.specs.declared.body.What.{What}
 use Rattle.message.specs.declared.body.What.the-variants as what
-use Rattle.message.specs.declared.head.Fault.{Fault}
-use Rattle.message.specs.declared.head.Fault.the-variants.{Field, Range, Contract}
-use Rattle.message.specs.declared.head.Head.{Head}
-use Rattle.message.specs.declared.head.Head.the-variants.{Good, Bad}
-use Rattle.contracts.specs.Lookup.{segmentOf}
+use Rattle.head.specs.declared.head.Fault.{Fault}
+use Rattle.head.specs.declared.head.Fault.the-variants.{Field, Range, Contract}
+use Rattle.head.specs.declared.head.Head.{Head}
+use Rattle.head.specs.declared.head.Head.the-variants.{Good, Bad}
+use Rattle.lookup.specs.Lookup.{segmentOf}
 use Rattle.pairs.specs.Lists.{Lists}
 use Rattle.forms.specs.Forms.{subjectOf}
-use Rattle.message.specs.Fields.{lengthOf, numberOf, dataOf, formIn}
-use Rattle.message.specs.Head.{headRules}
-use Rattle.message.specs.Rules.{headOf, firstFault}
+use Rattle.head.specs.Fields.{lengthOf, numberOf, dataOf, formIn}
+use Rattle.head.specs.Head.{headRules}
+use Rattle.head.specs.Rules.{headOf, firstFault}
 use Rattle.message.specs.Message.{messagePlace, rowsIn, ofPlace, ofSubject, ofNamed}
 use Rattle.message.specs.Reads.{rowsRead, ofVerdict, ofHead, contentsBy, contentsOf, messageOf}
 use Rattle.message.specs.Numbers.{verdictOf}
-use Rattle.message.specs.Tests.{isSome}
+use Rattle.head.specs.Tests.{isSome}
 use Rattle.message.specs.Order.{rowRules, subjectRules, keyRules, bodyRules, messageRules}
-use Rattle.message.specs.RulesLaws.{andThen, first-append, bad-broken, broken-bad}
+use Rattle.head.specs.RulesLaws.{andThen, first-append, bad-broken, broken-bad}
 
 -- a verdict on rows as one on a message
 abbrev asHead : Verdict → Head

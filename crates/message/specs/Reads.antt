@@ -6,7 +6,7 @@ use mathlib.Core.List.{List, []}
 use mathlib.Core.Option.{Option}
 use lib.Seq.{sets}
 use Rattle.pairs.specs.Lists.{Lists}
-use Rattle.contracts.specs.Lookup.{segmentOf}
+use Rattle.lookup.specs.Lookup.{segmentOf}
 use Rattle.forms.specs.declared.forms.Item.{Item}
 use Rattle.layout.specs.declared.read.Verdict.{Verdict}
 use Rattle.layout.specs.declared.read.Verdict.the-variants as verdict
@@ -15,11 +15,11 @@ use Rattle.layout.specs.Read.{Outcome, readRows}
 use Rattle.message.specs.declared.body.What.{What}
 use Rattle.message.specs.declared.body.What.the-variants as what
 use Rattle.message.specs.declared.body.Outline.{Outline}
-use Rattle.message.specs.declared.head.Fault.the-variants as fault
-use Rattle.message.specs.declared.head.Head.{Head}
-use Rattle.message.specs.declared.head.Head.the-variants as head
-use Rattle.message.specs.Fields.{formIn, lengthOf, numberOf, dataOf}
-use Rattle.message.specs.Rules.{headOf}
+use Rattle.head.specs.declared.head.Fault.the-variants as fault
+use Rattle.head.specs.declared.head.Head.{Head}
+use Rattle.head.specs.declared.head.Head.the-variants as head
+use Rattle.head.specs.Fields.{formIn, lengthOf, numberOf, dataOf}
+use Rattle.head.specs.Rules.{headOf}
 use Rattle.message.specs.Numbers.{TellsWhat}
 use Rattle.message.specs.Message.{Message, messagePlace, ofNamed, rowsIn}
 

@@ -3,29 +3,27 @@ ghost use mathlib.Core.Path.{_≡_};
 ghost use mathlib.Core.Bool.{true};
 ghost use lib.ListN.{take};
 ghost use Rattle.laws.specs.Refused.{contractNo};
-ghost use Rattle.contracts.specs.Answers.{placeOf, foundNumbers, lookedUp};
+ghost use Rattle.lookup.specs.Answers.{placeOf, foundNumbers, lookedUp};
 ghost use Rattle.pairs.specs.Lists.{lists};
-ghost use Rattle.contracts.specs.Lookup.{segmentOf};
+ghost use Rattle.lookup.specs.Lookup.{segmentOf};
 ghost use Rattle.forms.specs.Forms.{keyBytesOf};
-ghost use Rattle.message.specs.Good.{Framed};
-ghost use Rattle.message.specs.Fields.{lengthOf, formIn};
-ghost use Rattle.message.specs.Head.{formRules};
-ghost use Rattle.message.specs.Tests.{framed};
+ghost use Rattle.head.specs.GoodHead.{Framed};
+ghost use Rattle.head.specs.Fields.{lengthOf, formIn};
+ghost use Rattle.head.specs.Head.{formRules};
+ghost use Rattle.head.specs.Tests.{framed};
 ghost use Rattle.message.specs.Message.{TellsOf, placeThere, placesThere, ofPlace};
 ghost use Rattle.message.specs.Reads.{rowsRead, cellsBy, cellsRead, contentsBy, bare, ofHead, messageOf, Outlines, ReadsMessage};
 ghost use Rattle.message.specs.Numbers.{TellsWhat};
-ghost use Rattle.message.specs.Rules.{firstFault};
-use crate::fields;
-use crate::head;
-use crate::head::Fault;
-use crate::head::Head;
-use contracts::Found;
+ghost use Rattle.head.specs.Rules.{firstFault};
+use head::Fault;
+use head::Head;
 use layout::Form;
 use layout::Item;
 use layout::MOST_ROWS;
 use layout::Named;
 use layout::Subject;
 use layout::Verdict;
+use lookup::Found;
 
 pub enum What {
     Heartbeat,
@@ -49,8 +47,8 @@ pub fn find(list: &[u8], spreads: &[u8], item: Item, segment: Found, key: &[u8])
 {
     match segment {
         Found::At(place) => match item {
-            Item::Contract => contracts::place_of(list, contracts::CONTRACTS, place, key),
-            Item::Pair => contracts::place_of(spreads, pairs::PAIRS, place, key),
+            Item::Contract => lookup::place_of(list, files::CONTRACTS, place, key),
+            Item::Pair => lookup::place_of(spreads, pairs::PAIRS, place, key),
         },
         Found::Nowhere => Found::Nowhere,
     }
@@ -95,9 +93,9 @@ fn update(
     requires { ⌜ Framed (now bytes) × (whole ≡ lengthOf (now bytes)) × (formIn (now bytes) ≡ Named.Form form) × TellsOf item form ⌝ }
     ensures { λ r. ⌜ ReadsMessage (contentsBy (placesThere (lists (now (list .entry)) (now (spreads .entry))) (now (bytes .entry)) (placeOf segment)) (now (bytes .entry))) (rowsRead (now (bytes .entry)) .cells) (now (cells .entry)) r (now (cells .exit)) ⌝ }
 {
-    let number = fields::number_of(bytes);
-    let end = whole - fields::TRAILER;
-    let data = &bytes[fields::DATA..end];
+    let number = head::number_of(bytes);
+    let end = whole - head::TRAILER;
+    let data = &bytes[head::DATA..end];
     let what = match layout::read_update(form, data, cells) {
         Verdict::Good => placed(list, spreads, segment, data, number, form, item),
         Verdict::Field(row) => What::Bad(Fault::Field(row)),
@@ -121,7 +119,7 @@ fn contents(
     requires { ⌜ (framed (now bytes) ≡ true) × (named ≡ formIn (now bytes)) ⌝ }
     ensures { λ r. ⌜ ReadsMessage (contentsBy (placesThere (lists (now (list .entry)) (now (spreads .entry))) (now (bytes .entry)) (placeOf segment)) (now (bytes .entry))) (rowsRead (now (bytes .entry)) .cells) (now (cells .entry)) r (now (cells .exit)) ⌝ }
 {
-    let whole = fields::length_of(bytes);
+    let whole = head::length_of(bytes);
     match named {
         Named::Form(form) => match layout::subject_of(form) {
             Subject::Nothing => Outline {
@@ -133,11 +131,11 @@ fn contents(
             }
         },
         Named::NoLength => Outline {
-            what: What::PassedOver(fields::number_of(bytes)),
+            what: What::PassedOver(head::number_of(bytes)),
             length: whole,
         },
         Named::PassedOver => Outline {
-            what: What::PassedOver(fields::number_of(bytes)),
+            what: What::PassedOver(head::number_of(bytes)),
             length: whole,
         },
     }
@@ -148,7 +146,7 @@ fn bad(fault: Fault, bytes: &[u8]) -> Outline
 {
     Outline {
         what: What::Bad(fault),
-        length: fields::length_of(bytes),
+        length: head::length_of(bytes),
     }
 }
 
@@ -184,7 +182,7 @@ pub fn read(
     ensures { λ r. ⌜ ReadsMessage (messageOf (lists (now (list .entry)) (now (spreads .entry))) letter (now (bytes .entry))) (cellsRead (lists (now (list .entry)) (now (spreads .entry))) letter (now (bytes .entry))) (now (cells .entry)) r (now (cells .exit)) ⌝ }
 {
     match head::judge_frame(letter, segment, bytes) {
-        Head::Good => formed(list, spreads, segment, bytes, fields::form_in(bytes), cells),
+        Head::Good => formed(list, spreads, segment, bytes, head::form_in(bytes), cells),
         Head::Bad(fault) => bad(fault, bytes),
     }
 }

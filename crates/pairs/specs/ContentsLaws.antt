@@ -3,9 +3,9 @@
 use Prim.Native.Nat.{ℕ}
 use mathlib.Core.Path.{_≡_}
 use mathlib.Core.List.{List}
-use Rattle.contracts.specs.BelowLaws.{all-same}
+use Rattle.files.specs.BelowLaws.{all-same}
 use Rattle.contracts.specs.ContentsLaws.{segments-same, letter-same, bodies-unread}
-use Rattle.contracts.specs.File.{segmentsOf}
+use Rattle.files.specs.File.{segmentsOf}
 use Rattle.pairs.specs.Habits.{pairs}
 use Rattle.contracts.specs.Sound.{SameContents}
 use Rattle.pairs.specs.SpreadTests.{sameLetter, spreadHeaderSound}

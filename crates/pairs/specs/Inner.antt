@@ -4,8 +4,8 @@ use mathlib.Core.Bool.{Bool}
 use mathlib.Core.List.{List}
 use Rattle.contracts.specs.declared.check.Part.{Part}
 use Rattle.contracts.specs.declared.check.Part.the-variants.{Entry, Body}
-use Rattle.contracts.specs.Below.{allBelow}
-use Rattle.contracts.specs.File.{segmentsOf}
+use Rattle.files.specs.Below.{allBelow}
+use Rattle.files.specs.File.{segmentsOf}
 use Rattle.pairs.specs.SpreadTests.{sameLetter, pairsListed}
 
 -- a word of our own: segment i of a spread list beside the contract list's, by its entry or by its body

@@ -4,7 +4,6 @@ pub mod Inner
 pub mod Lists
 pub mod NoSpreads
 pub mod NoSpreadsLaws
-pub mod SpreadCases
 pub mod SpreadLaws
 pub mod SpreadTests
 pub mod Spreads

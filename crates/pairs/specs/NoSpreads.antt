@@ -2,7 +2,7 @@
 use Prim.Native.Nat.{ℕ, zero, suc}
 use mathlib.Core.List.{List, [], _∷_, _++_}
 use Rattle.wire.specs.Number.{bytesOf}
-use Rattle.contracts.specs.File.{segmentsOf, entryAt, letterAt}
+use Rattle.files.specs.File.{segmentsOf, entryAt, letterAt}
 
 -- M-100: the entry of a segment without pairs: letter, zero byte, a count of 0 (2 bytes), offset (4)
 abbrev pub emptyEntry : ℕ → ℕ → List ℕ

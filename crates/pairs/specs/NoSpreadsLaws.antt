@@ -12,8 +12,8 @@ use lib.Seq.{sets, getD-append-add}
 use Rattle.laws.specs.Lists.{sets-append}
 use Rattle.laws.specs.Order.{order}
 use Rattle.wire.specs.Number.{numberAt, bytesOf}
-use Rattle.contracts.specs.BelowLaws.{all-pass}
-use Rattle.contracts.specs.File.{segmentsOf, entryAt, letterAt, zeroAt, countAt, offsetAt}
+use Rattle.files.specs.BelowLaws.{all-pass}
+use Rattle.files.specs.File.{segmentsOf, entryAt, letterAt, zeroAt, countAt, offsetAt}
 use Rattle.pairs.specs.Habits.{pairs}
 use Rattle.pairs.specs.NoSpreads.{emptyEntry, emptyEntries, noSpreads}
 use Rattle.contracts.specs.Sound.{Header, HeaderBy}

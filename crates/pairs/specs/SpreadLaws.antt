@@ -8,14 +8,14 @@ use mathlib.Core.Option.{Option, none, some}
 use borrow.Author.Tests.{eqb-true, eq-eqb}
 use lib.Dec.{eqb}
 use Rattle.laws.specs.Tests.{both, conj, all-three}
-use Rattle.contracts.specs.Below.{allBelow}
-use Rattle.contracts.specs.BelowLaws.{each-passes, all-pass}
-use Rattle.contracts.specs.File.{segmentsOf, letterAt, countAt}
-use Rattle.contracts.specs.Habits.{contracts}
+use Rattle.files.specs.Below.{allBelow}
+use Rattle.files.specs.BelowLaws.{each-passes, all-pass}
+use Rattle.files.specs.File.{segmentsOf, letterAt, countAt}
+use Rattle.files.specs.Habits.{contracts}
 use Rattle.pairs.specs.Habits.{pairs}
 use Rattle.contracts.specs.HeaderLaws.{header-exact}
-use Rattle.contracts.specs.Lookup.{placeIn}
-use Rattle.contracts.specs.LookupLaws.{key-at-place, key-exact}
+use Rattle.lookup.specs.Lookup.{placeIn}
+use Rattle.lookup.specs.LookupLaws.{key-at-place, key-exact}
 use Rattle.contracts.specs.Sound.{SoundList}
 use Rattle.contracts.specs.SoundLaws.{sound-exact}
 use Rattle.contracts.specs.SoundTests.{bodySound, headerSoundBy, soundBy}

@@ -5,10 +5,10 @@ use mathlib.Core.Bool.{Bool, true, false, _&&_}
 use mathlib.Core.List.{List}
 use mathlib.Core.Option.{Option, none, some}
 use lib.Dec.{eqb}
-use Rattle.contracts.specs.Below.{allBelow}
-use Rattle.contracts.specs.File.{segmentsOf, letterAt, countAt}
+use Rattle.files.specs.Below.{allBelow}
+use Rattle.files.specs.File.{segmentsOf, letterAt, countAt}
 use Rattle.pairs.specs.Habits.{pairs}
-use Rattle.contracts.specs.Lookup.{placeIn}
+use Rattle.lookup.specs.Lookup.{placeIn}
 use Rattle.contracts.specs.SoundTests.{bodySound, headerSoundBy}
 use Rattle.pairs.specs.Spreads.{pairAt, firstHalf, secondHalf}
 

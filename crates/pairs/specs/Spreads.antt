@@ -3,8 +3,8 @@ use Prim.Native.Nat.{ℕ, _<_}
 use mathlib.Core.Path.{_≡_}
 use mathlib.Core.List.{List}
 use lib.ListN.{take, drop}
-use Rattle.contracts.specs.File.{segmentsOf, letterAt, countAt, keyBy, listedKey}
-use Rattle.contracts.specs.Habits.{contracts}
+use Rattle.files.specs.File.{segmentsOf, letterAt, countAt, keyBy, listedKey}
+use Rattle.files.specs.Habits.{contracts}
 use Rattle.pairs.specs.Habits.{pairs}
 use Rattle.contracts.specs.Sound.{HeaderBy, SoundBy}
 

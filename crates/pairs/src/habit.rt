@@ -1,4 +1,4 @@
-use contracts::Habit;
+use files::Habit;
 
 // The habit of the spread list: a pair is two contracts' keys.
 pub const PAIRS: Habit = Habit {

@@ -1,20 +1,20 @@
 // The spread list beside the contract list: the same segments, and pairs of keys that are listed there.
 ghost use mathlib.Core.Path.{_≡_};
 ghost use Prim.Native.Nat.{_<_};
-ghost use Rattle.contracts.specs.Answers.{placeOf};
-ghost use Rattle.contracts.specs.File.{countAt};
+ghost use Rattle.lookup.specs.Answers.{placeOf};
+ghost use Rattle.files.specs.File.{countAt};
 ghost use Rattle.pairs.specs.Inner.{partFits, eachFits};
-ghost use Rattle.contracts.specs.Lookup.{placeIn};
+ghost use Rattle.lookup.specs.Lookup.{placeIn};
 ghost use Rattle.pairs.specs.SpreadTests.{sameLetter, isFound, pairListed, pairsListed, spreadHeaderSound, spreadsSound};
 use crate::habit::PAIRS;
-use contracts::CONTRACTS;
-use contracts::Found;
 use contracts::Part;
+use files::CONTRACTS;
+use lookup::Found;
 
 fn same_letter(list: &[u8], spreads: &[u8], segment: usize) -> bool
     ensures { λ r. ⌜ r ≡ sameLetter (now (list .entry)) (now (spreads .entry)) segment ⌝ }
 {
-    contracts::letter_at(spreads, segment) == contracts::letter_at(list, segment)
+    files::letter_at(spreads, segment) == files::letter_at(list, segment)
 }
 
 fn is_found(found: Found) -> bool
@@ -29,7 +29,7 @@ fn is_found(found: Found) -> bool
 fn half_listed(list: &[u8], segment: usize, half: &[u8]) -> bool
     ensures { λ r. ⌜ r ≡ isFound (placeIn (now (list .entry)) segment (now (half .entry))) ⌝ }
 {
-    is_found(contracts::place_of(list, CONTRACTS, segment, half))
+    is_found(lookup::place_of(list, CONTRACTS, segment, half))
 }
 
 // The halves of a pair are two contracts' keys.
@@ -45,7 +45,7 @@ fn pair_listed(list: &[u8], spreads: &[u8], segment: usize, place: usize) -> boo
 fn pairs_listed(list: &[u8], spreads: &[u8], segment: usize) -> bool
     ensures { λ r. ⌜ r ≡ pairsListed (now (list .entry)) (now (spreads .entry)) segment ⌝ }
 {
-    let count = contracts::count_at(spreads, segment);
+    let count = files::count_at(spreads, segment);
     let mut place = 0;
     while place < count {
         if !pair_listed(list, spreads, segment, place) {
@@ -68,7 +68,7 @@ fn part_fits(list: &[u8], spreads: &[u8], segment: usize, part: Part) -> bool
 fn each_fits(list: &[u8], spreads: &[u8], part: Part) -> bool
     ensures { λ r. ⌜ r ≡ eachFits (now (list .entry)) (now (spreads .entry)) part ⌝ }
 {
-    let listed = contracts::segments(spreads);
+    let listed = files::segments(spreads);
     let mut i = 0;
     while i < listed {
         if !part_fits(list, spreads, i, part) {
@@ -83,8 +83,7 @@ fn each_fits(list: &[u8], spreads: &[u8], part: Part) -> bool
 pub fn spread_header_sound(list: &[u8], spreads: &[u8]) -> bool
     ensures { λ r. ⌜ r ≡ spreadHeaderSound (now (list .entry)) (now (spreads .entry)) ⌝ }
 {
-    (contracts::header_sound(spreads, PAIRS)
-        & (contracts::segments(spreads) == contracts::segments(list)))
+    (contracts::header_sound(spreads, PAIRS) & (files::segments(spreads) == files::segments(list)))
         && each_fits(list, spreads, Part::Entry)
 }
 

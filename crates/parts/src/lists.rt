@@ -3,9 +3,9 @@ use crate::leaves;
 use crate::say::say;
 use crate::say::say_bool;
 use crate::say::say_with;
-use contracts::CONTRACTS;
-use contracts::Found;
-use contracts::Habit;
+use files::CONTRACTS;
+use files::Habit;
+use lookup::Found;
 
 pub fn say_list(list: &[u8]) {
     say_bool(b"sound ", contracts::sound(list, CONTRACTS));
@@ -42,7 +42,7 @@ pub fn say_no_spreads(list: &[u8], room: &mut [u8]) {
 
 fn say_place(list: &[u8], habit: Habit, segment: usize, key: &[u8]) {
     say_with(b"segment ", segment as u64);
-    match contracts::place_of(list, habit, segment, key) {
+    match lookup::place_of(list, habit, segment, key) {
         Found::Nowhere => say(b" nowhere"),
         Found::At(place) => say_with(b" place ", place as u64),
     }
@@ -55,7 +55,7 @@ pub fn say_key(asked: &[u8], habit: Habit) {
         return;
     }
     let list = &asked[end..];
-    match contracts::segment_of(list, asked[0]) {
+    match lookup::segment_of(list, asked[0]) {
         Found::Nowhere => say(b"nowhere"),
         Found::At(segment) => say_place(list, habit, segment, &asked[1..end]),
     }

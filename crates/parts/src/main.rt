@@ -22,7 +22,7 @@ fn answer(kind: u8, asked: &[u8], row: &mut [u32; CELLS]) {
         b'Q' => leaves::say_number(Quantity::read(asked)),
         b'T' => leaves::say_number(Turnover::read(asked)),
         b'L' => lists::say_list(asked),
-        b'K' => lists::say_key(asked, contracts::CONTRACTS),
+        b'K' => lists::say_key(asked, files::CONTRACTS),
         b'V' => lists::say_key(asked, pairs::PAIRS),
         b'X' => lists::say_spreads(asked),
         b'Z' => lists::say_no_spreads(asked, &mut io::buffer()),

@@ -47,7 +47,7 @@ fn cells_in(asked: &[u8]) -> [u64; MOST_ROWS] {
 }
 
 fn say_data(form: Form, key: &[u8], cells: &[u64; MOST_ROWS], data: &mut [u8]) {
-    match layout::write_update(form, key, cells, data) {
+    match compose::write_update(form, key, cells, data) {
         Verdict::Good => say_bytes(data),
         Verdict::Field(row) => say_with(b"field ", row as u64),
         Verdict::Range(row) => say_with(b"range ", row as u64),

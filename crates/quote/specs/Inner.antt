@@ -1,4 +1,4 @@
--- What the contracts of inner functions cite: the quote and its cells by the numbers of the rows.
+-- What the contracts of inner functions cite: the quote and its values by the numbers of the rows.
 use Prim.Native.Nat.{ℕ, suc, _+_, _≤_}
 use mathlib.Core.Bool.{cond}
 use mathlib.Core.List.{List, [], _∷_, map}
@@ -12,10 +12,7 @@ use Rattle.forms.specs.Sizes.{mostRows, keyRowCount, pairRowCount}
 use Rattle.quote.specs.declared.quote.Order.{Order}
 use Rattle.quote.specs.declared.quote.Quote.{Quote}
 use Rattle.quote.specs.declared.quote.Places.{Places}
-use Rattle.quote.specs.declared.spread.SpreadOrder.{SpreadOrder}
-use Rattle.quote.specs.declared.spread.SpreadQuote.{SpreadQuote}
-use Rattle.quote.specs.Quote.{priceIn, quantityIn, turnoverIn, cellOfPrice, cellOfQuantity, cellOfTurnover, orderIn}
-use Rattle.quote.specs.Spread.{differenceIn, cellOfDifference, spreadOrderIn}
+use Rattle.quote.specs.Quote.{priceIn, quantityIn, turnoverIn, valueOfPrice, valueOfQuantity, valueOfTurnover, orderIn}
 
 -- ---- where rows stand
 
@@ -132,69 +129,43 @@ quoteAt at cells =
       turnover = turnoverIn (cellFrom cells (at .turnover));
     }
 
--- a word of our own: a pair's quote by the numbers of its rows
-abbrev pub spreadQuoteAt : Places → List ℕ → SpreadQuote
-spreadQuoteAt at cells =
-    record {
-      buy = sideAt spreadOrderIn (at .buy) (at .«more_buy») cells;
-      sell = sideAt spreadOrderIn (at .sell) (at .«more_sell») cells;
-      last = differenceIn (cellFrom cells (at .last));
-      traded = quantityIn (cellFrom cells (at .last + 1));
-      opening = differenceIn (cellFrom cells (at .opening));
-      high = differenceIn (cellFrom cells (at .opening + 1));
-      low = differenceIn (cellFrom cells (at .opening + 2));
-      buyers = quantityIn (cellFrom cells (at .totals));
-      sellers = quantityIn (cellFrom cells (at .totals + 1));
-    }
-
 -- ---- writing
 
--- a word of our own: cells with one stored, where it has a row
+-- a word of our own: values with one stored, where it has a row
 abbrev pub putAt : List ℕ → ℕ → ℕ → List ℕ
-putAt cells row cell = sets cells row (cond (ltb row mostRows) (cell ∷ []) [])
+putAt values row value = sets values row (cond (ltb row mostRows) (value ∷ []) [])
 
--- a word of our own: cells with some stored in turn, where they have rows
+-- a word of our own: values with some stored in turn, where they have rows
 abbrev pub puts : List ℕ → ℕ → List ℕ → List ℕ
-puts cells row [] = cells
-puts cells row (cell ∷ more) = puts (putAt cells row cell) (suc row) more
+puts values row [] = values
+puts values row (value ∷ more) = puts (putAt values row value) (suc row) more
 
--- a word of our own: cells with the orders of a side stored: the first, and the others in turn
+-- a word of our own: values with the orders of a side stored: the first, and the others in turn
 abbrev pub putSide : {A : Type 0} → (A → List ℕ) → A → List A → ℕ → ℕ → List ℕ → List ℕ
-putSide each nothing orders first more cells =
+putSide each nothing orders first more values =
     puts
-    (puts (puts (puts (puts cells first (each (getD orders 0 nothing))) more (each (getD orders 1 nothing))) (more + 2) (each (getD orders 2 nothing))) (more + 4) (each (getD orders 3 nothing)))
+    (puts (puts (puts (puts values first (each (getD orders 0 nothing))) more (each (getD orders 1 nothing))) (more + 2) (each (getD orders 2 nothing))) (more + 4) (each (getD orders 3 nothing)))
     (more + 6) (each (getD orders 4 nothing))
 
--- a word of our own: an order's cells
-abbrev pub orderCells : Order → List ℕ
-orderCells order = cellOfPrice (order .price) ∷ cellOfQuantity (order .quantity) ∷ []
+-- a word of our own: an order's values
+abbrev pub orderValues : Order → List ℕ
+orderValues order = valueOfPrice (order .price) ∷ valueOfQuantity (order .quantity) ∷ []
 
--- a word of our own: cells with what is told of the trades of the day, and of all orders, stored: two, three and two in turn
+-- a word of our own: values with what is told of the trades of the day, and of all orders, stored: two, three and two in turn
 abbrev pub putParts : Places → List ℕ → List ℕ → List ℕ → List ℕ → List ℕ
-putParts at trade day totals cells = puts (puts (puts cells (at .last) trade) (at .opening) day) (at .totals) totals
+putParts at trade day totals values = puts (puts (puts values (at .last) trade) (at .opening) day) (at .totals) totals
 
 -- a word of our own: of a contract
 abbrev pub putTrades : Places → Quote → List ℕ → List ℕ
 putTrades at quote =
-    putParts at (cellOfPrice (quote .last) ∷ cellOfQuantity (quote .traded) ∷ [])
-    (cellOfPrice (quote .opening) ∷ cellOfPrice (quote .high) ∷ cellOfPrice (quote .low) ∷ [])
-    (cellOfQuantity (quote .buyers) ∷ cellOfQuantity (quote .sellers) ∷ [])
+    putParts at (valueOfPrice (quote .last) ∷ valueOfQuantity (quote .traded) ∷ [])
+    (valueOfPrice (quote .opening) ∷ valueOfPrice (quote .high) ∷ valueOfPrice (quote .low) ∷ [])
+    (valueOfQuantity (quote .buyers) ∷ valueOfQuantity (quote .sellers) ∷ [])
 
--- a word of our own: cells with what only contracts are told of
+-- a word of our own: values with what only contracts are told of
 abbrev pub putOwn : Places → Quote → List ℕ → List ℕ
-putOwn at quote cells =
+putOwn at quote values =
     putAt
-    (puts (putAt (putAt cells (at .«market_type») (quote .«market_type»)) (at .status) (quote .status)) (at .close)
-    (cellOfPrice (quote .close) ∷ cellOfPrice (quote .average) ∷ []))
-    (at .turnover) (cellOfTurnover (quote .turnover))
-
--- a word of our own: the cells of a pair's order
-abbrev pub spreadOrderCells : SpreadOrder → List ℕ
-spreadOrderCells order = cellOfDifference (order .price) ∷ cellOfQuantity (order .quantity) ∷ []
-
--- a word of our own: cells with what is told of a pair's trades of the day, and of all its orders
-abbrev pub putDifferences : Places → SpreadQuote → List ℕ → List ℕ
-putDifferences at quote =
-    putParts at (cellOfDifference (quote .last) ∷ cellOfQuantity (quote .traded) ∷ [])
-    (cellOfDifference (quote .opening) ∷ cellOfDifference (quote .high) ∷ cellOfDifference (quote .low) ∷ [])
-    (cellOfQuantity (quote .buyers) ∷ cellOfQuantity (quote .sellers) ∷ [])
+    (puts (putAt (putAt values (at .«market_type») (quote .«market_type»)) (at .status) (quote .status)) (at .close)
+    (valueOfPrice (quote .close) ∷ valueOfPrice (quote .average) ∷ []))
+    (at .turnover) (valueOfTurnover (quote .turnover))

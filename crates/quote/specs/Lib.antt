@@ -1,5 +1,4 @@
 pub mod Quote
-pub mod Spread
 pub mod Inner
 pub mod NumberLaws
 pub mod RowsLaws

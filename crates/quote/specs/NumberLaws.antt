@@ -1,19 +1,19 @@
--- A number through what it holds and through its cell, whatever its kind.
+-- A number through what it holds, through its cell and through its value, whatever its kind.
 use Prim.Native.Nat.{ℕ, _-_, _≤_, _<_}
 use mathlib.Core.Path.{_≡_, refl, ap, _∙_}
 use mathlib.Core.Bool.{Bool, true, false, cond, false≢true}
 use mathlib.Core.List.{List}
 use mathlib.Core.Logic.{_⊎_, inl, inr, ⊎-elim}
 use native.Mathlib.Omega.{arith}
-use borrow.Author.Tests.{ne-eqb}
 use Rattle.laws.specs.Order.{same}
 use Rattle.decimal.specs.declared.Kind.{Kind}
-use Rattle.decimal.specs.Denotes.{belowZero}
 use Rattle.decimal.specs.DenotesLaws.{below-signed, below-some}
 use Rattle.layout.specs.declared.cells.Held.{Held}
 use Rattle.layout.specs.declared.cells.Held.the-variants.{Nothing, Units, Below}
-use Rattle.layout.specs.Cells.{minus, noRoom, heldIn, cellOf}
-use Rattle.layout.specs.CellsLaws.{MayHold, sided-so, holds-so, held-back, has-cell, has-cell-below}
+use Rattle.layout.specs.Cells.{minus, heldIn, cellOf}
+use Rattle.layout.specs.CellsLaws.{MayHold, Small, holds-so, stored-held}
+use Rattle.layout.specs.Plain.{noRoom, valueOf}
+use Rattle.layout.specs.PlainLaws.{held-back}
 use Rattle.layout.specs.Says.{HeldSays}
 use Rattle.quote.specs.declared.quote.PriceCell.{PriceCell}
 use Rattle.quote.specs.declared.quote.PriceCell.the-variants as price
@@ -21,11 +21,8 @@ use Rattle.quote.specs.declared.quote.QuantityCell.{QuantityCell}
 use Rattle.quote.specs.declared.quote.QuantityCell.the-variants as quantity
 use Rattle.quote.specs.declared.quote.TurnoverCell.{TurnoverCell}
 use Rattle.quote.specs.declared.quote.TurnoverCell.the-variants as turnover
-use Rattle.quote.specs.declared.spread.DifferenceCell.{DifferenceCell}
-use Rattle.quote.specs.declared.spread.DifferenceCell.the-variants as difference
 use Rattle.quote.specs.Quote.{unsignedOf, priceOf, quantityOf, turnoverOf}
-use Rattle.quote.specs.Spread.{differenceOf, plainZero}
-use Rattle.quote.specs.Shows.{heldPrice, heldQuantity, heldTurnover, heldDifference}
+use Rattle.quote.specs.Shows.{heldPrice, heldQuantity, heldTurnover}
 
 -- ---- what a number is
 
@@ -40,20 +37,20 @@ module _ {A : Type 0} {signed : Bool} {of : Held → A} {held : A → Held} {pla
   pub cell-held : (cell : ℕ) → held (of (heldIn signed cell)) ≡ heldIn signed cell
   cell-held cell = number .held-of (heldIn signed cell) (holds-so signed cell)
 
-  -- a number is read back from its cell, if it is no amount that no cell holds
-  pub number-back : (a : A) → (cellOf signed (held a) ≡ noRoom → ⊥) → of (heldIn signed (cellOf signed (held a))) ≡ plain a
+  -- a number is read back from its value, if it is no amount that has none
+  pub number-back : (a : A) → (valueOf signed (held a) ≡ noRoom → ⊥) → of (heldIn signed (valueOf signed (held a))) ≡ plain a
   number-back a small = ap of (held-back signed (held a) (number .may-hold a) small) ∙ number .of-held a
 
-  no-room : (signed : Bool) → cellOf signed (heldIn signed noRoom) ≡ noRoom
+  no-room : (signed : Bool) → valueOf signed (heldIn signed noRoom) ≡ noRoom
   no-room true = refl
   no-room false = refl
 
-  -- a number's cell is seen as it is
-  pub cell-again : (a : A) → cellOf signed (heldIn signed (cellOf signed (held a))) ≡ cellOf signed (held a)
-  cell-again a =
-      ⊎-elim (λ (e : cellOf signed (held a) ≡ noRoom). rw e (no-room signed))
-      (λ (e : cellOf signed (held a) ≡ noRoom → ⊥). ap (cellOf signed) (held-back signed (held a) (number .may-hold a) e))
-      (same (cellOf signed (held a)) noRoom)
+  -- a number's value is seen as it is
+  pub value-again : (a : A) → valueOf signed (heldIn signed (valueOf signed (held a))) ≡ valueOf signed (held a)
+  value-again a =
+      ⊎-elim (λ (e : valueOf signed (held a) ≡ noRoom). rw e (no-room signed))
+      (λ (e : valueOf signed (held a) ≡ noRoom → ⊥). ap (valueOf signed) (held-back signed (held a) (number .may-hold a) e))
+      (same (valueOf signed (held a)) noRoom)
 
 -- ---- each kind
 
@@ -94,35 +91,19 @@ turnover-cases (turnover.Amount amount) = inr (amount .0, refl)
 pub turnover-number : IsNumber false turnoverOf heldTurnover (λ t. t)
 turnover-number = unsigned-number turnover.None (λ n. turnover.Amount (record { 0 = n })) heldTurnover refl (λ n. refl) turnover-cases
 
-held-difference : (h : Held) → MayHold true h → heldDifference (differenceOf h) ≡ h
-held-difference Nothing may = refl
-held-difference (Units n) may = refl
-held-difference (Below n) may = simp (ne-eqb n 0 (λ e. omega (arith, may .1)))
-
-may-difference : (d : DifferenceCell) → MayHold true (heldDifference d)
-may-difference difference.None = tt
-may-difference (difference.Amount amount) = sided-so (amount .0) (amount .1)
-
-difference-held : (d : DifferenceCell) → differenceOf (heldDifference d) ≡ plainZero d
-difference-held difference.None = refl
-difference-held (difference.Amount amount) = go (belowZero (amount .0) (amount .1))
-  where
-    go : (below : Bool) → differenceOf (cond below (Below (amount .1)) (Units (amount .1))) ≡ difference.Amount (record { 0 = below; 1 = amount .1 })
-    go true = refl
-    go false = refl
-
-pub difference-number : IsNumber true differenceOf heldDifference plainZero
-difference-number = record { held-of = held-difference; may-hold = may-difference; of-held = difference-held }
-
 -- ---- what a field says
 
--- what a field says of a number in range is read back from its cell
-pub says-held : (kind : Kind) → kind .most < minus - 2 → (field : List ℕ) (held : Held) → HeldSays kind field held
-    → heldIn (kind .signed) (cellOf (kind .signed) held) ≡ held
-says-held kind small field Nothing says = refl
-says-held kind small field (Units n) says =
-    let low : n ≤ kind .most = says .1 in
-    held-back (kind .signed) (Units n) tt (λ e. omega (arith, has-cell (kind .signed) n (omega arith)))
-says-held kind small field (Below n) says =
-    let low : n ≤ kind .most = says .1 in
-    held-back (kind .signed) (Below n) (below-signed (says .0), below-some (says .0)) (λ e. omega (arith, has-cell-below (kind .signed) n (omega arith)))
+-- what a field says of a number is in range
+pub says-small : (kind : Kind) → kind .most < minus - 2 → (field : List ℕ) (held : Held) → HeldSays kind field held → Small held
+says-small kind small field Nothing says = tt
+says-small kind small field (Units n) says = omega (arith, says .1)
+says-small kind small field (Below n) says = omega (arith, says .1)
+
+-- and is read back from its cell
+pub says-held : (kind : Kind) → kind .most < minus - 2 → (field : List ℕ) (held : Held) → HeldSays kind field held → heldIn (kind .signed) (cellOf held) ≡ held
+says-held kind small field held says = stored-held (kind .signed) held (may held says) (says-small kind small field held says)
+  where
+    may : (held : Held) → HeldSays kind field held → MayHold (kind .signed) held
+    may Nothing says = tt
+    may (Units n) says = tt
+    may (Below n) says = (below-signed (says .0), below-some (says .0))

@@ -1,4 +1,4 @@
--- The quote that cells hold, and its cells, each row by its name.
+-- The quote that cells hold, and its values, each row by its name.
 use Prim.Native.Nat.{ℕ, suc}
 use mathlib.Core.Bool.{Bool, true, false, cond}
 use mathlib.Core.List.{List, [], _∷_, map}
@@ -21,7 +21,8 @@ use Rattle.forms.specs.declared.forms.Subject.the-variants.{Nothing as NoSubjec
 use Rattle.forms.specs.Names.{Name, NamedRow, instrument, symbol, expiry, strike, optionType, secondInstrument, secondSymbol, secondExpiry, secondStrike, secondOptionType, marketType, buyPrice, buyQuantity, sellPrice, sellQuantity, lastPrice, tradedQuantity, status, openingPrice, highPrice, lowPrice, closePrice, averagePrice, allBuyers, allSellers, turnover as turnoverName}
 use Rattle.forms.specs.SameName.{sameName}
 use Rattle.forms.specs.Forms.{namedRows}
-use Rattle.layout.specs.Cells.{none as noCell, heldIn, cellOf, byteIn, zerosBehind}
+use Rattle.layout.specs.Cells.{none as noCell, heldIn, byteIn, zerosBehind}
+use Rattle.layout.specs.Plain.{valueOf}
 use Rattle.quote.specs.Shows.{heldPrice, heldQuantity, heldTurnover, noOrder}
 
 -- ---- a number, by its kind: none of these is below zero
@@ -40,9 +41,9 @@ priceOf = unsignedOf price.None (λ n. price.Amount (record { 0 = n }))
 abbrev pub priceIn : ℕ → PriceCell
 priceIn cell = priceOf (heldIn false cell)
 
--- lent memory: the cell that holds a price
-abbrev pub cellOfPrice : PriceCell → ℕ
-cellOfPrice p = cellOf false (heldPrice p)
+-- the host's header: the value of a price
+abbrev pub valueOfPrice : PriceCell → ℕ
+valueOfPrice p = valueOf false (heldPrice p)
 
 -- 01 "Numbers in text": a quantity, or "none"
 abbrev pub quantityOf : Held → QuantityCell
@@ -52,9 +53,9 @@ quantityOf = unsignedOf quantity.None (λ n. quantity.Amount (record { 0 = n }))
 abbrev pub quantityIn : ℕ → QuantityCell
 quantityIn cell = quantityOf (heldIn false cell)
 
--- lent memory: the cell that holds a quantity
-abbrev pub cellOfQuantity : QuantityCell → ℕ
-cellOfQuantity q = cellOf false (heldQuantity q)
+-- the host's header: the value of a quantity
+abbrev pub valueOfQuantity : QuantityCell → ℕ
+valueOfQuantity q = valueOf false (heldQuantity q)
 
 -- 01 "Numbers in text": a turnover, or "none"
 abbrev pub turnoverOf : Held → TurnoverCell
@@ -64,9 +65,9 @@ turnoverOf = unsignedOf turnover.None (λ n. turnover.Amount (record { 0 = n }))
 abbrev pub turnoverIn : ℕ → TurnoverCell
 turnoverIn cell = turnoverOf (heldIn false cell)
 
--- lent memory: the cell that holds a turnover
-abbrev pub cellOfTurnover : TurnoverCell → ℕ
-cellOfTurnover t = cellOf false (heldTurnover t)
+-- the host's header: the value of a turnover
+abbrev pub valueOfTurnover : TurnoverCell → ℕ
+valueOfTurnover t = valueOf false (heldTurnover t)
 
 -- ---- rows by their names
 
@@ -136,42 +137,42 @@ quoteBy rows cells =
 unfoldable pub quoteOf : Form → List ℕ → Quote
 quoteOf form cells = quoteBy (namedRows form) cells
 
--- 01 "The message": the cell of each field of a quote; the key is none of it
-abbrev pub fieldCell : Quote → Name → ℕ
-fieldCell quote instrument = 0
-fieldCell quote symbol = 0
-fieldCell quote expiry = 0
-fieldCell quote strike = 0
-fieldCell quote optionType = 0
-fieldCell quote secondInstrument = 0
-fieldCell quote secondSymbol = 0
-fieldCell quote secondExpiry = 0
-fieldCell quote secondStrike = 0
-fieldCell quote secondOptionType = 0
-fieldCell quote marketType = quote .«market_type»
-fieldCell quote (buyPrice k) = cellOfPrice (getD (quote .buy) k noOrder .price)
-fieldCell quote (buyQuantity k) = cellOfQuantity (getD (quote .buy) k noOrder .quantity)
-fieldCell quote (sellPrice k) = cellOfPrice (getD (quote .sell) k noOrder .price)
-fieldCell quote (sellQuantity k) = cellOfQuantity (getD (quote .sell) k noOrder .quantity)
-fieldCell quote lastPrice = cellOfPrice (quote .last)
-fieldCell quote tradedQuantity = cellOfQuantity (quote .traded)
-fieldCell quote status = quote .status
-fieldCell quote openingPrice = cellOfPrice (quote .opening)
-fieldCell quote highPrice = cellOfPrice (quote .high)
-fieldCell quote lowPrice = cellOfPrice (quote .low)
-fieldCell quote closePrice = cellOfPrice (quote .close)
-fieldCell quote averagePrice = cellOfPrice (quote .average)
-fieldCell quote allBuyers = cellOfQuantity (quote .buyers)
-fieldCell quote allSellers = cellOfQuantity (quote .sellers)
-fieldCell quote turnoverName = cellOfTurnover (quote .turnover)
+-- the host's header: the value of each field of a quote; the key is none of it
+abbrev pub fieldValue : Quote → Name → ℕ
+fieldValue quote instrument = 0
+fieldValue quote symbol = 0
+fieldValue quote expiry = 0
+fieldValue quote strike = 0
+fieldValue quote optionType = 0
+fieldValue quote secondInstrument = 0
+fieldValue quote secondSymbol = 0
+fieldValue quote secondExpiry = 0
+fieldValue quote secondStrike = 0
+fieldValue quote secondOptionType = 0
+fieldValue quote marketType = quote .«market_type»
+fieldValue quote (buyPrice k) = valueOfPrice (getD (quote .buy) k noOrder .price)
+fieldValue quote (buyQuantity k) = valueOfQuantity (getD (quote .buy) k noOrder .quantity)
+fieldValue quote (sellPrice k) = valueOfPrice (getD (quote .sell) k noOrder .price)
+fieldValue quote (sellQuantity k) = valueOfQuantity (getD (quote .sell) k noOrder .quantity)
+fieldValue quote lastPrice = valueOfPrice (quote .last)
+fieldValue quote tradedQuantity = valueOfQuantity (quote .traded)
+fieldValue quote status = quote .status
+fieldValue quote openingPrice = valueOfPrice (quote .opening)
+fieldValue quote highPrice = valueOfPrice (quote .high)
+fieldValue quote lowPrice = valueOfPrice (quote .low)
+fieldValue quote closePrice = valueOfPrice (quote .close)
+fieldValue quote averagePrice = valueOfPrice (quote .average)
+fieldValue quote allBuyers = valueOfQuantity (quote .buyers)
+fieldValue quote allSellers = valueOfQuantity (quote .sellers)
+fieldValue quote turnoverName = valueOfTurnover (quote .turnover)
 
--- lent memory: the cells that names are given, one a row
-abbrev pub cellsBy : List NamedRow → (Name → ℕ) → List ℕ
-cellsBy rows given = map (λ row. given (row .name)) rows
+-- a word of our own: the values that names are given, one a row
+abbrev pub valuesBy : List NamedRow → (Name → ℕ) → List ℕ
+valuesBy rows given = map (λ row. given (row .name)) rows
 
--- lent memory: a quote's cells in a form, with zeros behind them
-unfoldable pub cellsOf : Form → Quote → List ℕ
-cellsOf form quote = zerosBehind (cellsBy (namedRows form) (fieldCell quote))
+-- 01 "The message": the values that a quote's message of that form is written from, with zeros behind them
+unfoldable pub valuesOf : Form → Quote → List ℕ
+valuesOf form quote = zerosBehind (valuesBy (namedRows form) (fieldValue quote))
 
 -- ---- the quote as a form sees it: what it has no row for is none
 

@@ -13,13 +13,14 @@ use Rattle.forms.specs.declared.rows.Row.{Row}
 use Rattle.forms.specs.Names.{Name, NamedRow}
 use Rattle.forms.specs.SameName.{sameName}
 use Rattle.forms.specs.NamesLaws.{same-name}
-use Rattle.layout.specs.Cells.{none as noCell, noRoom, heldIn, cellOf, byteIn, seenCell, seenCells}
+use Rattle.layout.specs.Cells.{none as noCell, heldIn, byteIn}
+use Rattle.layout.specs.Plain.{noRoom, valueOf, seenValue, seenValues}
 use Rattle.layout.specs.CellsLaws.{byte-back}
-use Rattle.quote.specs.Quote.{next, rowNamed, cellAt, cellNamed, orderLevels, sideIn, cellsBy, whereSome, whereNamed, seenSide}
+use Rattle.quote.specs.Quote.{next, rowNamed, cellAt, cellNamed, orderLevels, sideIn, valuesBy, whereSome, whereNamed, seenSide}
 use Rattle.quote.specs.Shows.{mostOrders}
 use Rattle.quote.specs.NumberLaws.{IsNumber, number-back}
 
--- no cell is that of an amount that no cell holds
+-- no value is that of an amount that has none
 abbrev pub AllHeld : List ℕ → Type 0
 AllHeld cells = (k : ℕ) → getD cells k 0 ≡ noRoom → ⊥
 
@@ -51,7 +52,7 @@ named-cell given (row ∷ rows) rest name = go (sameName (row .name) name) refl 
 
 module _ (given : Name → ℕ) (rows : List NamedRow) (rest : List ℕ) where
   abbrev laid : List ℕ
-  laid = cellsBy rows given ++ rest
+  laid = valuesBy rows given ++ rest
 
   found : (name : Name) (k : ℕ) → rowNamed rows name ≡ some k → getD laid k 0 ≡ given name
   found name k e = rw e at (named-cell given rows rest name)
@@ -74,7 +75,7 @@ module _ (given : Name → ℕ) (rows : List NamedRow) (rest : List ℕ) where
   module _ (held : AllHeld laid) where
     -- a number of any kind is read back, and is none where there is no row for it
     pub number-seen : {A : Type 0} {signed : Bool} {of : Held → A} {holds : A → Held} {plain : A → A} → IsNumber signed of holds plain → (name : Name) (a : A)
-        → given name ≡ cellOf signed (holds a) → of (heldIn signed (cellNamed rows name laid)) ≡ whereNamed rows name (plain a) (of Nothing)
+        → given name ≡ valueOf signed (holds a) → of (heldIn signed (cellNamed rows name laid)) ≡ whereNamed rows name (plain a) (of Nothing)
     number-seen {A} {signed} {of} {holds} {plain} number name a is = go (rowNamed rows name) refl
       where
         go : (place : Option ℕ) → rowNamed rows name ≡ place → of (heldIn signed (cellNamed rows name laid)) ≡ whereNamed rows name (plain a) (of Nothing)
@@ -108,9 +109,9 @@ all-orders nothing (a ∷ b ∷ c ∷ d ∷ f ∷ g ∷ orders) e = absurd (omeg
 -- a word of our own: from row k on
 abbrev pub seenFrom : ℕ → List Row → List ℕ → List ℕ
 seenFrom k [] cells = []
-seenFrom k (row ∷ rows) cells = seenCell row (getD cells k 0) ∷ seenFrom (suc k) rows cells
+seenFrom k (row ∷ rows) cells = seenValue row (getD cells k 0) ∷ seenFrom (suc k) rows cells
 
-pub seen-from : (k : ℕ) (rows : List Row) (cells : List ℕ) → seenCells rows (drop k cells) ≡ seenFrom k rows cells
+pub seen-from : (k : ℕ) (rows : List Row) (cells : List ℕ) → seenValues rows (drop k cells) ≡ seenFrom k rows cells
 seen-from k [] cells = refl
 seen-from k (row ∷ rows) cells =
     let here : k + 0 ≡ k = omega arith in

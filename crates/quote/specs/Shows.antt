@@ -1,5 +1,5 @@
 -- What a quote shows of an update's data, each of its fields from the field of the same name: demand 2, and 000 sections 4.4 and
--- 4.5, 003 sections 4.5 and 4.6; M-100: 000 sections 4.6 and 4.7, 003 sections 4.3 and 4.4.
+-- 4.5, 003 sections 4.5 and 4.6.
 use Prim.Native.Nat.{ℕ, _<_}
 use mathlib.Core.Path.{_≡_}
 use mathlib.Core.Bool.{cond}
@@ -8,10 +8,9 @@ use mathlib.Core.Option.{Option, none, some}
 use lib.ListN.{getD, take, drop}
 use Rattle.wire.specs.Number.{numberAt}
 use Rattle.decimal.specs.declared.Kind.{Kind}
-use Rattle.decimal.specs.Kinds.{price, quantity, turnover, difference}
+use Rattle.decimal.specs.Kinds.{price, quantity, turnover}
 use Rattle.layout.specs.declared.cells.Held.{Held}
 use Rattle.layout.specs.declared.cells.Held.the-variants.{Nothing, Units}
-use Rattle.layout.specs.Cells.{sided}
 use Rattle.layout.specs.Says.{HeldSays}
 use Rattle.forms.specs.Names.{Name, NamedRow, marketType, buyPrice, buyQuantity, sellPrice, sellQuantity, lastPrice, tradedQuantity, status, openingPrice, highPrice, lowPrice, closePrice, averagePrice, allBuyers, allSellers, turnover as turnoverName}
 use Rattle.forms.specs.SameName.{sameName}
@@ -24,38 +23,25 @@ use Rattle.quote.specs.declared.quote.QuantityCell.the-variants as quant
 use Rattle.quote.specs.declared.quote.TurnoverCell.{TurnoverCell}
 use Rattle.quote.specs.declared.quote.TurnoverCell.the-variants as turnover
 use Rattle.quote.specs.declared.quote.Order.{Order}
-use Rattle.quote.specs.declared.spread.DifferenceCell.{DifferenceCell}
-use Rattle.quote.specs.declared.spread.DifferenceCell.the-variants as difference
-use Rattle.quote.specs.declared.spread.SpreadOrder.{SpreadOrder}
-use Rattle.quote.specs.declared.spread.SpreadQuote.{SpreadQuote}
 
--- 01 "Numbers in text": the same back: the number of a price, or none
+-- 01 "Numbers in text": the number of a price, or none
 abbrev pub heldPrice : PriceCell → Held
 heldPrice price.None = Nothing
 heldPrice (price.Amount amount) = Units (amount .0)
 
--- 01 "Numbers in text": the same back: the number of a quantity, or none
+-- 01 "Numbers in text": the number of a quantity, or none
 abbrev pub heldQuantity : QuantityCell → Held
 heldQuantity quantity.None = Nothing
 heldQuantity (quantity.Amount amount) = Units (amount .0)
 
--- 01 "Numbers in text": the same back: the number of a turnover, or none
+-- 01 "Numbers in text": the number of a turnover, or none
 abbrev pub heldTurnover : TurnoverCell → Held
 heldTurnover turnover.None = Nothing
 heldTurnover (turnover.Amount amount) = Units (amount .0)
 
--- M-100: the same back: the number of a price difference, above or below zero, or none; minus zero is zero
-abbrev pub heldDifference : DifferenceCell → Held
-heldDifference difference.None = Nothing
-heldDifference (difference.Amount amount) = sided (amount .0) (amount .1)
-
 -- 01 "Numbers in text": an order whose price and quantity are none
 abbrev pub noOrder : Order
 noOrder = record { price = price.None; quantity = quantity.None }
-
--- M-100: a pair's order whose price difference and quantity are none
-abbrev pub noSpreadOrder : SpreadOrder
-noSpreadOrder = record { price = difference.None; quantity = quantity.None }
 
 -- 000 sections 4.5 and 4.7, 003 sections 4.4 and 4.6: the most orders of a side
 abbrev pub mostOrders : ℕ
@@ -95,17 +81,3 @@ pub record ShowsFields (text : Name → Option (List ℕ)) (quote : Quote) : Typ
   pub all-buyers : Shows quantity (text allBuyers) (heldQuantity (quote .buyers))
   pub all-sellers : Shows quantity (text allSellers) (heldQuantity (quote .sellers))
   pub turnover-shown : Shows turnover (text turnoverName) (heldTurnover (quote .turnover))
-
--- M-100, 000 sections 4.6 and 4.7, 003 sections 4.3 and 4.4: every field of a pair's quote beside the text of its name
-pub record ShowsSpreadFields (text : Name → Option (List ℕ)) (quote : SpreadQuote) : Type 0 where
-  pub buy-price : (k : ℕ) → k < mostOrders → Shows difference (text (buyPrice k)) (heldDifference (getD (quote .buy) k noSpreadOrder .price))
-  pub buy-quantity : (k : ℕ) → k < mostOrders → Shows quantity (text (buyQuantity k)) (heldQuantity (getD (quote .buy) k noSpreadOrder .quantity))
-  pub sell-price : (k : ℕ) → k < mostOrders → Shows difference (text (sellPrice k)) (heldDifference (getD (quote .sell) k noSpreadOrder .price))
-  pub sell-quantity : (k : ℕ) → k < mostOrders → Shows quantity (text (sellQuantity k)) (heldQuantity (getD (quote .sell) k noSpreadOrder .quantity))
-  pub last-price : Shows difference (text lastPrice) (heldDifference (quote .last))
-  pub traded-quantity : Shows quantity (text tradedQuantity) (heldQuantity (quote .traded))
-  pub opening-price : Shows difference (text openingPrice) (heldDifference (quote .opening))
-  pub high-price : Shows difference (text highPrice) (heldDifference (quote .high))
-  pub low-price : Shows difference (text lowPrice) (heldDifference (quote .low))
-  pub all-buyers : Shows quantity (text allBuyers) (heldQuantity (quote .buyers))
-  pub all-sellers : Shows quantity (text allSellers) (heldQuantity (quote .sellers))

@@ -31,9 +31,8 @@ use Rattle.layout.specs.Read.{readRow, readRows}
 use Rattle.layout.specs.Says.{HeldSays, NumberSays, RowSays}
 use Rattle.layout.specs.SaysLaws.{row-exactly}
 use Rattle.quote.specs.Quote.{priceIn, quantityIn, turnoverIn, next, rowNamed, cellAt, cellNamed, orderIn, ofPair, quoteBy, quoteOf}
-use Rattle.quote.specs.Spread.{differenceIn, spreadOrderIn, spreadQuoteBy, spreadQuoteOf}
-use Rattle.quote.specs.Shows.{heldPrice, heldQuantity, heldTurnover, heldDifference, noOrder, noSpreadOrder, fieldNamed, Shows, ShowsLetter, ShowsFields, ShowsSpreadFields}
-use Rattle.quote.specs.NumberLaws.{IsNumber, cell-held, price-number, quantity-number, turnover-number, difference-number, says-held}
+use Rattle.quote.specs.Shows.{heldPrice, heldQuantity, heldTurnover, noOrder, fieldNamed, Shows, ShowsLetter, ShowsFields}
+use Rattle.quote.specs.NumberLaws.{IsNumber, cell-held, price-number, quantity-number, turnover-number, says-held}
 use Rattle.quote.specs.RowsLaws.{at-level}
 
 -- ---- one field
@@ -42,7 +41,7 @@ shows-number : (kind : Kind) → kind .most < minus - 2 → (field : List ℕ) (
 shows-number kind small field cell h = rw (h .2, says-held kind small field (h .0) (h .1)) (h .1)
 
 -- what a row's field is shown as, whatever its width
-abbrev ShownAs : Row → List ℕ → ℕ → Type 0
+abbrev pub ShownAs : Row → List ℕ → ℕ → Type 0
 ShownAs (Key width) field cell = Unit {0}
 ShownAs MarketType field cell = byteIn cell ≡ numberAt 1 field 0
 ShownAs Status field cell = byteIn cell ≡ numberAt 1 field 0
@@ -52,7 +51,7 @@ ShownAs (Quantity width) field cell = HeldSays quantity field (heldIn false cell
 ShownAs (Turnover width) field cell = HeldSays turnover field (heldIn false cell)
 
 -- a row by its kind alone
-abbrev kindOf : Row → Row
+abbrev pub kindOf : Row → Row
 kindOf (Key width) = Key 0
 kindOf MarketType = MarketType
 kindOf Status = Status
@@ -73,16 +72,16 @@ row-shows (Turnover width) field cell h = shows-number turnover (lit< tt) field 
 -- ---- a field by its name
 
 -- the kind of each name's row, by the name's number; a pair's prices have a sign
-abbrev kinds : Row → List Row
+abbrev pub kinds : Row → List Row
 kinds price =
     Key 0 ∷ Key 0 ∷ Key 0 ∷ Key 0 ∷ Key 0 ∷ Key 0 ∷ Key 0 ∷ Key 0 ∷ Key 0 ∷ Key 0 ∷ MarketType ∷ price ∷ Quantity 0 ∷ price ∷ Quantity 0
     ∷ price ∷ Quantity 0 ∷ Status ∷ price ∷ price ∷ price ∷ price ∷ price ∷ Quantity 0 ∷ Quantity 0 ∷ Turnover 0 ∷ []
 
-abbrev kindNamed : Row → Name → Row
+abbrev pub kindNamed : Row → Name → Row
 kindNamed price name = getD (kinds price) (nameNumber name) (Key 0)
 
 -- each row is of its name's kind
-abbrev Kinded : Row → List NamedRow → Type 0
+abbrev pub Kinded : Row → List NamedRow → Type 0
 Kinded price rows = map (λ r. kindOf (r .row)) rows ≡ map (λ r. kindNamed price (r .name)) rows
 
 -- a name has a field exactly where it has a row, and the row's cell is what the field is shown as
@@ -98,7 +97,7 @@ behind kind none (some k) cell cells h = absurd h
 behind kind (some field) none cell cells h = absurd h
 behind kind (some field) (some k) cell cells h = (omega (arith, h .0), h .1)
 
-abbrev plain : List NamedRow → List Row
+abbrev pub plain : List NamedRow → List Row
 plain rows = map (λ r. r .row) rows
 
 -- the field of the first row, where it is read as a cell, or a field behind it
@@ -134,13 +133,13 @@ found prices (row ∷ rows) kinded i bytes good name =
 -- ---- the quote
 
 module _ (prices : Row) (rows : List NamedRow) (kinded : Kinded prices rows) (bytes : List ℕ) (good : readRows 0 (plain rows) bytes .verdict ≡ Good) where
-  abbrev read : List ℕ
+  abbrev pub read : List ℕ
   read = readRows 0 (plain rows) bytes .cells
 
-  abbrev cell : Name → ℕ
+  abbrev pub cell : Name → ℕ
   cell name = cellNamed rows name (zerosBehind read)
 
-  abbrev text : Name → Option (List ℕ)
+  abbrev pub text : Name → Option (List ℕ)
   text name = fieldNamed rows bytes name
 
   -- the zeros behind the cells that were read are no row's
@@ -163,7 +162,7 @@ module _ (prices : Row) (rows : List NamedRow) (kinded : Kinded prices rows) (by
     letter show (some field) (some k) h = show field (getD (zerosBehind read) k 0) (front field k h)
 
   -- a number of any kind is shown from the field of its name
-  shown : {A : Type 0} {of : Held → A} {held : A → Held} {plain : A → A} (kind : Kind) (row : Row)
+  pub shown : {A : Type 0} {of : Held → A} {held : A → Held} {plain : A → A} (kind : Kind) (row : Row)
       → ((field : List ℕ) (c : ℕ) → ShownAs row field c → HeldSays kind field (heldIn (kind .signed) c))
       → IsNumber (kind .signed) of held plain → (name : Name) → kindNamed prices name ≡ row → Shows kind (text name) (held (of (heldIn (kind .signed) (cell name))))
   shown kind row show is-number name is =
@@ -172,17 +171,14 @@ module _ (prices : Row) (rows : List NamedRow) (kinded : Kinded prices rows) (by
   price-shown : (name : Name) → kindNamed prices name ≡ Price 0 → Shows price (text name) (heldPrice (priceIn (cell name)))
   price-shown = shown price (Price 0) (λ f c h. h) price-number
 
-  difference-shown : (name : Name) → kindNamed prices name ≡ Difference 0 → Shows difference (text name) (heldDifference (differenceIn (cell name)))
-  difference-shown = shown difference (Difference 0) (λ f c h. h) difference-number
-
-  quantity-shown : (name : Name) → kindNamed prices name ≡ Quantity 0 → Shows quantity (text name) (heldQuantity (quantityIn (cell name)))
+  pub quantity-shown : (name : Name) → kindNamed prices name ≡ Quantity 0 → Shows quantity (text name) (heldQuantity (quantityIn (cell name)))
   quantity-shown = shown quantity (Quantity 0) (λ f c h. h) quantity-number
 
   turnover-shown : (name : Name) → kindNamed prices name ≡ Turnover 0 → Shows turnover (text name) (heldTurnover (turnoverIn (cell name)))
   turnover-shown = shown turnover (Turnover 0) (λ f c h. h) turnover-number
 
   -- an order of a side, by its names
-  abbrev orderBy : {A : Type 0} → (ℕ → ℕ → A) → (ℕ → Name) → (ℕ → Name) → ℕ → A
+  abbrev pub orderBy : {A : Type 0} → (ℕ → ℕ → A) → (ℕ → Name) → (ℕ → Name) → ℕ → A
   orderBy order p q k = order (cell (p k)) (cell (q k))
 
   shows-rows : prices ≡ Price 0 → ShowsFields text (quoteBy rows (zerosBehind read))
@@ -206,24 +202,8 @@ module _ (prices : Row) (rows : List NamedRow) (kinded : Kinded prices rows) (by
         turnover-shown = turnover-shown turnoverName refl;
       }
 
-  shows-spread-rows : prices ≡ Difference 0 → ShowsSpreadFields text (spreadQuoteBy rows (zerosBehind read))
-  shows-spread-rows is =
-      record {
-        buy-price = λ k h. rw (at-level noSpreadOrder (orderBy spreadOrderIn buyPrice buyQuantity) k h) (difference-shown (buyPrice k) is);
-        buy-quantity = λ k h. rw (at-level noSpreadOrder (orderBy spreadOrderIn buyPrice buyQuantity) k h) (quantity-shown (buyQuantity k) refl);
-        sell-price = λ k h. rw (at-level noSpreadOrder (orderBy spreadOrderIn sellPrice sellQuantity) k h) (difference-shown (sellPrice k) is);
-        sell-quantity = λ k h. rw (at-level noSpreadOrder (orderBy spreadOrderIn sellPrice sellQuantity) k h) (quantity-shown (sellQuantity k) refl);
-        last-price = difference-shown lastPrice is;
-        traded-quantity = quantity-shown tradedQuantity refl;
-        opening-price = difference-shown openingPrice is;
-        high-price = difference-shown highPrice is;
-        low-price = difference-shown lowPrice is;
-        all-buyers = quantity-shown allBuyers refl;
-        all-sellers = quantity-shown allSellers refl;
-      }
-
 -- a pair's prices have a sign, and no other form's
-form-kinded : (form : Form) → Kinded (cond (ofPair (subjectOf form)) (Difference 0) (Price 0)) (namedRows form)
+pub form-kinded : (form : Form) → Kinded (cond (ofPair (subjectOf form)) (Difference 0) (Price 0)) (namedRows form)
 unfolding namedRows
 form-kinded Heartbeat = refl
 form-kinded LevelOne = refl
@@ -236,8 +216,3 @@ pub shows-fields : (form : Form) → ofPair (subjectOf form) ≡ false → (byte
     → ShowsFields (fieldNamed (namedRows form) bytes) (quoteOf form (zerosBehind (readRows 0 (rowsOf form) bytes .cells)))
 unfolding rowsOf quoteOf
 shows-fields form is bytes good = shows-rows (Price 0) (namedRows form) (rw is at (form-kinded form)) bytes good refl
-
-pub shows-spread-fields : (form : Form) → ofPair (subjectOf form) ≡ true → (bytes : List ℕ) → readRows 0 (rowsOf form) bytes .verdict ≡ Good
-    → ShowsSpreadFields (fieldNamed (namedRows form) bytes) (spreadQuoteOf form (zerosBehind (readRows 0 (rowsOf form) bytes .cells)))
-unfolding rowsOf spreadQuoteOf
-shows-spread-fields form is bytes good = shows-spread-rows (Difference 0) (namedRows form) (rw is at (form-kinded form)) bytes good refl

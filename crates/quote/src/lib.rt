@@ -1,17 +1,19 @@
-// The quote that the cells of an update hold, of a contract or of a pair, and the cells that a quote is written from.
+// A contract's quote: what the cells of an update hold, and the values that it is written from. And what serves every quote: its
+// numbers, and where the rows of a form stand.
 mod quote;
-mod spread;
 
 pub use quote::MOST_ORDERS;
 pub use quote::Order;
+pub use quote::Places;
 pub use quote::PriceCell;
 pub use quote::QuantityCell;
 pub use quote::Quote;
 pub use quote::TurnoverCell;
-pub use quote::cells_of;
+pub use quote::cell_from;
+pub use quote::places_of;
+pub use quote::put_three;
+pub use quote::put_two;
+pub use quote::quantity_at;
+pub use quote::quantity_value;
 pub use quote::quote_of;
-pub use spread::DifferenceCell;
-pub use spread::SpreadOrder;
-pub use spread::SpreadQuote;
-pub use spread::spread_cells_of;
-pub use spread::spread_quote_of;
+pub use quote::values_of;

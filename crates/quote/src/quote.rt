@@ -2,9 +2,9 @@ ghost use mathlib.Core.Path.{_≡_};
 ghost use mathlib.Core.List.{[], _∷_};
 ghost use Prim.Native.Nat.{_+_, _≤_};
 ghost use Rattle.layout.specs.Cells.{byteIn};
-ghost use Rattle.quote.specs.Quote.{priceIn, quantityIn, turnoverIn, cellOfPrice, cellOfQuantity, cellOfTurnover, orderIn, quoteOf, cellsOf};
+ghost use Rattle.quote.specs.Quote.{priceIn, quantityIn, turnoverIn, valueOfPrice, valueOfQuantity, valueOfTurnover, orderIn, quoteOf, valuesOf};
 ghost use Rattle.quote.specs.Shows.{noOrder};
-ghost use Rattle.quote.specs.Inner.{Room, near, placesOf, cellFrom, putAt, puts, sideAt, putSide, orderCells, putTrades, putOwn};
+ghost use Rattle.quote.specs.Inner.{Room, near, placesOf, cellFrom, putAt, puts, sideAt, putSide, orderValues, putTrades, putOwn};
 use amount::Price;
 use amount::Quantity;
 use amount::Turnover;
@@ -200,57 +200,57 @@ fn turnover_at(cells: &[u64; MOST_ROWS], row: usize) -> TurnoverCell
     }
 }
 
-fn price_cell(price: PriceCell) -> u64
-    ensures { λ r. ⌜ r ≡ cellOfPrice price ⌝ }
+fn price_value(price: PriceCell) -> u64
+    ensures { λ r. ⌜ r ≡ valueOfPrice price ⌝ }
 {
     match price {
         PriceCell::None => layout::NONE,
-        PriceCell::Amount(amount) => layout::cell_of(false, Held::Units(amount.0)),
+        PriceCell::Amount(amount) => layout::value_of(false, Held::Units(amount.0)),
     }
 }
 
-pub fn quantity_cell(quantity: QuantityCell) -> u64
-    ensures { λ r. ⌜ r ≡ cellOfQuantity quantity ⌝ }
+pub fn quantity_value(quantity: QuantityCell) -> u64
+    ensures { λ r. ⌜ r ≡ valueOfQuantity quantity ⌝ }
 {
     match quantity {
         QuantityCell::None => layout::NONE,
-        QuantityCell::Amount(amount) => layout::cell_of(false, Held::Units(amount.0)),
+        QuantityCell::Amount(amount) => layout::value_of(false, Held::Units(amount.0)),
     }
 }
 
-fn turnover_cell(turnover: TurnoverCell) -> u64
-    ensures { λ r. ⌜ r ≡ cellOfTurnover turnover ⌝ }
+fn turnover_value(turnover: TurnoverCell) -> u64
+    ensures { λ r. ⌜ r ≡ valueOfTurnover turnover ⌝ }
 {
     match turnover {
         TurnoverCell::None => layout::NONE,
-        TurnoverCell::Amount(amount) => layout::cell_of(false, Held::Units(amount.0)),
+        TurnoverCell::Amount(amount) => layout::value_of(false, Held::Units(amount.0)),
     }
 }
 
-pub fn put_cell(cell: u64, row: usize, cells: &mut [u64; MOST_ROWS])
-    ensures { λ _. ⌜ now (cells .exit) ≡ putAt (now (cells .entry)) row cell ⌝ }
+pub fn put_value(value: u64, row: usize, values: &mut [u64; MOST_ROWS])
+    ensures { λ _. ⌜ now (values .exit) ≡ putAt (now (values .entry)) row value ⌝ }
 {
     if row < MOST_ROWS {
-        cells[row] = cell;
+        values[row] = value;
     }
 }
 
-// Cells in turn, from that row on.
-pub fn put_two(first: u64, second: u64, row: usize, cells: &mut [u64; MOST_ROWS])
+// Values in turn, from that row on.
+pub fn put_two(first: u64, second: u64, row: usize, values: &mut [u64; MOST_ROWS])
     requires { ⌜ row ≤ near ⌝ }
-    ensures { λ _. ⌜ now (cells .exit) ≡ puts (now (cells .entry)) row (first ∷ second ∷ []) ⌝ }
+    ensures { λ _. ⌜ now (values .exit) ≡ puts (now (values .entry)) row (first ∷ second ∷ []) ⌝ }
 {
-    put_cell(first, row, cells);
-    put_cell(second, row + 1, cells);
+    put_value(first, row, values);
+    put_value(second, row + 1, values);
 }
 
-pub fn put_three(first: u64, second: u64, third: u64, row: usize, cells: &mut [u64; MOST_ROWS])
+pub fn put_three(first: u64, second: u64, third: u64, row: usize, values: &mut [u64; MOST_ROWS])
     requires { ⌜ row ≤ near ⌝ }
-    ensures { λ _. ⌜ now (cells .exit) ≡ puts (now (cells .entry)) row (first ∷ second ∷ third ∷ []) ⌝ }
+    ensures { λ _. ⌜ now (values .exit) ≡ puts (now (values .entry)) row (first ∷ second ∷ third ∷ []) ⌝ }
 {
-    put_cell(first, row, cells);
-    put_cell(second, row + 1, cells);
-    put_cell(third, row + 2, cells);
+    put_value(first, row, values);
+    put_value(second, row + 1, values);
+    put_value(third, row + 2, values);
 }
 
 fn order_at(cells: &[u64; MOST_ROWS], row: usize) -> Order
@@ -304,30 +304,30 @@ pub fn quote_of(form: Form, cells: &[u64; MOST_ROWS]) -> Quote
     }
 }
 
-fn put_order(order: Order, row: usize, cells: &mut [u64; MOST_ROWS])
+fn put_order(order: Order, row: usize, values: &mut [u64; MOST_ROWS])
     requires { ⌜ row ≤ near ⌝ }
-    ensures { λ _. ⌜ now (cells .exit) ≡ puts (now (cells .entry)) row (orderCells order) ⌝ }
+    ensures { λ _. ⌜ now (values .exit) ≡ puts (now (values .entry)) row (orderValues order) ⌝ }
 {
     let price = order.price;
     let quantity = order.quantity;
-    put_two(price_cell(price), quantity_cell(quantity), row, cells);
+    put_two(price_value(price), quantity_value(quantity), row, values);
 }
 
-fn put_side(orders: [Order; MOST_ORDERS], first: usize, more: usize, cells: &mut [u64; MOST_ROWS])
+fn put_side(orders: [Order; MOST_ORDERS], first: usize, more: usize, values: &mut [u64; MOST_ROWS])
     requires { ⌜ (first ≤ near) × (more + 6 ≤ near) ⌝ }
-    ensures { λ _. ⌜ now (cells .exit) ≡ putSide orderCells noOrder orders first more (now (cells .entry)) ⌝ }
+    ensures { λ _. ⌜ now (values .exit) ≡ putSide orderValues noOrder orders first more (now (values .entry)) ⌝ }
 {
-    put_order(orders[0], first, cells);
-    put_order(orders[1], more, cells);
-    put_order(orders[2], more + 2, cells);
-    put_order(orders[3], more + 4, cells);
-    put_order(orders[4], more + 6, cells);
+    put_order(orders[0], first, values);
+    put_order(orders[1], more, values);
+    put_order(orders[2], more + 2, values);
+    put_order(orders[3], more + 4, values);
+    put_order(orders[4], more + 6, values);
 }
 
 // What is told of the trades of the day, and of all orders.
-fn put_trades(quote: Quote, at: Places, cells: &mut [u64; MOST_ROWS])
+fn put_trades(quote: Quote, at: Places, values: &mut [u64; MOST_ROWS])
     requires { ⌜ Room at ⌝ }
-    ensures { λ _. ⌜ now (cells .exit) ≡ putTrades at quote (now (cells .entry)) ⌝ }
+    ensures { λ _. ⌜ now (values .exit) ≡ putTrades at quote (now (values .entry)) ⌝ }
 {
     let last = quote.last;
     let traded = quote.traded;
@@ -336,47 +336,47 @@ fn put_trades(quote: Quote, at: Places, cells: &mut [u64; MOST_ROWS])
     let low = quote.low;
     let buyers = quote.buyers;
     let sellers = quote.sellers;
-    put_two(price_cell(last), quantity_cell(traded), at.last, cells);
+    put_two(price_value(last), quantity_value(traded), at.last, values);
     put_three(
-        price_cell(opening),
-        price_cell(high),
-        price_cell(low),
+        price_value(opening),
+        price_value(high),
+        price_value(low),
         at.opening,
-        cells,
+        values,
     );
     put_two(
-        quantity_cell(buyers),
-        quantity_cell(sellers),
+        quantity_value(buyers),
+        quantity_value(sellers),
         at.totals,
-        cells,
+        values,
     );
 }
 
 // What only contracts are told of: market type, status, close and average price, turnover.
-fn put_own(quote: Quote, at: Places, cells: &mut [u64; MOST_ROWS])
+fn put_own(quote: Quote, at: Places, values: &mut [u64; MOST_ROWS])
     requires { ⌜ Room at ⌝ }
-    ensures { λ _. ⌜ now (cells .exit) ≡ putOwn at quote (now (cells .entry)) ⌝ }
+    ensures { λ _. ⌜ now (values .exit) ≡ putOwn at quote (now (values .entry)) ⌝ }
 {
     let close = quote.close;
     let average = quote.average;
     let turnover = quote.turnover;
-    put_cell(quote.market_type as u64, at.market_type, cells);
-    put_cell(quote.status as u64, at.status, cells);
-    put_two(price_cell(close), price_cell(average), at.close, cells);
-    put_cell(turnover_cell(turnover), at.turnover, cells);
+    put_value(quote.market_type as u64, at.market_type, values);
+    put_value(quote.status as u64, at.status, values);
+    put_two(price_value(close), price_value(average), at.close, values);
+    put_value(turnover_value(turnover), at.turnover, values);
 }
 
-// The cells that a message of that form is written from.
-pub fn cells_of(form: Form, quote: Quote) -> [u64; MOST_ROWS]
-    ensures { λ r. ⌜ r ≡ cellsOf form quote ⌝ }
+// The values that a message of that form is written from.
+pub fn values_of(form: Form, quote: Quote) -> [u64; MOST_ROWS]
+    ensures { λ r. ⌜ r ≡ valuesOf form quote ⌝ }
 {
     let at = places_of(form);
     let buy = quote.buy;
     let sell = quote.sell;
-    let mut cells = [0u64; MOST_ROWS];
-    put_side(buy, at.buy, at.more_buy, &mut cells);
-    put_side(sell, at.sell, at.more_sell, &mut cells);
-    put_trades(quote, at, &mut cells);
-    put_own(quote, at, &mut cells);
-    cells
+    let mut values = [0u64; MOST_ROWS];
+    put_side(buy, at.buy, at.more_buy, &mut values);
+    put_side(sell, at.sell, at.more_sell, &mut values);
+    put_trades(quote, at, &mut values);
+    put_own(quote, at, &mut values);
+    values
 }

@@ -9,9 +9,9 @@ use lib.ListN.{length, getD, take, drop, replicate, length-append, length-drop, 
 use lib.Seq.{sets, take-at, drop-at}
 use Rattle.laws.specs.Rules.{firstBroken}
 use Rattle.laws.specs.RulesLaws.{last-held}
-use Rattle.contracts.specs.File.{segmentsOf}
-use Rattle.contracts.specs.Lookup.{segmentOf}
-use Rattle.contracts.specs.LookupLaws.{segment-has}
+use Rattle.files.specs.File.{segmentsOf}
+use Rattle.lookup.specs.Lookup.{segmentOf}
+use Rattle.lookup.specs.LookupLaws.{segment-has}
 use Rattle.pairs.specs.Lists.{Lists}
 use Rattle.forms.specs.declared.rows.Level.{Level}
 use Rattle.sequence.specs.Gaps.{Gaps, wanted}
@@ -29,12 +29,12 @@ use Rattle.state.specs.declared.answers.Written.{Written}
 use Rattle.forms.specs.declared.forms.Form.{Form}
 use Rattle.forms.specs.declared.forms.Item.{Item}
 use Rattle.pairs.specs.NoSpreads.{noSpreads}
-use Rattle.state.specs.Memory.{Lent, lends, gapRowCells, gapRowsWanted, gapRowOf}
+use Rattle.state.specs.Memory.{Lent, lends, gapRowCells, gapRowsWanted, gapRowOf, SameBehind}
 use Rattle.state.specs.MemoryRows.{withGapRow}
 use Rattle.message.specs.ItemsLaws.{sound-headers}
-use Rattle.state.specs.Slots.{Slot, SlotListed, recordsWanted, SameBehind}
-use Rattle.state.specs.Places.{slotAt}
-use Rattle.state.specs.SlotsLaws.{slot-inside, slot-some}
+use Rattle.slots.specs.Slots.{Slot, SlotListed, recordsWanted}
+use Rattle.slots.specs.Places.{slotAt}
+use Rattle.slots.specs.SlotsLaws.{slot-inside, slot-some}
 use Rattle.state.specs.RowsLaws.{length-with, row-put, behind-kept, row-kept, sound-with}
 use Rattle.state.specs.State.{segmentRules}
 use Rattle.state.specs.GoodState.{GoodState}
@@ -46,7 +46,8 @@ use Rattle.quotebox.specs.Calls.{listValues, runsPut, runValues, lowestR
 use Rattle.quotebox.specs.CallRules.{gapsOfLetter, listRules, writeOffRules, noSpreadsRules}
 use Rattle.state.specs.Answers.{leftBy}
 use Rattle.quotebox.specs.CallsLaws.{off-left}
-use Rattle.quotebox.specs.CallPromises.{StartedBox, ListedRuns, WroteOffRun, ReadsFor, PutNoSpreads}
+use Rattle.quotebox.specs.CallPromises.{StartedBox, ListedRuns, WroteOffRun, PutNoSpreads}
+use Rattle.reading.specs.Reads.{ReadsFor}
 use Rattle.state.specs.AnswersLaws.{started-told, listed-told, written-off-told, recorded-told, written-told, refused-by, accepted-by}
 
 -- ---- one outcome

@@ -1,4 +1,4 @@
--- The rules of the calls but start, judging, taking and writing, in their order: 01, the order of checks.
+-- The rules of listing gaps, of writing off and of putting the list without pairs, in their order: 01, the order of checks.
 use Prim.Native.Nat.{ℕ, _+_}
 use mathlib.Core.List.{List, [], _∷_, _++_}
 use lib.Dec.{leb, ltb}
@@ -7,13 +7,10 @@ use Rattle.pairs.specs.NoSpreads.{noSpreads}
 use Rattle.contracts.specs.SoundTests.{headerSound}
 use Rattle.sequence.specs.Gaps.{Gaps, wanted}
 use Rattle.sequence.specs.Row.{gapsOf}
-use Rattle.state.specs.declared.refusal.Refusal.the-variants.{Memory, NoGap, Contract, List as ListOf}
+use Rattle.state.specs.declared.refusal.Refusal.the-variants.{Memory, NoGap, List as ListOf}
 use Rattle.state.specs.Refusals.{Rule}
 use Rattle.state.specs.State.{segmentRules}
 use Rattle.state.specs.Memory.{Lent, gapRowOfLetter}
-use Rattle.forms.specs.declared.forms.Item.{Item}
-use Rattle.message.specs.Tests.{isSome}
-use Rattle.message.specs.Message.{keyPlace}
 
 -- 01 "Sequence and gaps": the gaps of the segment of a letter
 unfoldable pub gapsOfLetter : Lent → ℕ → Gaps
@@ -33,11 +30,6 @@ unfoldable pub writeOffRules : Lent → ℕ → List Rule
 writeOffRules lent letter =
     segmentRules lent letter
     ++ (record { holds = ltb 0 (length (gapsOfLetter lent letter .runs)); refusal = NoGap } ∷ [])
-
--- 01, the order of checks: "Record: 6, then 13"
-unfoldable pub recordRules : Item → Lent → ℕ → List ℕ → List Rule
-recordRules item lent letter key =
-    segmentRules lent letter ++ (record { holds = isSome (keyPlace item (lent .lists) letter key); refusal = Contract 0 } ∷ [])
 
 -- M-100: 16 where the contract list's header is not sound, as calls after start look at it, and 15 where there is no room
 unfoldable pub noSpreadsRules : List ℕ → ℕ → List Rule

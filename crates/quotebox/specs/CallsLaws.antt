@@ -12,7 +12,7 @@ use lib.ListN.{length}
 use Rattle.laws.specs.Rules.{firstBroken}
 use Rattle.laws.specs.RulesLaws.{front-broken, last-holds, last-broken}
 use Rattle.laws.specs.Order.{order}
-use Rattle.contracts.specs.Lookup.{segmentOf}
+use Rattle.lookup.specs.Lookup.{segmentOf}
 use Rattle.sequence.specs.Gaps.{Gaps, wanted}
 use Rattle.sequence.specs.Changes.{wroteOff}
 use Rattle.sequence.specs.Answers.{listAnswer, writeOffAnswer, lowest, runsListed, listedNumbers as rowListedNumbers}
@@ -25,11 +25,7 @@ use Rattle.sequence.specs.declared.GapsListed.the-variants as row-listed
 use Rattle.sequence.specs.declared.WriteOff.the-variants as row-off
 use Rattle.state.specs.declared.refusal.Refusal.{Refusal}
 use Rattle.state.specs.declared.refusal.Refusal.the-variants.{Memory, NoGap}
-use Rattle.forms.specs.declared.rows.Level.{Level}
 use Rattle.state.specs.declared.answers.Started.{Started}
-use Rattle.state.specs.declared.answers.Recorded.{Recorded}
-use Rattle.forms.specs.declared.forms.Form.{Form}
-use Rattle.forms.specs.declared.forms.Item.{Item}
 use Rattle.state.specs.declared.answers.Listed.{Listed}
 use Rattle.state.specs.declared.answers.WrittenOff.{WrittenOff}
 use Rattle.state.specs.Answers.{listedNumbers, answered, leftBy}
@@ -39,36 +35,8 @@ use Rattle.state.specs.MemoryRows.{withGapRow, withGapRowIn}
 use Rattle.quotebox.specs.StartActs.{startBroken, lentStarted, rowsStarted, recordsCleared}
 use Rattle.state.specs.State.{segmentRules}
 use Rattle.quotebox.specs.Calls.{listValues, runsPut, runValues, lowestRun, lentWrittenOff}
-use Rattle.quotebox.specs.CallRules.{gapsOfLetter, listRules, writeOffRules, recordRules}
-use Rattle.quotebox.specs.Record.{recordOfKey, recordNumber, recordValues, quoteAt, quoteBeside, ReadsAt}
-use Rattle.quotebox.specs.CallPromises.{StartedBox, ListedRuns, WroteOffRun, ReadsFor}
-
--- ---- a record
-
-module _ {A : Type 0} (show : Form → List ℕ → A) (blank : A) (item : Item) (lent : Lent) (letter : ℕ) (key : List ℕ) (level : Level) where
-  abbrev recordChecks : Option Refusal
-  recordChecks = firstBroken (recordRules item lent letter key)
-
-  abbrev values : ℕ → List ℕ
-  values at = recordValues (recordNumber (lent .records) at)
-
-  pub record-refused : (r : Refusal) → recordChecks ≡ some r → ReadsFor show blank item lent letter key level (Recorded.Refused r) blank
-  record-refused r e =
-      let at : ℕ = recordOfKey item (lent .lists) letter key level in
-      record {
-        answers = sym (ap (λ (o : Option Refusal). answered o (values at)) e);
-        quotes = sym (ap (λ (o : Option Refusal). quoteBeside blank o (quoteAt show blank item (lent .records) at level)) e);
-      }
-
-  pub record-read : recordChecks ≡ none → {at : ℕ} → at ≡ recordOfKey item (lent .lists) letter key level → {answer : Recorded} {quote : A}
-      → ReadsAt show blank item (lent .records) at level answer quote → ReadsFor show blank item lent letter key level answer quote
-  record-read e here own =
-      let at : ℕ = recordOfKey item (lent .lists) letter key level in
-      record {
-        answers = own .says ∙ ap (λ (k : ℕ). 0 ∷ values k) here ∙ sym (ap (λ (o : Option Refusal). answered o (values at)) e);
-        quotes = own .shows ∙ ap (λ (k : ℕ). quoteAt show blank item (lent .records) k level) here
-            ∙ sym (ap (λ (o : Option Refusal). quoteBeside blank o (quoteAt show blank item (lent .records) at level)) e);
-      }
+use Rattle.quotebox.specs.CallRules.{gapsOfLetter, listRules, writeOffRules}
+use Rattle.quotebox.specs.CallPromises.{StartedBox, ListedRuns, WroteOffRun}
 
 -- ---- a start
 

@@ -3,8 +3,6 @@ pub mod CallPromisesLaws
 pub mod CallRules
 pub mod Calls
 pub mod CallsLaws
-pub mod Record
-pub mod RecordLaws
 pub mod Start
 pub mod StartActs
 pub mod StartLaws

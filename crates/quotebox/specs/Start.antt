@@ -4,8 +4,8 @@ use mathlib.Core.Bool.{Bool}
 use mathlib.Core.List.{List, _∷_}
 use lib.Dec.{ltb}
 use lib.ListN.{getD}
-use Rattle.contracts.specs.Below.{allBelow}
-use Rattle.contracts.specs.File.{segmentsOf}
+use Rattle.files.specs.Below.{allBelow}
+use Rattle.files.specs.File.{segmentsOf}
 use Rattle.contracts.specs.SoundTests.{sound}
 use Rattle.pairs.specs.SpreadTests.{spreadsSound}
 use Rattle.pairs.specs.Lists.{Lists, SoundLists}
@@ -13,7 +13,7 @@ use Rattle.state.specs.declared.refusal.Refusal.the-variants.{Numbering, List a
 use Rattle.state.specs.Refusals.{Rule}
 use Rattle.state.specs.Memory.{gapRowsWanted}
 use Rattle.state.specs.State.{memoryRules}
-use Rattle.state.specs.Slots.{recordsWanted}
+use Rattle.slots.specs.Slots.{recordsWanted}
 
 -- 01 "Sequence and gaps": "each listed segment, in list order, a start number"; one that is missing counts as 0
 abbrev pub startOf : List ℕ → ℕ → ℕ

@@ -4,13 +4,13 @@ use mathlib.Core.List.{List, [], _++_}
 use mathlib.Core.Option.{Option}
 use lib.ListN.{length, drop, replicate}
 use Rattle.laws.specs.Rules.{firstBroken}
-use Rattle.contracts.specs.File.{segmentsOf}
+use Rattle.files.specs.File.{segmentsOf}
 use Rattle.pairs.specs.Lists.{Lists}
 use Rattle.sequence.specs.Changes.{begun}
 use Rattle.sequence.specs.RowLaid.{laid}
 use Rattle.state.specs.declared.refusal.Refusal.{Refusal}
 use Rattle.state.specs.Memory.{Lent, lends, gapRowCells, gapRowsWanted}
-use Rattle.state.specs.Slots.{recordsWanted}
+use Rattle.slots.specs.Slots.{recordsWanted}
 use Rattle.quotebox.specs.Start.{startOf, startRules}
 
 -- 01 "Sequence and gaps": a gap row at its start: "highest begins one below it", no runs, and every other cell 0

@@ -13,8 +13,8 @@ use lib.ListN.{length, drop, replicate, length-append}
 use Rattle.laws.specs.Rules.{firstBroken}
 use Rattle.laws.specs.RulesLaws.{none-hold}
 use Rattle.laws.specs.Order.{order}
-use Rattle.contracts.specs.BelowLaws.{each-passes, all-pass}
-use Rattle.contracts.specs.File.{segmentsOf}
+use Rattle.files.specs.BelowLaws.{each-passes, all-pass}
+use Rattle.files.specs.File.{segmentsOf}
 use Rattle.contracts.specs.SoundTests.{sound}
 use Rattle.contracts.specs.SoundLaws.{sound-exact}
 use Rattle.pairs.specs.Lists.{Lists}
@@ -27,7 +27,7 @@ use Rattle.state.specs.Refusals.{Rule}
 use Rattle.state.specs.Memory.{gapRowCells, gapRowsWanted, gapRowOf}
 use Rattle.state.specs.MemoryRows.{withGapRow}
 use Rattle.state.specs.State.{memoryRules}
-use Rattle.state.specs.Slots.{recordsWanted}
+use Rattle.slots.specs.Slots.{recordsWanted}
 use Rattle.state.specs.RowsLaws.{row-laid, row-behind}
 use Rattle.state.specs.StateLaws.{memory-lent}
 use Rattle.quotebox.specs.Start.{startOf, eachStarts, startRules, GoodStart}

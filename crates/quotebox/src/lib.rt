@@ -1,6 +1,5 @@
 // The public calls over lent memory: those that are made here, and those of the crates below.
 mod gaps;
-mod record;
 mod spreads;
 mod starting;
 
@@ -9,10 +8,11 @@ pub use batch::take;
 pub use gaps::list_gaps;
 pub use gaps::write_off;
 pub use layout::KEY_ROWS;
-pub use record::Reading;
-pub use record::SpreadReading;
-pub use record::read_record;
-pub use record::read_spread;
+pub use reading::Reading;
+pub use reading::SpreadReading;
+pub use reading::read_record;
+pub use reading::read_spread;
+pub use slots::record_rows;
 pub use spreads::no_spreads;
 pub use starting::start;
 pub use state::Judged;
@@ -22,7 +22,6 @@ pub use state::Refusal;
 pub use state::Started;
 pub use state::Written;
 pub use state::WrittenOff;
-pub use state::record_rows;
 pub use state::refusal_numbers;
 pub use writer::Code;
 pub use writer::write_message;

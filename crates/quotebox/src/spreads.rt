@@ -7,7 +7,7 @@ use state::Written;
 pub fn no_spreads(list: &[u8], out: &mut [u8]) -> Written
     ensures { λ r. ⌜ PutNoSpreads (now (list .entry)) (now (out .entry)) r (now (out .exit)) ⌝ }
 {
-    if !contracts::header_sound(list, contracts::CONTRACTS) {
+    if !contracts::header_sound(list, files::CONTRACTS) {
         return Written::Refused(Refusal::List);
     }
     let size = pairs::no_spreads_size(list);

@@ -40,13 +40,13 @@ fn each_starts(starts: &[u32], segments: usize) -> bool
 fn check_start(list: &[u8], spreads: &[u8], starts: &[u32], rows: usize, records: usize) -> Checked
     ensures { λ r. ⌜ checkedNumbers r ≡ checkedBy (firstBroken (startRules (lists (now (list .entry)) (now (spreads .entry))) (now (starts .entry)) rows records)) ⌝ }
 {
-    if !contracts::sound(list, contracts::CONTRACTS) {
+    if !contracts::sound(list, files::CONTRACTS) {
         return Checked::Refused(Refusal::List);
     }
     if !pairs::spreads_sound(list, spreads) {
         return Checked::Refused(Refusal::List);
     }
-    if !each_starts(starts, contracts::segments(list)) {
+    if !each_starts(starts, files::segments(list)) {
         return Checked::Refused(Refusal::Numbering(0));
     }
     state::check_memory(list, spreads, rows, records)
@@ -87,8 +87,8 @@ pub fn start(
 {
     match check_start(list, spreads, starts, rows.len(), records.len()) {
         Checked::Good => {
-            begin_rows(starts, rows, contracts::segments(list));
-            clear(records, state::records_wanted(list, spreads));
+            begin_rows(starts, rows, files::segments(list));
+            clear(records, slots::records_wanted(list, spreads));
             Started::Started
         }
         Checked::Refused(refusal) => Started::Refused(refusal),

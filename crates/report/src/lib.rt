@@ -95,12 +95,12 @@ fn put_segments(
     requires { ⌜ used ≤ length (now page) ⌝ }
     ensures { λ r. ⌜ r ≤ length (now (page .entry)) ⌝ }
 {
-    let segments = contracts::segments(list);
+    let segments = files::segments(list);
     let mut cells = [0u32; console::RUN_CELLS];
     let mut more = used;
     let mut i = 0;
     while i < segments {
-        let letter = contracts::letter_at(list, i);
+        let letter = files::letter_at(list, i);
         more = put_listed(list, spreads, rows, records, letter, &mut cells, page, more);
         i += 1;
     }

@@ -10,11 +10,11 @@ use lib.Dec.{leb}
 use lib.ListN.{length, take, drop, length-append, length-take, length-drop, take-append-drop, drop-of-length-le}
 use lib.Seq.{take-all, take-append-le, drop-append-le}
 use Rattle.laws.specs.Order.{order}
-use Rattle.contracts.specs.BelowLaws.{all-same}
-use Rattle.contracts.specs.File.{segmentsOf}
-use Rattle.contracts.specs.Lookup.{segmentOf}
+use Rattle.files.specs.BelowLaws.{all-same}
+use Rattle.files.specs.File.{segmentsOf}
+use Rattle.lookup.specs.Lookup.{segmentOf}
 use Rattle.pairs.specs.Lists.{Lists}
-use Rattle.contracts.specs.LookupLaws.{segment-has}
+use Rattle.lookup.specs.LookupLaws.{segment-has}
 use Rattle.contracts.specs.Sound.{Header}
 use Rattle.sequence.specs.RowLaid.{soundGapRow}
 use Rattle.state.specs.Memory.{Lent, lends, gapRowCells, gapRowsWanted, gapRowOf, gapRowIn, gapRowOfLetter}

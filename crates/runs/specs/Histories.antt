@@ -18,7 +18,7 @@ use Rattle.writer.specs.declared.writing.Code.{Code}
 use Rattle.state.specs.Memory.{lends}
 use Rattle.batch.specs.Promises.{JudgedBatch, TookBatch}
 use Rattle.quotebox.specs.CallPromises.{ListedRuns, WroteOffRun, PutNoSpreads}
-use Rattle.writer.specs.WriterPromises.{WroteCells}
+use Rattle.writer.specs.WriterPromises.{WroteValues}
 use Rattle.history.specs.Shown.{QuoteFor, shown, blankFor, ReadsItem}
 use Rattle.history.specs.Past.{Event, afterTake, afterWriteOff}
 use Rattle.runs.specs.declared.run.Run.{Run}
@@ -51,7 +51,7 @@ pub data ReachedRuns (lists : Lists) (starts : List ℕ) : List Run → List ℕ
   -- the writer is handed no gap rows and no records
   writeMessage : {rows : List Run} {records : List ℕ} {past : List Event} → ReachedRuns lists starts rows records past
       → (item : Item) (code : Code) (level : Level) (number : ℕ) (key : List ℕ) (cells : Form → List ℕ) (out : List ℕ) (answer : Written) (out′ : List ℕ)
-      → WroteCells item code level number key cells out answer out′
+      → WroteValues item code level number key cells out answer out′
       → ReachedRuns lists starts rows records past
   noSpreads : {rows : List Run} {records : List ℕ} {past : List Event} → ReachedRuns lists starts rows records past
       → (list out : List ℕ) (answer : Written) (out′ : List ℕ) → PutNoSpreads list out answer out′

@@ -10,7 +10,7 @@ use lib.Seq.{take-all, take-at, length-take-le}
 use Rattle.laws.specs.Choice.{either}
 use Rattle.laws.specs.Lists.{take-min, drop-min}
 use Rattle.laws.specs.Order.{order}
-use Rattle.contracts.specs.File.{segmentsOf}
+use Rattle.files.specs.File.{segmentsOf}
 use Rattle.contracts.specs.HeaderLaws.{header-exact}
 use Rattle.contracts.specs.SoundTests.{headerSound}
 use Rattle.forms.specs.declared.rows.Level.{Level}
@@ -25,7 +25,8 @@ use Rattle.state.specs.declared.refusal.Refusal.the-variants.{List as ListOf}
 use Rattle.state.specs.Answers.{startedNumbers, judgedNumbers, listedNumbers, writtenOffNumbers, recordedNumbers}
 use Rattle.state.specs.Memory.{lends}
 use Rattle.pairs.specs.Lists.{Lists}
-use Rattle.quotebox.specs.CallPromises.{StartedBox, ListedRuns, WroteOffRun, ReadsFor}
+use Rattle.quotebox.specs.CallPromises.{StartedBox, ListedRuns, WroteOffRun}
+use Rattle.reading.specs.Reads.{ReadsFor}
 use Rattle.batch.specs.Promises.{JudgedBatch, TookBatch}
 use Rattle.state.specs.Refusals.{refusalNumbers}
 use Rattle.runs.specs.declared.run.Run.{Run}

@@ -5,7 +5,7 @@ use mathlib.Core.Path.{_≡_}
 use mathlib.Core.Bool.{true}
 use mathlib.Core.List.{List}
 use lib.ListN.{length}
-use Rattle.contracts.specs.File.{segmentsOf}
+use Rattle.files.specs.File.{segmentsOf}
 use Rattle.contracts.specs.SoundTests.{headerSound, sound}
 use Rattle.pairs.specs.SpreadTests.{spreadHeaderSound, spreadsSound}
 use Rattle.pairs.specs.Lists.{Lists}
@@ -14,16 +14,17 @@ use Rattle.state.specs.declared.answers.Started.{Started}
 use Rattle.state.specs.declared.answers.Judged.{Judged}
 use Rattle.state.specs.declared.answers.Listed.{Listed}
 use Rattle.state.specs.declared.answers.WrittenOff.{WrittenOff}
-use Rattle.quotebox.specs.declared.record.Reading.{Reading}
+use Rattle.reading.specs.declared.record.Reading.{Reading}
 use Rattle.state.specs.Answers.{startedNumbers, judgedNumbers, listedNumbers, writtenOffNumbers, recordedNumbers}
 use Rattle.state.specs.Memory.{lends}
 use Rattle.batch.specs.Promises.{JudgedBatch, TookBatch}
-use Rattle.quotebox.specs.declared.record.SpreadReading.{SpreadReading}
+use Rattle.reading.specs.declared.record.SpreadReading.{SpreadReading}
 use Rattle.state.specs.declared.answers.Recorded.{Recorded}
-use Rattle.quotebox.specs.CallPromises.{StartedBox, ListedRuns, WroteOffRun, ReadsFor}
-use Rattle.quotebox.specs.Record.{blank, blankSpread}
+use Rattle.quotebox.specs.CallPromises.{StartedBox, ListedRuns, WroteOffRun}
+use Rattle.reading.specs.Reads.{ReadsFor}
+use Rattle.reading.specs.Record.{blank, blankSpread}
 use Rattle.quote.specs.Quote.{quoteOf}
-use Rattle.quote.specs.Spread.{spreadQuoteOf}
+use Rattle.spread.specs.Spread.{spreadQuoteOf}
 use Rattle.forms.specs.declared.forms.Form.{Form}
 use Rattle.forms.specs.declared.forms.Item.{Item}
 use Rattle.forms.specs.declared.forms.Item.the-variants.{Contract, Pair}

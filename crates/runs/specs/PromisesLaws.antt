@@ -11,7 +11,7 @@ use lib.Dec.{ltb, eqb}
 use lib.ListN.{length, getD}
 use Rattle.laws.specs.Rules.{firstBroken}
 use Rattle.laws.specs.RulesLaws.{unlike, front-broken}
-use Rattle.contracts.specs.File.{segmentsOf}
+use Rattle.files.specs.File.{segmentsOf}
 use Rattle.forms.specs.declared.rows.Level.{Level}
 use Rattle.state.specs.declared.answers.Started.{Started}
 use Rattle.state.specs.declared.answers.Judged.{Judged}
@@ -28,8 +28,10 @@ use Rattle.turns.specs.Turns.{actedNumbers}
 use Rattle.batch.specs.Batch.{batchRules}
 use Rattle.batch.specs.Acts.{batchActs}
 use Rattle.state.specs.AnswersLaws.{started-told, judged-told, listed-told, written-off-told, recorded-told, refused-by}
-use Rattle.quotebox.specs.CallRules.{listRules, writeOffRules, recordRules}
-use Rattle.quotebox.specs.CallPromises.{StartedBox, ListedRuns, WroteOffRun, ReadsFor}
+use Rattle.quotebox.specs.CallRules.{listRules, writeOffRules}
+use Rattle.reading.specs.ReadRules.{recordRules}
+use Rattle.quotebox.specs.CallPromises.{StartedBox, ListedRuns, WroteOffRun}
+use Rattle.reading.specs.Reads.{ReadsFor}
 use Rattle.quotebox.specs.CallPromisesLaws.{one-started, one-listed, one-written-off, one-read, start-refusal, list-refusal, off-refusal}
 use Rattle.state.specs.Memory.{Lent, lends, gapRowsWanted}
 use Rattle.state.specs.State.{stateRules, memoryRules, segmentRules}

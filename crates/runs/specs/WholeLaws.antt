@@ -11,10 +11,10 @@ use lib.ListN.{length, drop}
 use lib.Seq.{drop-append-le}
 use Rattle.laws.specs.Choice.{either}
 use Rattle.laws.specs.Rules.{firstBroken}
-use Rattle.contracts.specs.Habits.{contracts}
-use Rattle.contracts.specs.Lookup.{segmentOf}
+use Rattle.files.specs.Habits.{contracts}
+use Rattle.lookup.specs.Lookup.{segmentOf}
 use Rattle.contracts.specs.HeaderLaws.{header-exact}
-use Rattle.contracts.specs.File.{segmentsOf}
+use Rattle.files.specs.File.{segmentsOf}
 use Rattle.contracts.specs.Sound.{Header}
 use Rattle.contracts.specs.SoundTests.{headerSound, sound}
 use Rattle.contracts.specs.SoundLaws.{sound-header}
@@ -22,7 +22,7 @@ use Rattle.forms.specs.declared.rows.Level.{Level}
 use Rattle.sequence.specs.Gaps.{Gaps, wanted}
 use Rattle.sequence.specs.Changes.{wroteOff}
 use Rattle.sequence.specs.RowLaid.{laid}
-use Rattle.message.specs.Tests.{isSome}
+use Rattle.head.specs.Tests.{isSome}
 use Rattle.message.specs.Message.{keyPlace}
 use Rattle.state.specs.declared.answers.Started.{Started}
 use Rattle.state.specs.declared.answers.Judged.{Judged}
@@ -41,9 +41,11 @@ use Rattle.batch.specs.Acts.{unlessBroken, batchActs, lentAfter}
 use Rattle.state.specs.Memory.{Lent, lends, gapRowOfLetter, gapRowsWanted}
 use Rattle.state.specs.MemoryRows.{withGapRowOfLetter}
 use Rattle.quotebox.specs.Calls.{listValues, runsPut, runValues, lowestRun, lentWrittenOff}
-use Rattle.quotebox.specs.CallRules.{gapsOfLetter, listRules, writeOffRules, recordRules}
-use Rattle.quotebox.specs.CallPromises.{StartedBox, ListedRuns, WroteOffRun, ReadsFor}
-use Rattle.quotebox.specs.Record.{recordOfKey, recordNumber, recordValues, quoteAt, quoteBeside}
+use Rattle.quotebox.specs.CallRules.{gapsOfLetter, listRules, writeOffRules}
+use Rattle.reading.specs.ReadRules.{recordRules}
+use Rattle.quotebox.specs.CallPromises.{StartedBox, ListedRuns, WroteOffRun}
+use Rattle.reading.specs.Reads.{ReadsFor}
+use Rattle.reading.specs.Record.{recordOfKey, recordNumber, recordValues, quoteAt, quoteBeside}
 use Rattle.batch.specs.Promises.{JudgedBatch, TookBatch}
 use Rattle.quotebox.specs.Start.{startRules}
 use Rattle.quotebox.specs.StartActs.{startBroken, startedRows, rowsStarted, recordsCleared, lentStarted}

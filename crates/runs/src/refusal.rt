@@ -16,7 +16,7 @@ const ROW: usize = 66;
 fn in_runs(list: &[u8], lent: usize, refusal: Refusal) -> Refusal
     ensures { λ r. ⌜ refusalNumbers r ≡ inRuns (now (list .entry)) lent (refusalNumbers refusal) ⌝ }
 {
-    let wanted = ROW * contracts::segments(list);
+    let wanted = ROW * files::segments(list);
     if let Refusal::Memory(_) = refusal {
         if lent < wanted {
             return Refusal::Memory(wanted);

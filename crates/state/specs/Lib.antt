@@ -3,11 +3,8 @@ pub mod RefusalsLaws
 pub mod Answers
 pub mod AnswersLaws
 pub mod Memory
-pub mod Slots
 pub mod RowsLaws
 pub mod State
 pub mod GoodState
 pub mod StateLaws
-pub mod SlotsLaws
-pub mod Places
 pub mod MemoryRows

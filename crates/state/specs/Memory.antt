@@ -1,12 +1,14 @@
--- Lent memory: the lists, gap rows of 132 numbers a listed segment, and records (`Slots`); all in list order.
+-- Lent memory: the lists, gap rows of 132 numbers a listed segment, and records (`slots` Slots); all in list order.
 use Prim.Native.Nat.{ℕ, _*_}
+use mathlib.Core.Path.{_≡_}
 use mathlib.Core.List.{List, []}
 use mathlib.Core.Option.{Option, none, some}
 use lib.ListN.{take, drop}
-use Rattle.contracts.specs.File.{segmentsOf}
-use Rattle.contracts.specs.Lookup.{segmentOf}
+use Rattle.files.specs.File.{segmentsOf}
+use Rattle.lookup.specs.Lookup.{segmentOf}
 use Rattle.pairs.specs.Lists.{Lists}
 use Rattle.sequence.specs.Row.{cells}
+use Rattle.slots.specs.Slots.{recordsWanted}
 
 -- 01 "What may be asked": what a call is lent: "Calls after start are handed the list, gap rows and records again"
 pub record Lent : Type 0 where
@@ -38,3 +40,8 @@ gapRowIn rows (some segment) = gapRowOf rows segment
 -- lent memory: the gap row of the segment that has the letter
 abbrev pub gapRowOfLetter : Lists → ℕ → List ℕ → List ℕ
 gapRowOfLetter lists letter rows = gapRowIn rows (segmentOf (lists .contracts) letter)
+
+-- 01 "What may be asked": "no call writes past its answer": every cell behind those wanted for state is as it was
+pub record SameBehind (lent lent′ : Lent) : Type 0 where
+  pub rows-behind : drop (gapRowsWanted (lent .lists)) (lent′ .rows) ≡ drop (gapRowsWanted (lent .lists)) (lent .rows)
+  pub records-behind : drop (recordsWanted (lent .lists)) (lent′ .records) ≡ drop (recordsWanted (lent .lists)) (lent .records)

@@ -5,8 +5,8 @@ use mathlib.Core.List.{List, _++_}
 use mathlib.Core.Option.{Option, none, some}
 use lib.ListN.{take, drop}
 use Rattle.pairs.specs.Lists.{Lists}
-use Rattle.contracts.specs.Below.{allBelow}
-use Rattle.contracts.specs.Lookup.{segmentOf}
+use Rattle.files.specs.Below.{allBelow}
+use Rattle.lookup.specs.Lookup.{segmentOf}
 use Rattle.sequence.specs.RowLaid.{soundGapRow}
 use Rattle.state.specs.Memory.{gapRowCells, gapRowOf}
 

@@ -4,8 +4,8 @@ use mathlib.Core.List.{List, [], _∷_}
 use lib.ListN.{getD}
 use Rattle.laws.specs.Rules.{Rule as RuleOf}
 use Rattle.laws.specs.Refused.{sizeNo, packedNo, flagNo, countNo, frameNo, codeNo, trailerNo, lengthNo, checksumNo, numberingNo, fieldNo, rangeNo, contractNo, gapsNo, memoryNo, listNo, noGapNo, stateNo}
-use Rattle.message.specs.declared.head.Fault.{Fault}
-use Rattle.message.specs.declared.head.Fault.the-variants as fault
+use Rattle.head.specs.declared.head.Fault.{Fault}
+use Rattle.head.specs.declared.head.Fault.the-variants as fault
 use Rattle.state.specs.declared.refusal.Refusal.{Refusal}
 use Rattle.state.specs.declared.refusal.Refusal.the-variants.{Size, Packed, Flag, Count, Frame, Code, Trailer, Length, Checksum, Numbering, Field, Range, Contract, Gaps, Memory, List as ListOf, NoGap, State}
 

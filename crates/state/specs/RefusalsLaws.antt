@@ -9,9 +9,9 @@ use lib.ListN.{getD}
 use Rattle.laws.specs.Told.{told}
 use Rattle.state.specs.declared.refusal.Refusal.{Refusal}
 use Rattle.state.specs.declared.refusal.Refusal.the-variants.{Size, Packed, Flag, Count, Frame, Code, Trailer, Length, Checksum, Numbering, Field, Range, Contract, Gaps, Memory, List as ListOf, NoGap, State}
-use Rattle.message.specs.declared.head.Fault.{Fault}
-use Rattle.message.specs.declared.head.Fault.the-variants as fault
-use Rattle.message.specs.Numbers.{faultNumbers}
+use Rattle.head.specs.declared.head.Fault.{Fault}
+use Rattle.head.specs.declared.head.Fault.the-variants as fault
+use Rattle.head.specs.Faults.{faultNumbers}
 use Rattle.state.specs.Refusals.{refusalNumbers, ofFault, inMessage}
 
 -- the refusal of a number, with its message, row and cells wanted

@@ -7,18 +7,18 @@ use lib.Dec.{leb}
 use lib.ListN.{length}
 use Rattle.laws.specs.Rules.{firstBroken}
 use Rattle.pairs.specs.Lists.{Lists}
-use Rattle.contracts.specs.File.{segmentsOf}
-use Rattle.contracts.specs.Lookup.{segmentOf}
+use Rattle.files.specs.File.{segmentsOf}
+use Rattle.lookup.specs.Lookup.{segmentOf}
 use Rattle.contracts.specs.SoundTests.{headerSound}
 use Rattle.pairs.specs.SpreadTests.{spreadHeaderSound}
-use Rattle.message.specs.Tests.{isSome}
+use Rattle.head.specs.Tests.{isSome}
 use Rattle.state.specs.declared.refusal.Refusal.the-variants.{Code, Memory, List as ListOf, State}
 use Rattle.state.specs.declared.state.Asked.{Asked}
 use Rattle.state.specs.Refusals.{Rule}
 use Rattle.state.specs.Answers.{askedNumbers, answered}
 use Rattle.state.specs.Memory.{Lent, gapRowsWanted}
 use Rattle.state.specs.MemoryRows.{gapRowsSound}
-use Rattle.state.specs.Slots.{recordsWanted}
+use Rattle.slots.specs.Slots.{recordsWanted}
 
 -- 01, the table's row 15 for so many cells lent: "Where both are short, 15 names the gap rows and not the records"
 abbrev pub memoryRules : Lists → ℕ → ℕ → List Rule

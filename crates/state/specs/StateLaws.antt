@@ -10,19 +10,19 @@ use borrow.Author.Tests.{le-leb, leb-true}
 use lib.ListN.{length}
 use Rattle.laws.specs.Rules.{firstBroken, Hold}
 use Rattle.laws.specs.RulesLaws.{none-hold, hold-none, front-broken, last-holds, last-broken, last-held}
-use Rattle.contracts.specs.File.{sumBelow, segmentsOf, countAt, contractsOf}
-use Rattle.contracts.specs.BelowLaws.{each-passes, all-pass, sum-same}
-use Rattle.contracts.specs.FileLaws.{before-sum}
+use Rattle.files.specs.File.{sumBelow, segmentsOf, countAt, contractsOf}
+use Rattle.files.specs.BelowLaws.{each-passes, all-pass, sum-same}
+use Rattle.files.specs.FileLaws.{before-sum}
 use Rattle.contracts.specs.HeaderLaws.{header-exact}
-use Rattle.contracts.specs.Lookup.{segmentOf}
-use Rattle.contracts.specs.LookupLaws.{segment-has}
+use Rattle.lookup.specs.Lookup.{segmentOf}
+use Rattle.lookup.specs.LookupLaws.{segment-has}
 use Rattle.contracts.specs.SoundTests.{headerSound}
 use Rattle.pairs.specs.SpreadTests.{spreadHeaderSound}
 use Rattle.pairs.specs.SpreadLaws.{spread-header-exact}
 use Rattle.forms.specs.declared.forms.Item.the-variants.{Contract, Pair}
 use Rattle.pairs.specs.Lists.{Lists}
 use Rattle.sequence.specs.RowLaid.{soundGapRow}
-use Rattle.message.specs.Tests.{isSome}
+use Rattle.head.specs.Tests.{isSome}
 use Rattle.state.specs.declared.refusal.Refusal.{Refusal}
 use Rattle.state.specs.declared.refusal.Refusal.the-variants.{Code, List as ListOf, State}
 use Rattle.state.specs.declared.state.Asked.the-variants as asked
@@ -31,7 +31,7 @@ use Rattle.state.specs.Memory.{Lent, gapRowCells, gapRowsWanted, gapRowO
 use Rattle.state.specs.MemoryRows.{gapRowsSound}
 use Rattle.state.specs.AnswersLaws.{accepted-by, refused-by}
 use Rattle.state.specs.State.{stateRules, memoryRules, segmentRules, segmentValues, Asks}
-use Rattle.state.specs.Slots.{recordsWanted, itemCells}
+use Rattle.slots.specs.Slots.{recordsWanted, itemCells}
 use Rattle.state.specs.GoodState.{GoodState}
 
 -- ---- the cells wanted

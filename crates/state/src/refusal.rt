@@ -1,8 +1,8 @@
 // Every refusal of document 01's table, with what it returns besides its number.
 ghost use mathlib.Core.Path.{_≡_};
-ghost use Rattle.message.specs.Numbers.{faultNumbers};
+ghost use Rattle.head.specs.Faults.{faultNumbers};
 ghost use Rattle.state.specs.Refusals.{inMessage, refusalNumbers};
-use message::Fault;
+use head::Fault;
 
 pub enum Refusal {
     Size,

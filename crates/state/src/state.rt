@@ -8,9 +8,8 @@ ghost use Rattle.state.specs.Memory.{lends, gapRowCells};
 ghost use Rattle.state.specs.MemoryRows.{gapRowsSound};
 ghost use Rattle.state.specs.Answers.{checkedNumbers, checkedBy};
 ghost use Rattle.state.specs.State.{stateRules, memoryRules, Asks};
-use crate::records;
 use crate::refusal::Refusal;
-use contracts::Found;
+use lookup::Found;
 
 pub enum Checked {
     Good,
@@ -27,11 +26,11 @@ pub enum Asked {
 pub fn check_memory(list: &[u8], spreads: &[u8], rows: usize, records: usize) -> Checked
     ensures { λ r. ⌜ checkedNumbers r ≡ checkedBy (firstBroken (memoryRules (lists (now (list .entry)) (now (spreads .entry))) rows records)) ⌝ }
 {
-    let rows_wanted = sequence::CELLS * contracts::segments(list);
+    let rows_wanted = sequence::CELLS * files::segments(list);
     if rows < rows_wanted {
         return Checked::Refused(Refusal::Memory(rows_wanted));
     }
-    let records_wanted = records::records_wanted(list, spreads);
+    let records_wanted = slots::records_wanted(list, spreads);
     if records < records_wanted {
         return Checked::Refused(Refusal::Memory(records_wanted));
     }
@@ -58,7 +57,7 @@ fn rows_sound(rows: &[u32], segments: usize) -> bool
 pub fn check_state(list: &[u8], spreads: &[u8], rows: &[u32], records: &[u64]) -> Checked
     ensures { λ r. ⌜ checkedNumbers r ≡ checkedBy (firstBroken (stateRules (lends (lists (now (list .entry)) (now (spreads .entry))) (now (rows .entry)) (now (records .entry))))) ⌝ }
 {
-    if !contracts::header_sound(list, contracts::CONTRACTS) {
+    if !contracts::header_sound(list, files::CONTRACTS) {
         return Checked::Refused(Refusal::List);
     }
     if !pairs::spread_header_sound(list, spreads) {
@@ -66,7 +65,7 @@ pub fn check_state(list: &[u8], spreads: &[u8], rows: &[u32], records: &[u64]) -
     }
     match check_memory(list, spreads, rows.len(), records.len()) {
         Checked::Good => {
-            if rows_sound(rows, contracts::segments(list)) {
+            if rows_sound(rows, files::segments(list)) {
                 return Checked::Good;
             }
             Checked::Refused(Refusal::State)
@@ -86,7 +85,7 @@ pub fn check_segment(
     ensures { λ r. ⌜ Asks (lends (lists (now (list .entry)) (now (spreads .entry))) (now (rows .entry)) (now (records .entry))) letter r ⌝ }
 {
     match check_state(list, spreads, rows, records) {
-        Checked::Good => match contracts::segment_of(list, letter) {
+        Checked::Good => match lookup::segment_of(list, letter) {
             Found::At(segment) => Asked::Segment(segment),
             Found::Nowhere => Asked::Refused(Refusal::Code(0)),
         },

@@ -10,9 +10,9 @@ use Rattle.forms.specs.declared.forms.Subject.{Subject}
 use Rattle.forms.specs.declared.forms.Subject.the-variants.{Nothing, Of}
 use Rattle.forms.specs.declared.forms.Item.{Item}
 use Rattle.forms.specs.declared.forms.Item.the-variants.{Contract}
-use Rattle.state.specs.Slots.{levelCells}
-use Rattle.state.specs.declared.records.Fronts.{Fronts}
-use Rattle.state.specs.Places.{recordAt, recordOf, frontIn}
+use Rattle.slots.specs.Slots.{levelCells}
+use Rattle.slots.specs.declared.records.Fronts.{Fronts}
+use Rattle.slots.specs.Places.{recordAt, recordOf, frontIn}
 use Rattle.stores.specs.Stored.{stored}
 
 -- a word of our own: the cells of a store: its record's place, how many cells the record has, and those of a contract's level 2 record,

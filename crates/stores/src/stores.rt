@@ -5,16 +5,16 @@ ghost use lib.ListN.{length};
 ghost use lib.Seq.{sets};
 ghost use Rattle.forms.specs.Forms.{subjectOf};
 ghost use Rattle.forms.specs.Sizes.{mostRows};
-ghost use Rattle.state.specs.Places.{recordOf};
+ghost use Rattle.slots.specs.Places.{recordOf};
 ghost use Rattle.stores.specs.Stores.{storeCells, StoreKept, Near, KeptFor, Fits, AllFit, storedAt, madeOf, made};
 use layout::Form;
 use layout::Item;
 use layout::Level;
 use layout::Subject;
-use state::Fronts;
+use slots::Fronts;
 
 // The cells of a store: its record's place, how many cells the record has, and those: the number, then at most 32 rows.
-pub const STORE: usize = 2 + state::CONTRACT_TWO;
+pub const STORE: usize = 2 + slots::CONTRACT_TWO;
 
 fn put(cells: &mut [u64], at: usize, part: &[u64])
     requires { ⌜ at + length (now part) ≤ length (now cells) ⌝ }
@@ -44,7 +44,7 @@ fn keep(
     if stores.len() - at < STORE {
         return kept;
     }
-    let rows = state::record_rows(item, level);
+    let rows = slots::record_rows(item, level);
     let first = layout::key_rows_of(item);
     let end = first + rows;
     stores[at] = slot as u64;
@@ -70,7 +70,7 @@ pub fn keep_update(
     match layout::subject_of(form) {
         Subject::Nothing => kept,
         Subject::Of(item, level) => {
-            let slot = state::record_at(fronts, item, place, level);
+            let slot = slots::record_at(fronts, item, place, level);
             keep(stores, kept, slot, item, level, number, cells)
         }
     }

@@ -11,7 +11,7 @@ use Rattle.forms.specs.declared.rows.Level.{Level}
 use Rattle.forms.specs.declared.rows.Level.the-variants.{One, Two}
 use Rattle.forms.specs.Forms.{namedRows}
 use Rattle.quote.specs.declared.quote.Quote.{Quote}
-use Rattle.quote.specs.declared.spread.SpreadQuote.{SpreadQuote}
+use Rattle.spread.specs.declared.spread.SpreadQuote.{SpreadQuote}
 use Rattle.values.specs.Values.{most, valueRows, rowValues, spreadValues}
 use Rattle.told.specs.Shown.{valueCount}
 

@@ -5,8 +5,8 @@ ghost use Rattle.values.specs.Values.{rowValues, spreadValues};
 ghost use Rattle.told.specs.Shown.{valuesAfter};
 use layout::Level;
 use quote::Quote;
-use quote::SpreadQuote;
 use quotebox::Recorded;
+use spread::SpreadQuote;
 
 pub fn show(recorded: Recorded, level: Level, quote: Quote, values: &mut [u64; values::MOST])
     ensures { λ _. ⌜ now (values .exit) ≡ valuesAfter recorded (rowValues level quote) (now (values .entry)) ⌝ }

@@ -5,10 +5,10 @@ use mathlib.Core.Bool.{Bool, true, false}
 use mathlib.Core.List.{List, [], _∷_}
 use mathlib.Core.Option.{Option, some}
 use lib.ListN.{length}
-use Rattle.contracts.specs.Lookup.{segmentOf}
+use Rattle.lookup.specs.Lookup.{segmentOf}
 use Rattle.pairs.specs.Lists.{Lists, Headers}
 use Rattle.sequence.specs.RowLaid.{soundGapRow}
-use Rattle.message.specs.Fields.{lengthOf}
+use Rattle.head.specs.Fields.{lengthOf}
 use Rattle.turns.specs.declared.act.Act.{Act}
 use Rattle.turns.specs.declared.act.Act.the-variants.{Taken, Old, Heartbeat, Refused}
 use Rattle.turns.specs.declared.act.Counts.{Counts}
@@ -18,9 +18,9 @@ use Rattle.state.specs.declared.answers.Judged.{Judged}
 use Rattle.state.specs.Answers.{judgedNumbers}
 use Rattle.state.specs.Refusals.{refusalNumbers}
 use Rattle.turns.specs.Turns.{Box, Acted, acted, refused, numberActs, messageActs, messagesAct, actedNumbers}
-use Rattle.state.specs.Slots.{recordsWanted}
-use Rattle.state.specs.declared.records.Fronts.{Fronts}
-use Rattle.state.specs.Places.{FrontsOf}
+use Rattle.slots.specs.Slots.{recordsWanted}
+use Rattle.slots.specs.declared.records.Fronts.{Fronts}
+use Rattle.slots.specs.Places.{FrontsOf}
 use Rattle.stores.specs.Stores.{storeCells, made, AllFit, Room, Keeps}
 
 -- 01 "What may be asked": what becomes of a message, as one of those taken, old and heartbeats; or its refusal

@@ -17,19 +17,20 @@ use Rattle.turns.specs.declared.act.Act.{Act}
 use Rattle.turns.specs.declared.act.Act.the-variants as act
 use Rattle.message.specs.declared.body.What.{What}
 use Rattle.message.specs.declared.body.What.the-variants as what
-use Rattle.message.specs.declared.head.Fault.{Fault}
-use Rattle.message.specs.declared.head.Head.the-variants.{Good}
+use Rattle.head.specs.declared.head.Fault.{Fault}
+use Rattle.head.specs.declared.head.Head.the-variants.{Good}
 use Rattle.message.specs.CallerLaws.{all-there}
-use Rattle.message.specs.Fields.{lengthOf}
+use Rattle.head.specs.Fields.{lengthOf}
 use Rattle.message.specs.Message.{Message}
 use Rattle.message.specs.Reads.{messageOf}
 use Rattle.message.specs.MessageLaws.{length-is}
-use Rattle.message.specs.Numbers.{faultNumbers, verdictOf}
+use Rattle.message.specs.Numbers.{verdictOf}
+use Rattle.head.specs.Faults.{faultNumbers}
 use Rattle.state.specs.declared.refusal.Refusal.{Refusal}
 use Rattle.state.specs.declared.refusal.Refusal.the-variants.{Gaps}
 use Rattle.turns.specs.Acts.{none, boxAt, changedBy, NumberActs, MessageActs}
 use Rattle.turns.specs.Turns.{Box, numberActs, whatActs, messageActs, actedNumbers}
-use Rattle.state.specs.Slots.{recordsWanted}
+use Rattle.slots.specs.Slots.{recordsWanted}
 use Rattle.state.specs.Refusals.{refusalNumbers, inMessage}
 use Rattle.state.specs.RefusalsLaws.{fault-numbers, fault-told}
 use Rattle.stores.specs.Stores.{storeCells, Keeps}

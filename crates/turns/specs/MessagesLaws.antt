@@ -10,7 +10,7 @@ use lib.ListN.{length, drop, take, length-drop}
 use lib.Seq.{drop-drop, take-all}
 use Rattle.pairs.specs.Lists.{Lists}
 use Rattle.sequence.specs.RowLaid.{soundGapRow}
-use Rattle.message.specs.Fields.{lengthOf}
+use Rattle.head.specs.Fields.{lengthOf}
 use Rattle.turns.specs.declared.act.Act.{Act}
 use Rattle.turns.specs.declared.act.Act.the-variants.{Taken, Old, Heartbeat, Refused}
 use Rattle.turns.specs.declared.act.Counts.{Counts}
@@ -23,7 +23,7 @@ use Rattle.state.specs.declared.refusal.Refusal.{Refusal}
 use Rattle.state.specs.declared.refusal.Refusal.the-variants.{Count}
 use Rattle.turns.specs.Acts.{counted, none, total, boxAt, passed, actedAs, MessageActs, JudgedMessages, Turned}
 use Rattle.turns.specs.Turns.{Box, Acted, acted, refused, messageActs, messagesAct, actedNumbers}
-use Rattle.state.specs.Slots.{recordsWanted}
+use Rattle.slots.specs.Slots.{recordsWanted}
 use Rattle.stores.specs.Stores.{storeCells, made, AllFit, leastUpdate, Room}
 
 -- what the messages are answered, with the stores kept

@@ -9,19 +9,19 @@ use Rattle.forms.specs.declared.forms.Subject.{Subject}
 use Rattle.forms.specs.declared.forms.Subject.the-variants.{Nothing, Of}
 use Rattle.forms.specs.Forms.{subjectOf}
 use Rattle.pairs.specs.Lists.{Lists}
-use Rattle.contracts.specs.Lookup.{segmentOf}
+use Rattle.lookup.specs.Lookup.{segmentOf}
 use Rattle.sequence.specs.Gaps.{takes}
 use Rattle.sequence.specs.Changes.{full, after}
 use Rattle.sequence.specs.Row.{gapsOf}
 use Rattle.sequence.specs.RowLaid.{laid}
 use Rattle.message.specs.declared.body.What.{What}
 use Rattle.message.specs.declared.body.What.the-variants.{Heartbeat, PassedOver, Update, Bad}
-use Rattle.message.specs.Fields.{lengthOf}
+use Rattle.head.specs.Fields.{lengthOf}
 use Rattle.message.specs.Reads.{messageOf}
 use Rattle.state.specs.declared.refusal.Refusal.{Refusal}
 use Rattle.state.specs.declared.refusal.Refusal.the-variants.{Count, Gaps}
 use Rattle.state.specs.Refusals.{refusalNumbers, ofFault}
-use Rattle.state.specs.Places.{slotAt, slotIn, recordOf}
+use Rattle.slots.specs.Places.{slotAt, slotIn, recordOf}
 use Rattle.stores.specs.Stored.{stored}
 
 -- 01 "Sequence and gaps": what a batch changes as its messages act in turn: its segment's gap row and the records; and the

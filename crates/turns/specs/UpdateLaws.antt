@@ -7,9 +7,9 @@ use native.Mathlib.Nat.{min-le-left}
 use native.Mathlib.Omega.{arith}
 use lib.ListN.{length, take, drop, length-take, length-drop}
 use lib.Seq.{sets}
-use Rattle.contracts.specs.File.{countAt}
-use Rattle.contracts.specs.Lookup.{segmentOf}
-use Rattle.contracts.specs.LookupLaws.{segment-has, key-at-place}
+use Rattle.files.specs.File.{countAt}
+use Rattle.lookup.specs.Lookup.{segmentOf}
+use Rattle.lookup.specs.LookupLaws.{segment-has, key-at-place}
 use Rattle.pairs.specs.Lists.{Lists, Headers}
 use Rattle.forms.specs.declared.rows.Level.{Level}
 use Rattle.forms.specs.declared.rows.Level.the-variants.{One, Two}
@@ -32,10 +32,10 @@ use Rattle.turns.specs.declared.act.Act.{Act}
 use Rattle.turns.specs.declared.act.Act.the-variants.{Taken}
 use Rattle.turns.specs.Acts.{InFront, changedBy}
 use Rattle.turns.specs.Turns.{updated}
-use Rattle.state.specs.Slots.{Slot, slot, SlotListed, recordsWanted}
-use Rattle.state.specs.declared.records.Fronts.{Fronts}
-use Rattle.state.specs.Places.{slotAt, slotIn, recordOf, recordRows, recordAt, frontIn}
-use Rattle.state.specs.SlotsLaws.{slot-inside, cells-by-rows, record-long, rows-kept, rows-few}
+use Rattle.slots.specs.Slots.{Slot, slot, SlotListed, recordsWanted}
+use Rattle.slots.specs.declared.records.Fronts.{Fronts}
+use Rattle.slots.specs.Places.{slotAt, slotIn, recordOf, recordRows, recordAt, frontIn}
+use Rattle.slots.specs.SlotsLaws.{slot-inside, cells-by-rows, record-long, rows-kept, rows-few}
 use Rattle.stores.specs.Stores.{storeCells, leastUpdate, Near, KeptFor, Keeps}
 use Rattle.stores.specs.StoresLaws.{one-kept}
 

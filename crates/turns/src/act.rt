@@ -2,16 +2,16 @@
 ghost use mathlib.Core.Path.{_≡_};
 ghost use mathlib.Core.Bool.{true};
 ghost use Prim.Native.Nat.{_<_};
-ghost use Rattle.contracts.specs.Answers.{placeOf};
+ghost use Rattle.lookup.specs.Answers.{placeOf};
 ghost use Rattle.pairs.specs.Lists.{lists};
 ghost use Rattle.sequence.specs.RowLaid.{soundGapRow};
 ghost use Rattle.turns.specs.Acts.{counted, none, total, Ready, NumberActs, MessageActs, JudgedMessages, Turned};
 ghost use lib.ListN.{length};
-use contracts::Found;
 use layout::MOST_ROWS;
+use lookup::Found;
 use message::What;
 use sequence::Taken;
-use state::Fronts;
+use slots::Fronts;
 use state::Judged;
 use state::Refusal;
 

@@ -1,4 +1,4 @@
--- Laws of an update's values. Today a value is what a cell holds for the same field.
+-- Laws of an update's values.
 use Prim.Native.Nat.{ℕ, zero, suc, _+_, _-_, _≤_}
 use mathlib.Core.Path.{_≡_, refl, ap, _∙_}
 use mathlib.Core.Bool.{Bool, true, false}
@@ -11,39 +11,32 @@ use Rattle.forms.specs.declared.forms.Item.{Item}
 use Rattle.forms.specs.declared.forms.Item.the-variants.{Contract, Pair}
 use Rattle.forms.specs.declared.rows.Level.{Level}
 use Rattle.forms.specs.declared.rows.Level.the-variants.{One, Two}
-use Rattle.layout.specs.declared.cells.Held.{Held}
-use Rattle.layout.specs.declared.cells.Held.the-variants.{Nothing, Units, Below}
 use Rattle.forms.specs.Names.{Name, NamedRow, marketType, buyPrice, buyQuantity, sellPrice, sellQuantity, lastPrice, tradedQuantity, status, openingPrice, highPrice, lowPrice, closePrice, averagePrice, allBuyers, allSellers, turnover as turnoverName}
 use Rattle.forms.specs.SameName.{sameName}
 use Rattle.forms.specs.Forms.{keyRows, pairKeyRows, namedRows, rowsOf, keyRowsOf, recordForm}
 use Rattle.forms.specs.FormsLaws.{fits}
 use Rattle.forms.specs.Sizes.{mostRows}
-use Rattle.layout.specs.Cells.{cellOf}
+use Rattle.layout.specs.Plain.{heldOf, letterOf}
 use Rattle.quote.specs.declared.quote.Quote.{Quote}
-use Rattle.quote.specs.declared.spread.SpreadQuote.{SpreadQuote}
-use Rattle.quote.specs.Quote.{priceOf, quantityOf, turnoverOf, next, rowNamed, cellAt, cellNamed, orderLevels, orderIn, sideIn, quoteBy, quoteOf, cellsOf}
-use Rattle.quote.specs.Spread.{differenceOf, spreadOrderIn, spreadQuoteBy, spreadQuoteOf, spreadCellsOf}
-use Rattle.state.specs.Places.{recordRows}
-use Rattle.state.specs.SlotsLaws.{rows-few, rows-kept}
-use Rattle.values.specs.Values.{valueOf, heldOf, letterOf, first, most, valueRows, rowValues, spreadValues, valueAt, orderFrom, spreadOrderFrom, quoteFrom, spreadFrom, quoteIn, spreadIn}
+use Rattle.spread.specs.declared.spread.SpreadQuote.{SpreadQuote}
+use Rattle.quote.specs.Quote.{priceOf, quantityOf, turnoverOf, next, rowNamed, cellAt, cellNamed, orderLevels, orderIn, sideIn, quoteBy, quoteOf, valuesOf}
+use Rattle.spread.specs.Spread.{differenceOf, spreadOrderIn, spreadQuoteBy, spreadQuoteOf, spreadValuesOf}
+use Rattle.slots.specs.Places.{recordRows}
+use Rattle.slots.specs.SlotsLaws.{rows-few, rows-kept}
+use Rattle.values.specs.Values.{first, most, valueRows, rowValues, spreadValues, valueAt, orderFrom, spreadOrderFrom, quoteFrom, spreadFrom, quoteIn, spreadIn}
 
--- ---- values and cells
+-- ---- the values of rows
 
-value-cell : (signed : Bool) (held : Held) → valueOf signed held ≡ cellOf signed held
-value-cell signed Nothing = refl
-value-cell signed (Units n) = refl
-value-cell signed (Below n) = refl
+-- the values of the rows stand behind the key
+pub values-behind : (level : Level) (quote : Quote) → take (recordRows Contract level) (drop (keyRowsOf Contract) (valuesOf (recordForm Contract level) quote)) ≡ rowValues level quote
+unfolding rowValues valueRows recordRows rowsOf namedRows valuesOf
+values-behind One quote = refl
+values-behind Two quote = refl
 
--- the values of the rows are the cells behind the key
-pub values-cells : (level : Level) (quote : Quote) → take (recordRows Contract level) (drop (keyRowsOf Contract) (cellsOf (recordForm Contract level) quote)) ≡ rowValues level quote
-unfolding rowValues valueRows recordRows rowsOf namedRows cellsOf
-values-cells One quote = simp value-cell
-values-cells Two quote = simp value-cell
-
-pub spread-values-cells : (level : Level) (quote : SpreadQuote) → take (recordRows Pair level) (drop (keyRowsOf Pair) (spreadCellsOf (recordForm Pair level) quote)) ≡ spreadValues level quote
-unfolding spreadValues valueRows recordRows rowsOf namedRows spreadCellsOf
-spread-values-cells One quote = simp value-cell
-spread-values-cells Two quote = simp value-cell
+pub spread-values-behind : (level : Level) (quote : SpreadQuote) → take (recordRows Pair level) (drop (keyRowsOf Pair) (spreadValuesOf (recordForm Pair level) quote)) ≡ spreadValues level quote
+unfolding spreadValues valueRows recordRows rowsOf namedRows spreadValuesOf
+spread-values-behind One quote = refl
+spread-values-behind Two quote = refl
 
 -- ---- the quote that values hold
 
@@ -218,15 +211,15 @@ spread-held level values long =
     ∙ ap (λ (rows : List NamedRow). spreadQuoteBy rows (heldCells pairKeyRows (valueRows Pair level) (drop first values) (rest Pair level values long))) (rows-behind Pair level)
     ∙ spread-named (valueRows Pair level) (drop first values) (rest Pair level values long) (enough Pair level values long)
 
--- the values that were read are those to write: they hold the quote that its own cells hold
+-- the values that were read are those to write: they hold the quote that its own values hold
 pub values-back : (number : ℕ) (level : Level) (quote : Quote) (behind : List ℕ)
-    → quoteIn level (number ∷ rowValues level quote ++ behind) ≡ quoteOf (recordForm Contract level) (cellsOf (recordForm Contract level) quote)
-unfolding quoteIn rowValues valueRows namedRows quoteOf cellsOf
-values-back number One quote behind = simp value-cell
-values-back number Two quote behind = simp value-cell
+    → quoteIn level (number ∷ rowValues level quote ++ behind) ≡ quoteOf (recordForm Contract level) (valuesOf (recordForm Contract level) quote)
+unfolding quoteIn rowValues valueRows namedRows quoteOf valuesOf
+values-back number One quote behind = refl
+values-back number Two quote behind = refl
 
 pub spread-values-back : (number : ℕ) (level : Level) (quote : SpreadQuote) (behind : List ℕ)
-    → spreadIn level (number ∷ spreadValues level quote ++ behind) ≡ spreadQuoteOf (recordForm Pair level) (spreadCellsOf (recordForm Pair level) quote)
-unfolding spreadIn spreadValues valueRows namedRows spreadQuoteOf spreadCellsOf
-spread-values-back number One quote behind = simp value-cell
-spread-values-back number Two quote behind = simp value-cell
+    → spreadIn level (number ∷ spreadValues level quote ++ behind) ≡ spreadQuoteOf (recordForm Pair level) (spreadValuesOf (recordForm Pair level) quote)
+unfolding spreadIn spreadValues valueRows namedRows spreadQuoteOf spreadValuesOf
+spread-values-back number One quote behind = refl
+spread-values-back number Two quote behind = refl

@@ -1,19 +1,19 @@
-// An update's values, as hosts and the test bench are told them: one a row behind the key. Today a value is what a cell of lent
-// memory holds for the same field, so values are copied to and from cells.
+// An update's values, as hosts and the test bench are told them: one a row behind the key. Today a value stands for what a cell of
+// the same bits holds, so a quote is made of values as it is of cells.
 ghost use mathlib.Core.Path.{_≡_};
 ghost use Prim.Native.Nat.{_+_, _≤_};
 ghost use lib.ListN.{length, take, drop, replicate};
 ghost use lib.Seq.{sets};
 ghost use Rattle.forms.specs.Forms.{keyRowsOf};
 ghost use Rattle.forms.specs.Sizes.{mostRows};
-ghost use Rattle.state.specs.Places.{recordRows};
+ghost use Rattle.slots.specs.Places.{recordRows};
 ghost use Rattle.values.specs.Values.{first, most, rowValues, quoteIn, spreadValues, spreadIn};
 use layout::Item;
 use layout::KEY_ROWS;
 use layout::Level;
 use layout::MOST_ROWS;
 use quote::Quote;
-use quote::SpreadQuote;
+use spread::SpreadQuote;
 
 // What a value holds for "none".
 pub const NONE: u64 = 0xffff_ffff_ffff_ffff;
@@ -35,52 +35,52 @@ fn copy(from: &[u64], first: usize, to: &mut [u64], at: usize, count: usize)
     }
 }
 
-// The cells of the rows behind the key, as values. The number stays as it is, and so do values that the level has no row for.
-fn put_rows(item: Item, level: Level, cells: &[u64; MOST_ROWS], values: &mut [u64; MOST])
+// The values of the rows behind the key, of those of all rows. The number stays as it is, and so do values that the level has no row for.
+fn put_rows(item: Item, level: Level, laid: &[u64; MOST_ROWS], values: &mut [u64; MOST])
     ensures { λ _. ⌜ now (values .exit)
-        ≡ sets (now (values .entry)) first (take (recordRows item level) (drop (keyRowsOf item) (now (cells .entry)))) ⌝ }
+        ≡ sets (now (values .entry)) first (take (recordRows item level) (drop (keyRowsOf item) (now (laid .entry)))) ⌝ }
 {
     let behind = layout::key_rows_of(item);
-    let rows = state::record_rows(item, level);
-    copy(cells, behind, values, FIRST, rows);
+    let rows = slots::record_rows(item, level);
+    copy(laid, behind, values, FIRST, rows);
 }
 
 // The number isn't looked at.
-fn cells_in(item: Item, level: Level, values: &[u64; MOST]) -> [u64; MOST_ROWS]
+fn laid_in(item: Item, level: Level, values: &[u64; MOST]) -> [u64; MOST_ROWS]
     ensures { λ r. ⌜ (length (now (values .entry)) ≡ most)
         × (r ≡ sets (replicate mostRows 0) (keyRowsOf item) (take (recordRows item level) (drop first (now (values .entry))))) ⌝ }
 {
-    let mut cells = [0u64; MOST_ROWS];
+    let mut laid = [0u64; MOST_ROWS];
     let at = layout::key_rows_of(item);
-    let count = state::record_rows(item, level);
-    copy(values, FIRST, &mut cells, at, count);
-    cells
+    let count = slots::record_rows(item, level);
+    copy(values, FIRST, &mut laid, at, count);
+    laid
 }
 
 pub fn put(level: Level, quote: Quote, values: &mut [u64; MOST])
     ensures { λ _. ⌜ now (values .exit) ≡ sets (now (values .entry)) first (rowValues level quote) ⌝ }
 {
-    let cells = quote::cells_of(layout::record_form(Item::Contract, level), quote);
-    put_rows(Item::Contract, level, &cells, values);
+    let laid = quote::values_of(layout::record_form(Item::Contract, level), quote);
+    put_rows(Item::Contract, level, &laid, values);
 }
 
 pub fn quote_in(level: Level, values: &[u64; MOST]) -> Quote
     ensures { λ r. ⌜ r ≡ quoteIn level (now (values .entry)) ⌝ }
 {
-    let cells = cells_in(Item::Contract, level, values);
-    quote::quote_of(layout::record_form(Item::Contract, level), &cells)
+    let laid = laid_in(Item::Contract, level, values);
+    quote::quote_of(layout::record_form(Item::Contract, level), &laid)
 }
 
 pub fn put_spread(level: Level, quote: SpreadQuote, values: &mut [u64; MOST])
     ensures { λ _. ⌜ now (values .exit) ≡ sets (now (values .entry)) first (spreadValues level quote) ⌝ }
 {
-    let cells = quote::spread_cells_of(layout::record_form(Item::Pair, level), quote);
-    put_rows(Item::Pair, level, &cells, values);
+    let laid = spread::spread_values_of(layout::record_form(Item::Pair, level), quote);
+    put_rows(Item::Pair, level, &laid, values);
 }
 
 pub fn spread_in(level: Level, values: &[u64; MOST]) -> SpreadQuote
     ensures { λ r. ⌜ r ≡ spreadIn level (now (values .entry)) ⌝ }
 {
-    let cells = cells_in(Item::Pair, level, values);
-    quote::spread_quote_of(layout::record_form(Item::Pair, level), &cells)
+    let laid = laid_in(Item::Pair, level, values);
+    spread::spread_quote_of(layout::record_form(Item::Pair, level), &laid)
 }

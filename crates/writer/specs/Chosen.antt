@@ -7,7 +7,7 @@ use Rattle.forms.specs.declared.forms.Chosen.{Chosen}
 use Rattle.forms.specs.declared.forms.Chosen.the-variants as chosen
 use Rattle.forms.specs.declared.forms.Named.the-variants as is
 use Rattle.forms.specs.Forms.{writtenForm}
-use Rattle.message.specs.Tests.{takesNumber}
+use Rattle.head.specs.Tests.{takesNumber}
 use Rattle.writer.specs.declared.writing.Code.{Code}
 
 -- 01 "What may be asked", M-100: the form that is written of a contract or of a pair for a code and a level; a heartbeat's level

@@ -1,4 +1,4 @@
--- Writing a message from the cells of its rows: 01 "The message", "The checksum", "Numbers in text", and the writer's order of
+-- Writing a message from the values of its rows: 01 "The message", "The checksum", "Numbers in text", and the writer's order of
 -- checks.
 use Prim.Native.Nat.{ℕ, _+_, _≤_}
 use mathlib.Core.Path.{_≡_}
@@ -20,8 +20,8 @@ use Rattle.forms.specs.declared.forms.Sum.the-variants.{Zero, Right, RightOrZer
 use Rattle.forms.specs.Forms.{rowsOf, sumRule}
 use Rattle.forms.specs.Rows.{messageLength}
 use Rattle.forms.specs.Sizes.{bareLength}
-use Rattle.layout.specs.Write.{Laid, writeRows, overFront, whereGood}
-use Rattle.message.specs.Fields.{zeroSum}
+use Rattle.compose.specs.Write.{Laid, writeRows, overFront, whereGood}
+use Rattle.head.specs.Fields.{zeroSum}
 use Rattle.state.specs.declared.answers.Written.{Written}
 use Rattle.state.specs.declared.refusal.Refusal.the-variants.{Code as CodeOver, Numbering, Field, Range, Memory}
 use Rattle.state.specs.declared.state.Checked.{Checked}
@@ -45,14 +45,14 @@ abbrev pub rowsWritten : Chosen → List Row
 rowsWritten (chosen.Form form) = rowsOf form
 rowsWritten chosen.NoForm = []
 
--- 01 "The message": the cells that they are written from, by what a quote's cells are in each form
-abbrev pub cellsWritten : Chosen → (Form → List ℕ) → List ℕ
-cellsWritten (chosen.Form form) cells = cells form
-cellsWritten chosen.NoForm cells = []
+-- 01 "The message": the values that they are written from, by what a quote's values are in each form
+abbrev pub valuesWritten : Chosen → (Form → List ℕ) → List ℕ
+valuesWritten (chosen.Form form) values = values form
+valuesWritten chosen.NoForm values = []
 
 -- 01 "The message": the data, and the verdict on its rows
 unfoldable pub dataWritten : Chosen → List ℕ → List ℕ → Laid
-dataWritten form key cells = writeRows 0 (rowsWritten form) key cells
+dataWritten form key values = writeRows 0 (rowsWritten form) key values
 
 -- 01, the writer's order of checks: "then 11 and 12 by row": the first bad row's
 abbrev pub rowsRules : Verdict → List Rule
@@ -70,17 +70,17 @@ lengthWritten form = messageLength (rowsWritten form)
 
 -- 01, the order of checks: "Writer: code not in the table (6), 10, then 11 and 12 by row, then 15"
 unfoldable pub writeRules : Chosen → ℕ → List ℕ → List ℕ → ℕ → List Rule
-writeRules form number key cells room =
-    codeRules form number ++ rowsRules (dataWritten form key cells .verdict) ++ roomRules (lengthWritten form) room
+writeRules form number key values room =
+    codeRules form number ++ rowsRules (dataWritten form key values .verdict) ++ roomRules (lengthWritten form) room
 
 -- 01, the table's rows 6, 10, 11, 12 and 15: a message that the writer writes breaks no rule
-pub record GoodWrite (form : Chosen) (number : ℕ) (key cells : List ℕ) (room : ℕ) : Type 0 where
+pub record GoodWrite (form : Chosen) (number : ℕ) (key values : List ℕ) (room : ℕ) : Type 0 where
   -- 6
   pub tabled : inTable form ≡ true
   -- 10
   pub has-number : numbered form number ≡ true
   -- 11 and 12
-  pub rows-good : dataWritten form key cells .verdict ≡ verdict.Good
+  pub rows-good : dataWritten form key values .verdict ≡ verdict.Good
   -- 15
   pub has-room : lengthWritten form ≤ room
 

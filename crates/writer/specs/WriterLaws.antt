@@ -25,10 +25,10 @@ use Rattle.forms.specs.Forms.{rowsOf, sumRule}
 use Rattle.forms.specs.Rows.{dataLength}
 use Rattle.forms.specs.Sizes.{bareLength}
 use Rattle.layout.specs.AnswersLaws.{verdict-told}
-use Rattle.layout.specs.Write.{Laid, overFront, whereGood, WritesUpdate, writeRows}
-use Rattle.layout.specs.WriteLaws.{good-length}
-use Rattle.layout.specs.PutLaws.{laid-whole}
-use Rattle.message.specs.Tests.{takesNumber}
+use Rattle.compose.specs.Write.{Laid, overFront, whereGood, WritesUpdate, writeRows}
+use Rattle.compose.specs.WriteLaws.{good-length}
+use Rattle.compose.specs.PutLaws.{laid-whole}
+use Rattle.head.specs.Tests.{takesNumber}
 use Rattle.state.specs.declared.answers.Written.{Written}
 use Rattle.state.specs.declared.refusal.Refusal.{Refusal}
 use Rattle.state.specs.declared.refusal.Refusal.the-variants.{Code as CodeOver, Numbering, Memory}
@@ -38,7 +38,7 @@ use Rattle.state.specs.Answers.{leftBy, answered, checkedNumbers, checkedBy}
 use Rattle.state.specs.Refusals.{Rule}
 use Rattle.writer.specs.Writer.{codeRules, rowsWritten, dataWritten, rowsRules, roomRules, lengthWritten, writeRules, headBytes, sumWritten, endByte, beforeTrailer, messageBytes, messagePut, LaysRows, PutsMessage}
 use Rattle.writer.specs.Chosen.{formWritten}
-use Rattle.writer.specs.WriterPromises.{WroteForm, WroteCells}
+use Rattle.writer.specs.WriterPromises.{WroteForm, WroteValues}
 
 -- ---- the code
 
@@ -52,12 +52,12 @@ module _ (form : Form) (number : ℕ) where
 -- ---- the rows
 
 -- the rows of a form
-pub form-rows : (form : Form) (key cells : List ℕ) {before after : List ℕ} {v : Verdict} {answer : Checked}
-    → WritesUpdate (writeRows 0 (rowsOf form) key cells) before v after → checkedNumbers answer ≡ checkedBy (firstBroken (rowsRules v))
-    → LaysRows (dataWritten (chosen.Form form) key cells) before answer after
+pub form-rows : (form : Form) (key values : List ℕ) {before after : List ℕ} {v : Verdict} {answer : Checked}
+    → WritesUpdate (writeRows 0 (rowsOf form) key values) before v after → checkedNumbers answer ≡ checkedBy (firstBroken (rowsRules v))
+    → LaysRows (dataWritten (chosen.Form form) key values) before answer after
 unfolding dataWritten
-form-rows form key cells {v = v} wrote told =
-    let same = verdict-told v (writeRows 0 (rowsOf form) key cells .verdict) (wrote .answers) in
+form-rows form key values {v = v} wrote told =
+    let same = verdict-told v (writeRows 0 (rowsOf form) key values .verdict) (wrote .answers) in
     record { answers = told ∙ ap (λ (w : Verdict). checkedBy (firstBroken (rowsRules w))) same; leaves = wrote .leaves }
 
 pub rows-pass : (v : Verdict) → firstBroken (rowsRules v) ≡ none → v ≡ verdict.Good
@@ -66,10 +66,10 @@ rows-pass (verdict.Field row) e = cc
 rows-pass (verdict.Range row) e = cc
 
 -- good rows are as long as they are wide
-pub long-data : (form : Chosen) (key cells : List ℕ) → dataWritten form key cells .verdict ≡ verdict.Good
-    → length (dataWritten form key cells .bytes) ≡ dataLength (rowsWritten form)
+pub long-data : (form : Chosen) (key values : List ℕ) → dataWritten form key values .verdict ≡ verdict.Good
+    → length (dataWritten form key values .bytes) ≡ dataLength (rowsWritten form)
 unfolding dataWritten
-long-data form key cells good = good-length 0 (rowsWritten form) key cells good
+long-data form key values good = good-length 0 (rowsWritten form) key values good
 
 -- ---- the message in front
 
@@ -170,14 +170,14 @@ no-room code number bytes out n e h =
 
 -- ---- the checks in their order
 
-module _ (form : Chosen) (code : Code) (number : ℕ) (key cells out : List ℕ) where
+module _ (form : Chosen) (code : Code) (number : ℕ) (key values out : List ℕ) where
   abbrev rows : Laid
-  rows = dataWritten form key cells
+  rows = dataWritten form key values
 
   abbrev broken : Option Refusal
-  broken = firstBroken (writeRules form number key cells (length out))
+  broken = firstBroken (writeRules form number key values (length out))
 
-  refuses : (r : Refusal) → broken ≡ some r → WroteForm form code number key cells out (Written.Refused r) out
+  refuses : (r : Refusal) → broken ≡ some r → WroteForm form code number key values out (Written.Refused r) out
   refuses r e =
       record {
         answers = sym (ap (λ (o : Option Refusal). answered o (lengthWritten form ∷ [])) e);
@@ -187,19 +187,19 @@ module _ (form : Chosen) (code : Code) (number : ℕ) (key cells out : List ℕ)
   abbrev behind : List Rule
   behind = roomRules (lengthWritten form) (length out)
 
-  pub code-refused : (r : Refusal) → firstBroken (codeRules form number) ≡ some r → WroteForm form code number key cells out (Written.Refused r) out
+  pub code-refused : (r : Refusal) → firstBroken (codeRules form number) ≡ some r → WroteForm form code number key values out (Written.Refused r) out
   unfolding writeRules
   code-refused r e = refuses r (front-broken (codeRules form number) (rowsRules (rows .verdict) ++ behind) r e)
 
   module _ (coded : firstBroken (codeRules form number) ≡ none) where
-    pub rows-refused : (r : Refusal) → firstBroken (rowsRules (rows .verdict)) ≡ some r → WroteForm form code number key cells out (Written.Refused r) out
+    pub rows-refused : (r : Refusal) → firstBroken (rowsRules (rows .verdict)) ≡ some r → WroteForm form code number key values out (Written.Refused r) out
     unfolding writeRules
     rows-refused r e =
         refuses r (front-holds (codeRules form number) (rowsRules (rows .verdict) ++ behind) (none-hold (codeRules form number) coded) ∙ front-broken (rowsRules (rows .verdict)) behind r e)
 
     module _ (good : firstBroken (rowsRules (rows .verdict)) ≡ none) where
       pub long-rows : length (rows .bytes) ≡ dataLength (rowsWritten form)
-      long-rows = long-data form key cells (rows-pass (rows .verdict) good)
+      long-rows = long-data form key values (rows-pass (rows .verdict) good)
 
       -- the rows as they lie on scratch memory
       pub laid-rows : {before after : List ℕ} {answer : Checked} → length (rows .bytes) ≤ length before → LaysRows rows before answer after
@@ -212,7 +212,7 @@ module _ (form : Chosen) (code : Code) (number : ℕ) (key cells out : List ℕ)
           (l .leaves ∙ ap (λ v. whereGood v (overFront (rows .bytes) before) before) (rows-pass (rows .verdict) good) ∙ front)
           ∙ take-at (rows .bytes) (drop (length (rows .bytes)) before) n long-rows
 
-      pub sent : {answer : Written} {out′ : List ℕ} → PutsMessage code number (rows .bytes) out answer out′ → WroteForm form code number key cells out answer out′
+      pub sent : {answer : Written} {out′ : List ℕ} → PutsMessage code number (rows .bytes) out answer out′ → WroteForm form code number key values out answer out′
       unfolding writeRules lengthWritten
       sent p =
           let decides = front-holds (codeRules form number) (rowsRules (rows .verdict) ++ behind) (none-hold (codeRules form number) coded) ∙ front-holds (rowsRules (rows .verdict)) behind (none-hold (rowsRules (rows .verdict)) good) in
@@ -229,12 +229,12 @@ module _ (form : Chosen) (code : Code) (number : ℕ) (key cells out : List ℕ)
 
 -- ---- the form that is chosen
 
-module _ (item : Item) (code : Code) (level : Level) (number : ℕ) (key : List ℕ) (cells : Form → List ℕ) (out : List ℕ) where
-  -- it is written from its own cells
-  pub form-chosen : {form : Form} {given out′ : List ℕ} {answer : Written} → formWritten item code level ≡ chosen.Form form → given ≡ cells form
-      → WroteForm (chosen.Form form) code number key given out answer out′ → WroteCells item code level number key cells out answer out′
+module _ (item : Item) (code : Code) (level : Level) (number : ℕ) (key : List ℕ) (values : Form → List ℕ) (out : List ℕ) where
+  -- it is written from its own values
+  pub form-chosen : {form : Form} {given out′ : List ℕ} {answer : Written} → formWritten item code level ≡ chosen.Form form → given ≡ values form
+      → WroteForm (chosen.Form form) code number key given out answer out′ → WroteValues item code level number key values out answer out′
   form-chosen chose same wrote = rw (chose, ← same) wrote
 
   -- 6 where there is none
-  pub none-chosen : formWritten item code level ≡ chosen.NoForm → WroteCells item code level number key cells out (Written.Refused (CodeOver 0)) out
+  pub none-chosen : formWritten item code level ≡ chosen.NoForm → WroteValues item code level number key values out (Written.Refused (CodeOver 0)) out
   none-chosen chose = rw chose (code-refused chosen.NoForm code number key [] out (CodeOver 0) refl)

@@ -12,7 +12,7 @@ use Rattle.laws.specs.RulesLaws.{none-hold, hold-none, hold-append}
 use Rattle.forms.specs.declared.rows.Level.{Level}
 use Rattle.forms.specs.declared.forms.Form.{Form}
 use Rattle.forms.specs.declared.forms.Item.{Item}
-use Rattle.layout.specs.Write.{Laid}
+use Rattle.compose.specs.Write.{Laid}
 use Rattle.forms.specs.declared.forms.Chosen.{Chosen}
 use Rattle.forms.specs.Sizes.{bareLength}
 use Rattle.state.specs.declared.answers.Written.{Written}
@@ -21,24 +21,24 @@ use Rattle.writer.specs.declared.writing.Code.{Code}
 use Rattle.state.specs.AnswersLaws.{written-told, refused-by, accepted-by}
 use Rattle.state.specs.Answers.{leftBy}
 use Rattle.state.specs.Refusals.{Rule}
-use Rattle.writer.specs.Writer.{codeRules, cellsWritten, dataWritten, rowsRules, roomRules, lengthWritten, writeRules, GoodWrite, messageBytes, messagePut}
+use Rattle.writer.specs.Writer.{codeRules, valuesWritten, dataWritten, rowsRules, roomRules, lengthWritten, writeRules, GoodWrite, messageBytes, messagePut}
 use Rattle.writer.specs.Chosen.{formWritten}
 use Rattle.writer.specs.WriterLaws.{rows-pass, long-data, message-long}
-use Rattle.writer.specs.WriterPromises.{WroteCells}
+use Rattle.writer.specs.WriterPromises.{WroteValues}
 
 -- none of its rules is broken exactly where the message is good
-pub write-exact : (form : Chosen) (number : ℕ) (key cells : List ℕ) (room : ℕ)
-    → firstBroken (writeRules form number key cells room) ≡ none ↔ GoodWrite form number key cells room
+pub write-exact : (form : Chosen) (number : ℕ) (key values : List ℕ) (room : ℕ)
+    → firstBroken (writeRules form number key values room) ≡ none ↔ GoodWrite form number key values room
 unfolding writeRules
-write-exact form number key cells room = (to, from)
+write-exact form number key values room = (to, from)
   where
     rows : Laid
-    rows = dataWritten form key cells
+    rows = dataWritten form key values
 
     last : List Rule
     last = roomRules (lengthWritten form) room
 
-    to : firstBroken (codeRules form number ++ rowsRules (rows .verdict) ++ last) ≡ none → GoodWrite form number key cells room
+    to : firstBroken (codeRules form number ++ rowsRules (rows .verdict) ++ last) ≡ none → GoodWrite form number key values room
     to e =
         let front = hold-append (codeRules form number ++ rowsRules (rows .verdict)) last .0 (none-hold (codeRules form number ++ rowsRules (rows .verdict) ++ last) e) in
         let two = hold-append (codeRules form number) (rowsRules (rows .verdict)) .0 (front .0) in
@@ -49,16 +49,16 @@ write-exact form number key cells room = (to, from)
           has-room = leb-true (lengthWritten form) room (front .1 .0);
         }
 
-    from : GoodWrite form number key cells room → firstBroken (codeRules form number ++ rowsRules (rows .verdict) ++ last) ≡ none
+    from : GoodWrite form number key values room → firstBroken (codeRules form number ++ rowsRules (rows .verdict) ++ last) ≡ none
     from g =
         rw (g .rows-good, g .tabled, g .has-number, le-leb (lengthWritten form) room (g .has-room))
 
-module _ (item : Item) (code : Code) (level : Level) (number : ℕ) (key : List ℕ) (cells : Form → List ℕ) (out : List ℕ) where
+module _ (item : Item) (code : Code) (level : Level) (number : ℕ) (key : List ℕ) (values : Form → List ℕ) (out : List ℕ) where
   abbrev form : Chosen
   form = formWritten item code level
 
   abbrev given : List ℕ
-  given = cellsWritten form cells
+  given = valuesWritten form values
 
   abbrev broken : Option Refusal
   broken = firstBroken (writeRules form number key given (length out))
@@ -66,18 +66,18 @@ module _ (item : Item) (code : Code) (level : Level) (number : ℕ) (key : List 
   abbrev rows : Laid
   rows = dataWritten form key given
 
-  pub one-written : {out′ out″ : List ℕ} (a b : Written) → WroteCells item code level number key cells out a out′
-      → WroteCells item code level number key cells out b out″ → (a ≡ b) × (out′ ≡ out″)
+  pub one-written : {out′ out″ : List ℕ} (a b : Written) → WroteValues item code level number key values out a out′
+      → WroteValues item code level number key values out b out″ → (a ≡ b) × (out′ ≡ out″)
   one-written a b p q = (written-told a b (p .answers ∙ sym (q .answers)), p .out-left ∙ sym (q .out-left))
 
   -- a refusal is the first broken rule's, and no byte changes
-  pub write-refusal : {out′ : List ℕ} (r : Refusal) → WroteCells item code level number key cells out (Written.Refused r) out′ → (broken ≡ some r) × (out′ ≡ out)
+  pub write-refusal : {out′ : List ℕ} (r : Refusal) → WroteValues item code level number key values out (Written.Refused r) out′ → (broken ≡ some r) × (out′ ≡ out)
   write-refusal r p =
       let e = refused-by broken (lengthWritten form ∷ []) r (p .answers) in
       (e, p .out-left ∙ ap (λ (o : Option Refusal). leftBy o out (messagePut code number (rows .bytes) out)) e)
 
   -- an accepted message: its length is answered, it stands in front, and no byte behind it changes
-  module _ {out′ : List ℕ} (n : ℕ) (p : WroteCells item code level number key cells out (Written.Message n) out′) where
+  module _ {out′ : List ℕ} (n : ℕ) (p : WroteValues item code level number key values out (Written.Message n) out′) where
     held : (broken ≡ none) × (n ∷ [] ≡ lengthWritten form ∷ [])
     held = accepted-by broken (lengthWritten form ∷ []) (n ∷ []) (p .answers)
 

@@ -21,7 +21,7 @@ use layout::PAIR_BYTES;
 use layout::Sum;
 use layout::Verdict;
 use quote::Quote;
-use quote::SpreadQuote;
+use spread::SpreadQuote;
 use state::Checked;
 use state::Refusal;
 use state::Written;
@@ -45,10 +45,10 @@ fn of_verdict(verdict: Verdict) -> Checked
 }
 
 // The rows of a form, the first bad one deciding: 11 and 12. A heartbeat has none.
-fn lay_rows(form: Form, key: &[u8], cells: &[u64; MOST_ROWS], data: &mut [u8]) -> Checked
-    ensures { λ r. ⌜ LaysRows (dataWritten (Chosen.Form form) (now (key .entry)) (now (cells .entry))) (now («data» .entry)) r (now («data» .exit)) ⌝ }
+fn lay_rows(form: Form, key: &[u8], values: &[u64; MOST_ROWS], data: &mut [u8]) -> Checked
+    ensures { λ r. ⌜ LaysRows (dataWritten (Chosen.Form form) (now (key .entry)) (now (values .entry))) (now («data» .entry)) r (now («data» .exit)) ⌝ }
 {
-    of_verdict(layout::write_update(form, key, cells, data))
+    of_verdict(compose::write_update(form, key, values, data))
 }
 
 fn put_head(code: Code, whole: u16, number: u32, out: &mut [u8])
@@ -66,7 +66,7 @@ fn put_data(data: &[u8], long: usize, out: &mut [u8])
     ensures { λ _. ⌜ now (out .exit) ≡ sets (now (out .entry)) 8 (take long (now («data» .entry))) ⌝ }
 {
     let end = HEAD + long;
-    layout::put_front(&data[..long], &mut out[HEAD..end]);
+    compose::put_front(&data[..long], &mut out[HEAD..end]);
 }
 
 // The two bytes of the sum as sent: heartbeats carry zero.
@@ -111,16 +111,16 @@ fn write_form(
     code: Code,
     number: u32,
     key: &[u8],
-    cells: &[u64; MOST_ROWS],
+    values: &[u64; MOST_ROWS],
     out: &mut [u8],
 ) -> Written
-    ensures { λ r. ⌜ WroteForm (Chosen.Form form) code number (now (key .entry)) (now (cells .entry)) (now (out .entry)) r (now (out .exit)) ⌝ }
+    ensures { λ r. ⌜ WroteForm (Chosen.Form form) code number (now (key .entry)) (now (values .entry)) (now (out .entry)) r (now (out .exit)) ⌝ }
 {
-    if !message::takes_number(Named::Form(form), number) {
+    if !head::takes_number(Named::Form(form), number) {
         return Written::Refused(Refusal::Numbering(0));
     }
     let mut data = [0u8; MOST_DATA];
-    match lay_rows(form, key, cells, &mut data) {
+    match lay_rows(form, key, values, &mut data) {
         Checked::Refused(refusal) => Written::Refused(refusal),
         Checked::Good => put_message(code, number, &data, layout::data_length(form), out),
     }
@@ -139,8 +139,8 @@ pub fn write_message(
 {
     match layout::written_form(code.0, code.1, Item::Contract, level) {
         Chosen::Form(form) => {
-            let cells = quote::cells_of(form, quote);
-            write_form(form, code, number, key, &cells, out)
+            let values = quote::values_of(form, quote);
+            write_form(form, code, number, key, &values, out)
         }
         Chosen::NoForm => Written::Refused(Refusal::Code(0)),
     }
@@ -159,8 +159,8 @@ pub fn write_spread(
 {
     match layout::written_form(code.0, code.1, Item::Pair, level) {
         Chosen::Form(form) => {
-            let cells = quote::spread_cells_of(form, quote);
-            write_form(form, code, number, pair, &cells, out)
+            let values = spread::spread_values_of(form, quote);
+            write_form(form, code, number, pair, &values, out)
         }
         Chosen::NoForm => Written::Refused(Refusal::Code(0)),
     }

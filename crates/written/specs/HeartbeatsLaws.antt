@@ -4,7 +4,7 @@ use mathlib.Core.Path.{_≡_, refl, ap, _∙_}
 use mathlib.Core.List.{List, [], _∷_}
 use native.Mathlib.Omega.{arith}
 use lib.ListN.{take}
-use Rattle.contracts.specs.Lookup.{segmentOf}
+use Rattle.lookup.specs.Lookup.{segmentOf}
 use Rattle.forms.specs.declared.rows.Level.{Level}
 use Rattle.forms.specs.declared.forms.Form.{Form}
 use Rattle.forms.specs.declared.forms.Form.the-variants.{Heartbeat}
@@ -13,8 +13,8 @@ use Rattle.forms.specs.declared.forms.Named.the-variants as is
 use Rattle.forms.specs.declared.forms.Sum.the-variants.{Zero}
 use Rattle.forms.specs.Forms.{formsOf, sumRule, writtenForm}
 use Rattle.forms.specs.FormsLaws.{nothing-rows, nothing-zero, written-told}
-use Rattle.message.specs.Good.{LetterListed}
-use Rattle.message.specs.HeadLaws.{listed-exact, number-exact}
+use Rattle.head.specs.GoodHead.{LetterListed}
+use Rattle.head.specs.HeadLaws.{listed-exact, number-exact}
 use Rattle.state.specs.declared.answers.Judged.{Judged}
 use Rattle.state.specs.declared.answers.Judged.the-variants.{Accepted}
 use Rattle.state.specs.declared.answers.Written.{Written}
@@ -28,7 +28,7 @@ use Rattle.batch.specs.Batch.{batchLetter}
 use Rattle.batch.specs.Acts.{batchActs, boxOf, lentAfter}
 use Rattle.writer.specs.declared.writing.Code.{Code}
 use Rattle.writer.specs.Writer.{messageBytes}
-use Rattle.writer.specs.WriterPromises.{WroteCells}
+use Rattle.writer.specs.WriterPromises.{WroteValues}
 use Rattle.written.specs.Heartbeats.{WritesHeartbeat, OneHeartbeat}
 use Rattle.written.specs.ReadBack.{batchOf}
 use Rattle.written.specs.ReadBackStepsLaws.{letter-is, batch-acts}
@@ -39,22 +39,22 @@ pub heartbeats-chosen : (level : Level) → WritesHeartbeat (record { 0 = 68; 1 
 unfolding writtenForm formsOf
 heartbeats-chosen level = ((Heartbeat, refl, refl), (Heartbeat, refl, refl))
 
-module _ (code : Code) (level : Level) (number : ℕ) (key : List ℕ) (cells : Form → List ℕ) (out out′ : List ℕ) (n : ℕ)
-    (beat : WritesHeartbeat code level) (wrote : WroteCells Contract code level number key cells out (Written.Message n) out′)
+module _ (code : Code) (level : Level) (number : ℕ) (key : List ℕ) (values : Form → List ℕ) (out out′ : List ℕ) (n : ℕ)
+    (beat : WritesHeartbeat code level) (wrote : WroteValues Contract code level number key values out (Written.Message n) out′)
   where
     abbrev form : Form
     form = beat .0
 
     -- 01 "Sequence and gaps": "A heartbeat has number 0"
     pub heartbeat-zero : number ≡ 0
-    heartbeat-zero = rw (beat .2) at (number-exact (is.Form form) number .0 (number-fits Contract code level number key cells out out′ n form (beat .1) wrote))
+    heartbeat-zero = rw (beat .2) at (number-exact (is.Form form) number .0 (number-fits Contract code level number key values out out′ n form (beat .1) wrote))
 
     -- 01 "The message", "The checksum": no data, and "Heartbeats carry zero"
     pub heartbeat-bytes : take n out′ ≡ code .0 ∷ code .1 ∷ 0 ∷ 11 ∷ 0 ∷ 0 ∷ 0 ∷ 0 ∷ 0 ∷ 0 ∷ 13 ∷ []
     unfolding messageBytes
     heartbeat-bytes =
         let sum : sumRule (code .0) (code .1) ≡ Zero = written-told (code .0) (code .1) Contract level form (beat .1) .summed-so ∙ nothing-zero form (beat .2) in
-        message-there Contract code level number key cells out out′ n form (beat .1) wrote ∙ rw (heartbeat-zero, nothing-rows form (beat .2), sum)
+        message-there Contract code level number key values out out′ n form (beat .1) wrote ∙ rw (heartbeat-zero, nothing-rows form (beat .2), sum)
 
     abbrev batch : List ℕ
     batch = batchOf (take n out′)
@@ -67,8 +67,8 @@ module _ (code : Code) (level : Level) (number : ℕ) (key : List ℕ) (cells : 
       unfolding messageActs
       does =
           let few : number < 2 ^ 32 = omega (arith, heartbeat-zero) in
-          batch-acts Contract code level number key cells out out′ n form (beat .1) wrote lent state after
-          (rw (heartbeat-is Contract code level number key cells out out′ n form (beat .1) wrote few (lent .lists) (listed-exact (lent .lists .contracts) (code .0) .1 listed) (beat .2)))
+          batch-acts Contract code level number key values out out′ n form (beat .1) wrote lent state after
+          (rw (heartbeat-is Contract code level number key values out out′ n form (beat .1) wrote few (lent .lists) (listed-exact (lent .lists .contracts) (code .0) .1 listed) (beat .2)))
 
       answer-is : (answer : Judged) → judgedNumbers answer ≡ actedNumbers (batchActs lent batch) → answer ≡ Accepted 0 0 1
       answer-is answer e = judged-told answer (Accepted 0 0 1) (e ∙ ap actedNumbers does)
@@ -80,6 +80,6 @@ module _ (code : Code) (level : Level) (number : ℕ) (key : List ℕ) (cells : 
         all-kept = λ answer lent′ p.
             p .left
             ∙ ap (lentAfter lent (batchLetter batch)) does
-            ∙ ap (λ (letter : ℕ). lentAfter lent letter (acted after)) (letter-is Contract code level number key cells out out′ n form (beat .1) wrote)
+            ∙ ap (λ (letter : ℕ). lentAfter lent letter (acted after)) (letter-is Contract code level number key values out out′ n form (beat .1) wrote)
             ∙ ap (λ (rows : List ℕ). lends (lent .lists) rows (lent .records)) (rows-back (lent .rows) (segmentOf (lent .lists .contracts) (code .0)));
       }

@@ -11,18 +11,20 @@ use lib.Dec.{eqb}
 use lib.ListN.{length, take}
 use Rattle.laws.specs.Rules.{firstBroken}
 use Rattle.laws.specs.Choice.{either}
-use Rattle.contracts.specs.Lookup.{segmentOf}
+use Rattle.lookup.specs.Lookup.{segmentOf}
 use Rattle.pairs.specs.Lists.{Lists}
 use Rattle.quote.specs.declared.quote.Quote.{Quote}
-use Rattle.quote.specs.declared.spread.SpreadQuote.{SpreadQuote}
+use Rattle.spread.specs.declared.spread.SpreadQuote.{SpreadQuote}
 use Rattle.layout.specs.declared.read.Verdict.the-variants as verdict
 use Rattle.forms.specs.declared.rows.Level.{Level}
-use Rattle.layout.specs.Cells.{zerosBehind, seenCells}
-use Rattle.quote.specs.Quote.{ofPair, cellsOf, quoteOf, seenQuote}
-use Rattle.quote.specs.Spread.{spreadCellsOf, spreadQuoteOf, seenSpread}
-use Rattle.quote.specs.QuoteTrip.{readAgain, written-back, spread-written-back}
+use Rattle.layout.specs.Cells.{zerosBehind}
+use Rattle.layout.specs.Plain.{seenValues}
+use Rattle.quote.specs.Quote.{ofPair, valuesOf, quoteOf, seenQuote}
+use Rattle.spread.specs.Spread.{spreadValuesOf, spreadQuoteOf, seenSpread}
+use Rattle.quote.specs.QuoteTrip.{readAgain, written-back}
+use Rattle.spread.specs.SpreadTrip.{spread-written-back}
 use Rattle.layout.specs.Read.{Outcome}
-use Rattle.layout.specs.RoundTrip.{rows-back}
+use Rattle.compose.specs.RoundTrip.{rows-back}
 use Rattle.forms.specs.declared.forms.Form.{Form}
 use Rattle.forms.specs.declared.forms.Item.{Item}
 use Rattle.forms.specs.declared.forms.Item.the-variants.{Contract, Pair}
@@ -31,12 +33,12 @@ use Rattle.forms.specs.declared.forms.Named.the-variants as is
 use Rattle.forms.specs.declared.forms.Chosen.the-variants as chosen
 use Rattle.forms.specs.Forms.{rowsOf, recordForm, keyBytesOf}
 use Rattle.forms.specs.FormsLaws.{about-subject}
-use Rattle.layout.specs.Write.{Laid, writeRows}
+use Rattle.compose.specs.Write.{Laid, writeRows}
 use Rattle.sequence.specs.Gaps.{Gaps, takes}
 use Rattle.sequence.specs.Changes.{full, after}
 use Rattle.sequence.specs.Row.{gapsOf}
 use Rattle.sequence.specs.RowLaid.{laid}
-use Rattle.message.specs.HeadLaws.{number-exact}
+use Rattle.head.specs.HeadLaws.{number-exact}
 use Rattle.message.specs.Message.{placeIn, keyPlace}
 use Rattle.message.specs.MessageLaws.{key-found}
 use Rattle.state.specs.declared.answers.Judged.{Judged}
@@ -50,19 +52,20 @@ use Rattle.batch.specs.Batch.{batchLetter}
 use Rattle.batch.specs.Acts.{batchActs, boxOf, lentAfter}
 use Rattle.stores.specs.Stored.{stored}
 use Rattle.state.specs.Memory.{Lent}
-use Rattle.state.specs.Places.{slotAt, slotIn, recordOf, recordRows}
+use Rattle.slots.specs.Places.{slotAt, slotIn, recordOf, recordRows}
 use Rattle.state.specs.AnswersLaws.{recorded-told, judged-told}
-use Rattle.quotebox.specs.CallPromises.{ReadsFor}
-use Rattle.quotebox.specs.CallRules.{gapsOfLetter, recordRules}
+use Rattle.reading.specs.Reads.{ReadsFor}
+use Rattle.quotebox.specs.CallRules.{gapsOfLetter}
+use Rattle.reading.specs.ReadRules.{recordRules}
 use Rattle.state.specs.GoodState.{GoodState}
 use Rattle.state.specs.StateLaws.{good-unrefused, segment-holds}
 use Rattle.batch.specs.Promises.{JudgedBatch, TookBatch}
-use Rattle.quotebox.specs.Record.{slotThere, recordOfKey, recordNumber, cellsAt, blank, blankSpread}
-use Rattle.quotebox.specs.RecordLaws.{key-holds, record-found, record-lent}
+use Rattle.reading.specs.Record.{slotThere, recordOfKey, recordNumber, cellsAt, blank, blankSpread}
+use Rattle.reading.specs.RecordLaws.{key-holds, record-found, record-lent}
 use Rattle.state.specs.State.{segmentRules}
 use Rattle.batch.specs.TookLaws.{state-good}
 use Rattle.writer.specs.Chosen.{formWritten}
-use Rattle.writer.specs.WriterPromises.{WroteCells, WroteMessage, WroteSpread}
+use Rattle.writer.specs.WriterPromises.{WroteValues, WroteMessage, WroteSpread}
 use Rattle.written.specs.ReadBack.{batchOf, countedAs, ReadsBack}
 use Rattle.written.specs.ReadBackStepsLaws.{batch-acts, number-stored, cells-stored}
 use Rattle.written.specs.WrittenUpdateLaws.{written, rows-good, number-fits, message-is}
@@ -84,9 +87,9 @@ module _ (item : Item) (lent : Lent) (state : GoodState lent) (letter : ℕ) (ke
       (record-lent item lent letter key asked (found .0) (found .1) place (found .2) level)
 
 -- an update that was written, and the batch that holds just it
-module _ (item : Item) (code : Code) (level : Level) (number : ℕ) (key : List ℕ) (cells : Form → List ℕ) (out out′ : List ℕ) (n : ℕ)
+module _ (item : Item) (code : Code) (level : Level) (number : ℕ) (key : List ℕ) (values : Form → List ℕ) (out out′ : List ℕ) (n : ℕ)
     (update : formWritten item code level ≡ chosen.Form (recordForm item level)) (few : number < 2 ^ 32) (key-long : length key ≡ keyBytesOf item)
-    (wrote : WroteCells item code level number key cells out (Written.Message n) out′)
+    (wrote : WroteValues item code level number key values out (Written.Message n) out′)
   where
     abbrev letter : ℕ
     letter = code .0
@@ -98,16 +101,16 @@ module _ (item : Item) (code : Code) (level : Level) (number : ℕ) (key : List 
     batch = batchOf (take n out′)
 
     abbrev rows-laid : Laid
-    rows-laid = writeRows 0 (rowsOf form) key (cells form)
+    rows-laid = writeRows 0 (rowsOf form) key (values form)
 
     good : rows-laid .verdict ≡ verdict.Good
-    good = rows-good item code level number key cells out out′ n form update wrote
+    good = rows-good item code level number key values out out′ n form update wrote
 
     pub numbered : 1 ≤ number
-    numbered = rw (about-subject (Of item level)) at (number-exact (is.Form form) number .0 (number-fits item code level number key cells out out′ n form update wrote))
+    numbered = rw (about-subject (Of item level)) at (number-exact (is.Form form) number .0 (number-fits item code level number key values out out′ n form update wrote))
 
     abbrev message : List ℕ
-    message = written item code level number key cells out out′ n form update wrote
+    message = written item code level number key values out out′ n form update wrote
 
     -- against a list that has its contract, and a good state that has room for its number
     module _ (lent : Lent) (state : GoodState lent) (place : ℕ) (listed : keyPlace item (lent .lists) letter key ≡ some place) where
@@ -118,7 +121,7 @@ module _ (item : Item) (code : Code) (level : Level) (number : ℕ) (key : List 
       at = recordOfKey item (lent .lists) letter key level
 
       abbrev seen : List ℕ
-      seen = seenCells (rowsOf form) (cells form)
+      seen = seenValues (rowsOf form) (values form)
 
       abbrev changed : List ℕ → List ℕ
       changed = stored (slotAt (lent .lists) (slotIn item (segmentOf (lent .lists .contracts) letter) place level)) number (recordOf item level (zerosBehind seen))
@@ -128,7 +131,7 @@ module _ (item : Item) (code : Code) (level : Level) (number : ℕ) (key : List 
 
       acts : messageActs (lent .lists) letter box 0 message ≡ numberActs box 0 number changed
       unfolding messageActs
-      acts = rw (message-is item code level number key cells out out′ n form update wrote (level, about-subject (Of item level)) key-long few (lent .lists) place listed, about-subject (Of item level))
+      acts = rw (message-is item code level number key values out out′ n form update wrote (level, about-subject (Of item level)) key-long few (lent .lists) place listed, about-subject (Of item level))
 
       module _ (room : takes gaps number ≡ true → full gaps number ≡ false) where
         -- what the message leaves
@@ -147,7 +150,7 @@ module _ (item : Item) (code : Code) (level : Level) (number : ℕ) (key : List 
         number-old t = rw t
 
         batch-does : (box′ : Box) → numberActs box 0 number changed ≡ acted box′ → batchActs lent batch ≡ acted box′
-        batch-does box′ e = batch-acts item code level number key cells out out′ n form update wrote lent state box′ (acts ∙ e)
+        batch-does box′ e = batch-acts item code level number key values out out′ n form update wrote lent state box′ (acts ∙ e)
 
         abbrev expected : Judged
         expected = countedAs (takes gaps number)
@@ -199,10 +202,10 @@ module _ (item : Item) (code : Code) (level : Level) (number : ℕ) (key : List 
             inside = record-room item lent state letter key place listed level
 
             number-then : recordNumber (lent′ .records) at ≡ number
-            number-then = ap (λ (r : List ℕ). recordNumber r at) records-then ∙ number-stored item level (cells form) (lent .records) at number inside newer
+            number-then = ap (λ (r : List ℕ). recordNumber r at) records-then ∙ number-stored item level (values form) (lent .records) at number inside newer
 
             cells-then : cellsAt item (lent′ .records) at level ≡ zerosBehind seen
-            cells-then = ap (λ (r : List ℕ). cellsAt item r at level) records-then ∙ cells-stored item level (cells form) (lent .records) at number inside newer
+            cells-then = ap (λ (r : List ℕ). cellsAt item r at level) records-then ∙ cells-stored item level (values form) (lent .records) at number inside newer
 
             some-number : eqb number 0 ≡ false
             some-number = ne-eqb number 0 (λ e. omega (arith, numbered))
@@ -216,10 +219,10 @@ module _ (item : Item) (code : Code) (level : Level) (number : ℕ) (key : List 
 
         -- all of it, for whoever reads the record: what the rows read again is shown
         pub reads-back : {A : Type 0} (show : Form → List ℕ → A) (blank quote : A)
-            → (rows-laid .verdict ≡ verdict.Good → show form (zerosBehind (readAgain form key (cells form) .cells)) ≡ quote)
+            → (rows-laid .verdict ≡ verdict.Good → show form (zerosBehind (readAgain form key (values form) .cells)) ≡ quote)
             → ReadsBack (λ (lent′ : Lent) (recorded : Recorded) (read : A). ReadsFor show blank item lent′ letter key level recorded read) lent batch gaps (recordNumber (lent .records) at) number quote
         reads-back show blank quote shows =
-            let seen-is = ap (λ (o : Outcome). show form (zerosBehind (o .cells))) (sym (rows-back 0 (rowsOf form) key (cells form) good)) in
+            let seen-is = ap (λ (o : Outcome). show form (zerosBehind (o .cells))) (sym (rows-back 0 (rowsOf form) key (values form) good)) in
             record {
               judged = judged-back;
               taken = taken-back;
@@ -244,7 +247,7 @@ module _ (code : Code) (level : Level) (number : ℕ) (key out out′ : List ℕ
         → ReadsBack (λ (lent′ : Lent) (recorded : Recorded) (read : Quote). ReadsFor quoteOf blank Contract lent′ (code .0) key level recorded read)
         lent (batchOf (take n out′)) (gapsOfLetter lent (code .0)) (lastOf Contract) number (seenQuote (recordForm Contract level) quote)
     contract-back quote wrote key-long update listed =
-        reads-back Contract code level number key (λ form. cellsOf form quote) out out′ n update few key-long wrote lent state place listed room quoteOf blank _
+        reads-back Contract code level number key (λ form. valuesOf form quote) out out′ n update few key-long wrote lent state place listed room quoteOf blank _
         (λ fine. written-back (recordForm Contract level) (ap ofPair (about-subject (Of Contract level))) quote key fine .1)
 
     -- and a pair's, with every minus but that of zero
@@ -253,5 +256,5 @@ module _ (code : Code) (level : Level) (number : ℕ) (key out out′ : List ℕ
         → ReadsBack (λ (lent′ : Lent) (recorded : Recorded) (read : SpreadQuote). ReadsFor spreadQuoteOf blankSpread Pair lent′ (code .0) key level recorded read)
         lent (batchOf (take n out′)) (gapsOfLetter lent (code .0)) (lastOf Pair) number (seenSpread (recordForm Pair level) quote)
     pair-back quote wrote key-long update listed =
-        reads-back Pair code level number key (λ form. spreadCellsOf form quote) out out′ n update few key-long wrote lent state place listed room spreadQuoteOf blankSpread _
+        reads-back Pair code level number key (λ form. spreadValuesOf form quote) out out′ n update few key-long wrote lent state place listed room spreadQuoteOf blankSpread _
         (λ fine. spread-written-back (recordForm Pair level) (ap ofPair (about-subject (Of Pair level))) quote key fine .1)

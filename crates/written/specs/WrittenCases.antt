@@ -6,12 +6,12 @@ use lib.ListN.{replicate, set}
 use Rattle.laws.specs.Rules.{firstBroken}
 use Rattle.print.specs.Write.{size, sizeIn, textOf}
 use Rattle.quote.specs.declared.quote.Quote.{Quote}
-use Rattle.quote.specs.declared.spread.SpreadQuote.{SpreadQuote}
+use Rattle.spread.specs.declared.spread.SpreadQuote.{SpreadQuote}
 use Rattle.forms.specs.declared.rows.Level.{Level}
 use Rattle.forms.specs.declared.rows.Level.the-variants.{One, Two}
 use Rattle.layout.specs.Cells.{none, minus}
-use Rattle.quote.specs.Quote.{quoteOf, cellsOf}
-use Rattle.quote.specs.Spread.{spreadQuoteOf, spreadCellsOf}
+use Rattle.quote.specs.Quote.{quoteOf, valuesOf}
+use Rattle.spread.specs.Spread.{spreadQuoteOf, spreadValuesOf}
 use Rattle.forms.specs.declared.forms.Form.{Form}
 use Rattle.forms.specs.declared.forms.Form.the-variants.{LevelTwo, PairOne, PairTwo}
 use Rattle.forms.specs.declared.forms.Item.{Item}
@@ -20,10 +20,10 @@ use Rattle.forms.specs.declared.forms.Chosen.{Chosen}
 use Rattle.forms.specs.declared.forms.Chosen.the-variants as chosen
 use Rattle.forms.specs.Forms.{namedRows, rowsOf, formsOf, sumRule, writtenForm}
 use Rattle.forms.specs.Sizes.{mostRows, keyBytes, pairBytes}
-use Rattle.layout.specs.Write.{rowText}
+use Rattle.compose.specs.Write.{rowText}
 use Rattle.writer.specs.declared.writing.Code.{Code}
 use Rattle.state.specs.Answers.{answered}
-use Rattle.writer.specs.Writer.{cellsWritten, dataWritten, lengthWritten, writeRules, messageBytes}
+use Rattle.writer.specs.Writer.{valuesWritten, dataWritten, lengthWritten, writeRules, messageBytes}
 use Rattle.writer.specs.Chosen.{formWritten}
 
 -- 01 "The contract list": a key of 39 bytes, each an A
@@ -49,27 +49,27 @@ pub record Asked : Type 0 where
   level : Level
   number : ℕ
   key : List ℕ
-  cells : Form → List ℕ
+  values : Form → List ℕ
   room : ℕ
 
 -- 01 "What may be asked": the writer asked by code, level, number, key, last traded price and room
 abbrev pub asked : ℕ → ℕ → Level → ℕ → List ℕ → ℕ → ℕ → Asked
 asked first second level number key last room =
-    record { item = Contract; code = record { 0 = first; 1 = second }; level = level; number = number; key = key; cells = λ form. cellsOf form (quoteAt last); room = room }
+    record { item = Contract; code = record { 0 = first; 1 = second }; level = level; number = number; key = key; values = λ form. valuesOf form (quoteAt last); room = room }
 
 -- M-100: the writer of pairs asked by code and level
 abbrev pub askedPair : ℕ → ℕ → Level → Asked
 askedPair first second level =
-    record { item = Pair; code = record { 0 = first; 1 = second }; level = level; number = 1; key = pair; cells = λ form. spreadCellsOf form (spreadAt none); room = 483 }
+    record { item = Pair; code = record { 0 = first; 1 = second }; level = level; number = 1; key = pair; values = λ form. spreadValuesOf form (spreadAt none); room = 483 }
 
 -- 01 "What may be asked": the writer's answer in numbers, by the form that it writes
 abbrev answerBy : Chosen → ℕ → List ℕ → (Form → List ℕ) → ℕ → List ℕ
-answerBy form number key cells room =
-    answered (firstBroken (writeRules form number key (cellsWritten form cells) room)) (lengthWritten form ∷ [])
+answerBy form number key values room =
+    answered (firstBroken (writeRules form number key (valuesWritten form values) room)) (lengthWritten form ∷ [])
 
 -- 01 "What may be asked": the writer's answer in numbers
 abbrev pub answerTo : Asked → List ℕ
-answerTo a = answerBy (formWritten (a .item) (a .code) (a .level)) (a .number) (a .key) (a .cells) (a .room)
+answerTo a = answerBy (formWritten (a .item) (a .code) (a .level)) (a .number) (a .key) (a .values) (a .room)
 
 -- AN, DX and DP, a heartbeat with a number and an update without one, a byte 31 of the key, a byte too few, and accepted ones
 pub answers : map answerTo (
@@ -79,24 +79,24 @@ pub answers : map answerTo (
     ≡ (6 ∷ 0 ∷ 0 ∷ 0 ∷ []) ∷ (6 ∷ 0 ∷ 0 ∷ 0 ∷ []) ∷ (6 ∷ 0 ∷ 0 ∷ 0 ∷ []) ∷ (10 ∷ 0 ∷ 0 ∷ 0 ∷ []) ∷ (10 ∷ 0 ∷ 0 ∷ 0 ∷ [])
     ∷ (11 ∷ 0 ∷ 1 ∷ 0 ∷ []) ∷ (15 ∷ 0 ∷ 0 ∷ 505 ∷ [])
     ∷ (0 ∷ 505 ∷ []) ∷ (0 ∷ 249 ∷ []) ∷ (0 ∷ 11 ∷ []) ∷ []
-unfolding writeRules lengthWritten dataWritten writtenForm formsOf rowsOf namedRows rowText quoteOf cellsOf textOf size sizeIn
+unfolding writeRules lengthWritten dataWritten writtenForm formsOf rowsOf namedRows rowText quoteOf valuesOf textOf size sizeIn
 answers = refl
 
 -- M-100: the writer of pairs asked for a contract's code, a heartbeat's, and one outside the table
 pub pair-codes : map answerTo (askedPair 68 78 One ∷ askedPair 84 78 Two ∷ askedPair 84 72 One ∷ askedPair 65 80 Two ∷ []) ≡ replicate 4 (6 ∷ 0 ∷ 0 ∷ 0 ∷ [])
-unfolding writeRules lengthWritten dataWritten writtenForm formsOf rowsOf namedRows rowText spreadQuoteOf spreadCellsOf textOf size sizeIn
+unfolding writeRules lengthWritten dataWritten writtenForm formsOf rowsOf namedRows rowText spreadQuoteOf spreadValuesOf textOf size sizeIn
 pair-codes = refl
 
 -- M-100: an update of a pair without a number, with a byte 31 in its second key, with a last traded price over the largest on either
 -- side of zero, with one for which there is no text of 17 characters, and with a byte too few; minus a hundred million, and minus zero
-pub pair-answers : answerBy (chosen.Form PairTwo) 0 pair (λ form. spreadCellsOf form (spreadAt none)) 483
-    ∷ answerBy (chosen.Form PairOne) 1 (set pair 77 31) (λ form. spreadCellsOf form (spreadAt none)) 227
-    ∷ map (λ last. answerBy (chosen.Form PairTwo) 1 pair (λ form. spreadCellsOf form (spreadAt last)) 483) ((10 ^ 18) ∷ (minus + 10 ^ 18) ∷ (minus + 10 ^ 18 - 1) ∷ [])
-    ++ answerBy (chosen.Form PairTwo) 1 pair (λ form. spreadCellsOf form (spreadAt none)) 482
-    ∷ map (λ last. answerBy (chosen.Form PairTwo) 1 pair (λ form. spreadCellsOf form (spreadAt last)) 483) ((minus + 10 ^ 15) ∷ minus ∷ [])
+pub pair-answers : answerBy (chosen.Form PairTwo) 0 pair (λ form. spreadValuesOf form (spreadAt none)) 483
+    ∷ answerBy (chosen.Form PairOne) 1 (set pair 77 31) (λ form. spreadValuesOf form (spreadAt none)) 227
+    ∷ map (λ last. answerBy (chosen.Form PairTwo) 1 pair (λ form. spreadValuesOf form (spreadAt last)) 483) ((10 ^ 18) ∷ (minus + 10 ^ 18) ∷ (minus + 10 ^ 18 - 1) ∷ [])
+    ++ answerBy (chosen.Form PairTwo) 1 pair (λ form. spreadValuesOf form (spreadAt none)) 482
+    ∷ map (λ last. answerBy (chosen.Form PairTwo) 1 pair (λ form. spreadValuesOf form (spreadAt last)) 483) ((minus + 10 ^ 15) ∷ minus ∷ [])
     ≡ (10 ∷ 0 ∷ 0 ∷ 0 ∷ []) ∷ (11 ∷ 0 ∷ 9 ∷ 0 ∷ []) ∷ (12 ∷ 0 ∷ 30 ∷ 0 ∷ []) ∷ (12 ∷ 0 ∷ 30 ∷ 0 ∷ []) ∷ (12 ∷ 0 ∷ 30 ∷ 0 ∷ []) ∷ (15 ∷ 0 ∷ 0 ∷ 483 ∷ [])
     ∷ (0 ∷ 483 ∷ []) ∷ (0 ∷ 483 ∷ []) ∷ []
-unfolding writeRules lengthWritten dataWritten rowsOf namedRows rowText spreadQuoteOf spreadCellsOf textOf size sizeIn
+unfolding writeRules lengthWritten dataWritten rowsOf namedRows rowText spreadQuoteOf spreadValuesOf textOf size sizeIn
 pair-answers = refl
 
 -- P5's heartbeat

@@ -16,8 +16,8 @@ use Rattle.forms.specs.declared.forms.Sum.{Sum}
 use Rattle.forms.specs.declared.forms.Sum.the-variants.{Zero, Right, RightOrZero}
 use Rattle.forms.specs.Forms.{formOf, sumRule}
 use Rattle.forms.specs.Sizes.{bareLength}
-use Rattle.message.specs.Fields.{letterOf, secondOf, lengthOf, numberOf, dataOf, sumSent, endByte, formIn, sumIn, rightSum}
-use Rattle.message.specs.Good.{HasSum}
+use Rattle.head.specs.Fields.{letterOf, secondOf, lengthOf, numberOf, dataOf, sumSent, endByte, formIn, sumIn, rightSum}
+use Rattle.head.specs.GoodHead.{HasSum}
 use Rattle.writer.specs.declared.writing.Code.{Code}
 use Rattle.writer.specs.Writer.{headBytes, beforeTrailer, sumWritten, messageBytes}
 use Rattle.writer.specs.WriterLaws.{message-long}

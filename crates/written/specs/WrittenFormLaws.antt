@@ -18,7 +18,7 @@ use Rattle.forms.specs.declared.forms.Chosen.the-variants as chosen
 use Rattle.forms.specs.Forms.{rowsOf, subjectOf, recordForm, Entry, entry, table, formsIn, formsOf, formOf, isAsked, writtenBy, writtenForm}
 use Rattle.forms.specs.FormsLaws.{one-of-them, asked-written, written-told}
 use Rattle.forms.specs.Rows.{messageLength}
-use Rattle.message.specs.Tests.{isCapital}
+use Rattle.head.specs.Tests.{isCapital}
 use Rattle.writer.specs.declared.writing.Code.{Code}
 use Rattle.writer.specs.Chosen.{formWritten, inTable}
 

@@ -15,15 +15,16 @@ use Rattle.quote.specs.declared.quote.QuantityCell.{QuantityCell}
 use Rattle.quote.specs.declared.quote.QuantityCell.the-variants as quantity
 use Rattle.quote.specs.declared.quote.TurnoverCell.{TurnoverCell}
 use Rattle.quote.specs.declared.quote.TurnoverCell.the-variants as turnover
-use Rattle.quote.specs.declared.spread.DifferenceCell.{DifferenceCell}
-use Rattle.quote.specs.declared.spread.DifferenceCell.the-variants as difference
-use Rattle.quote.specs.declared.spread.SpreadQuote.{SpreadQuote}
+use Rattle.spread.specs.declared.spread.DifferenceCell.{DifferenceCell}
+use Rattle.spread.specs.declared.spread.DifferenceCell.the-variants as difference
+use Rattle.spread.specs.declared.spread.SpreadQuote.{SpreadQuote}
 use Rattle.forms.specs.declared.forms.Form.{Form}
 use Rattle.forms.specs.declared.rows.Row.{Row}
 use Rattle.forms.specs.declared.rows.Row.the-variants.{Key, MarketType, Status, Price, Quantity, Turnover, Difference}
 use Rattle.layout.specs.Cells.{keyUsed}
 use Rattle.layout.specs.Says.{rowAt}
-use Rattle.quote.specs.Shows.{noOrder, noSpreadOrder}
+use Rattle.quote.specs.Shows.{noOrder}
+use Rattle.spread.specs.Shows.{noSpreadOrder}
 use Rattle.forms.specs.Forms.{namedRows, rowsOf}
 use Rattle.forms.specs.Names.{Name, named, instrument, symbol, expiry, strike, optionType, secondInstrument, secondSymbol, secondExpiry, secondStrike, secondOptionType, marketType, buyPrice, buyQuantity, sellPrice, sellQuantity, lastPrice, tradedQuantity, status, openingPrice, highPrice, lowPrice, closePrice, averagePrice, allBuyers, allSellers, turnover as turnoverName}
 use Rattle.forms.specs.Rows.{total}
@@ -56,62 +57,62 @@ differenceGiven difference.None = nothing
 differenceGiven (difference.Amount units) = amount (units .0) (units .1)
 
 -- 01 "The message": each field of a quote; the key is none of it
-abbrev pub fieldValue : Quote → Name → Value
-fieldValue quote instrument = nothing
-fieldValue quote symbol = nothing
-fieldValue quote expiry = nothing
-fieldValue quote strike = nothing
-fieldValue quote optionType = nothing
-fieldValue quote secondInstrument = nothing
-fieldValue quote secondSymbol = nothing
-fieldValue quote secondExpiry = nothing
-fieldValue quote secondStrike = nothing
-fieldValue quote secondOptionType = nothing
-fieldValue quote marketType = letter (quote .«market_type»)
-fieldValue quote (buyPrice k) = priceGiven (getD (quote .buy) k noOrder .price)
-fieldValue quote (buyQuantity k) = quantityGiven (getD (quote .buy) k noOrder .quantity)
-fieldValue quote (sellPrice k) = priceGiven (getD (quote .sell) k noOrder .price)
-fieldValue quote (sellQuantity k) = quantityGiven (getD (quote .sell) k noOrder .quantity)
-fieldValue quote lastPrice = priceGiven (quote .last)
-fieldValue quote tradedQuantity = quantityGiven (quote .traded)
-fieldValue quote status = letter (quote .status)
-fieldValue quote openingPrice = priceGiven (quote .opening)
-fieldValue quote highPrice = priceGiven (quote .high)
-fieldValue quote lowPrice = priceGiven (quote .low)
-fieldValue quote closePrice = priceGiven (quote .close)
-fieldValue quote averagePrice = priceGiven (quote .average)
-fieldValue quote allBuyers = quantityGiven (quote .buyers)
-fieldValue quote allSellers = quantityGiven (quote .sellers)
-fieldValue quote turnoverName = turnoverGiven (quote .turnover)
+abbrev pub fieldGiven : Quote → Name → Value
+fieldGiven quote instrument = nothing
+fieldGiven quote symbol = nothing
+fieldGiven quote expiry = nothing
+fieldGiven quote strike = nothing
+fieldGiven quote optionType = nothing
+fieldGiven quote secondInstrument = nothing
+fieldGiven quote secondSymbol = nothing
+fieldGiven quote secondExpiry = nothing
+fieldGiven quote secondStrike = nothing
+fieldGiven quote secondOptionType = nothing
+fieldGiven quote marketType = letter (quote .«market_type»)
+fieldGiven quote (buyPrice k) = priceGiven (getD (quote .buy) k noOrder .price)
+fieldGiven quote (buyQuantity k) = quantityGiven (getD (quote .buy) k noOrder .quantity)
+fieldGiven quote (sellPrice k) = priceGiven (getD (quote .sell) k noOrder .price)
+fieldGiven quote (sellQuantity k) = quantityGiven (getD (quote .sell) k noOrder .quantity)
+fieldGiven quote lastPrice = priceGiven (quote .last)
+fieldGiven quote tradedQuantity = quantityGiven (quote .traded)
+fieldGiven quote status = letter (quote .status)
+fieldGiven quote openingPrice = priceGiven (quote .opening)
+fieldGiven quote highPrice = priceGiven (quote .high)
+fieldGiven quote lowPrice = priceGiven (quote .low)
+fieldGiven quote closePrice = priceGiven (quote .close)
+fieldGiven quote averagePrice = priceGiven (quote .average)
+fieldGiven quote allBuyers = quantityGiven (quote .buyers)
+fieldGiven quote allSellers = quantityGiven (quote .sellers)
+fieldGiven quote turnoverName = turnoverGiven (quote .turnover)
 
 -- M-100: each field of a pair's quote; it has no market type, status, close, average or turnover
-abbrev pub spreadFieldValue : SpreadQuote → Name → Value
-spreadFieldValue quote instrument = nothing
-spreadFieldValue quote symbol = nothing
-spreadFieldValue quote expiry = nothing
-spreadFieldValue quote strike = nothing
-spreadFieldValue quote optionType = nothing
-spreadFieldValue quote secondInstrument = nothing
-spreadFieldValue quote secondSymbol = nothing
-spreadFieldValue quote secondExpiry = nothing
-spreadFieldValue quote secondStrike = nothing
-spreadFieldValue quote secondOptionType = nothing
-spreadFieldValue quote marketType = nothing
-spreadFieldValue quote (buyPrice k) = differenceGiven (getD (quote .buy) k noSpreadOrder .price)
-spreadFieldValue quote (buyQuantity k) = quantityGiven (getD (quote .buy) k noSpreadOrder .quantity)
-spreadFieldValue quote (sellPrice k) = differenceGiven (getD (quote .sell) k noSpreadOrder .price)
-spreadFieldValue quote (sellQuantity k) = quantityGiven (getD (quote .sell) k noSpreadOrder .quantity)
-spreadFieldValue quote lastPrice = differenceGiven (quote .last)
-spreadFieldValue quote tradedQuantity = quantityGiven (quote .traded)
-spreadFieldValue quote status = nothing
-spreadFieldValue quote openingPrice = differenceGiven (quote .opening)
-spreadFieldValue quote highPrice = differenceGiven (quote .high)
-spreadFieldValue quote lowPrice = differenceGiven (quote .low)
-spreadFieldValue quote closePrice = nothing
-spreadFieldValue quote averagePrice = nothing
-spreadFieldValue quote allBuyers = quantityGiven (quote .buyers)
-spreadFieldValue quote allSellers = quantityGiven (quote .sellers)
-spreadFieldValue quote turnoverName = nothing
+abbrev pub spreadFieldGiven : SpreadQuote → Name → Value
+spreadFieldGiven quote instrument = nothing
+spreadFieldGiven quote symbol = nothing
+spreadFieldGiven quote expiry = nothing
+spreadFieldGiven quote strike = nothing
+spreadFieldGiven quote optionType = nothing
+spreadFieldGiven quote secondInstrument = nothing
+spreadFieldGiven quote secondSymbol = nothing
+spreadFieldGiven quote secondExpiry = nothing
+spreadFieldGiven quote secondStrike = nothing
+spreadFieldGiven quote secondOptionType = nothing
+spreadFieldGiven quote marketType = nothing
+spreadFieldGiven quote (buyPrice k) = differenceGiven (getD (quote .buy) k noSpreadOrder .price)
+spreadFieldGiven quote (buyQuantity k) = quantityGiven (getD (quote .buy) k noSpreadOrder .quantity)
+spreadFieldGiven quote (sellPrice k) = differenceGiven (getD (quote .sell) k noSpreadOrder .price)
+spreadFieldGiven quote (sellQuantity k) = quantityGiven (getD (quote .sell) k noSpreadOrder .quantity)
+spreadFieldGiven quote lastPrice = differenceGiven (quote .last)
+spreadFieldGiven quote tradedQuantity = quantityGiven (quote .traded)
+spreadFieldGiven quote status = nothing
+spreadFieldGiven quote openingPrice = differenceGiven (quote .opening)
+spreadFieldGiven quote highPrice = differenceGiven (quote .high)
+spreadFieldGiven quote lowPrice = differenceGiven (quote .low)
+spreadFieldGiven quote closePrice = nothing
+spreadFieldGiven quote averagePrice = nothing
+spreadFieldGiven quote allBuyers = quantityGiven (quote .buyers)
+spreadFieldGiven quote allSellers = quantityGiven (quote .sellers)
+spreadFieldGiven quote turnoverName = nothing
 
 -- a word of our own: a letter's byte
 abbrev pub byteOf : Value → ℕ

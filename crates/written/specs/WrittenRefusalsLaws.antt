@@ -20,34 +20,35 @@ use Rattle.forms.specs.declared.forms.Named.the-variants as is
 use Rattle.forms.specs.declared.forms.Chosen.{Chosen}
 use Rattle.forms.specs.declared.forms.Chosen.the-variants as chosen
 use Rattle.forms.specs.declared.forms.Subject.the-variants.{Nothing}
-use Rattle.layout.specs.FirstBad.{refusalWritten, FirstAt}
-use Rattle.layout.specs.FirstBadLaws.{write-exactly}
+use Rattle.layout.specs.FirstBad.{FirstAt}
+use Rattle.compose.specs.FirstBad.{refusalWritten}
+use Rattle.compose.specs.FirstBadLaws.{write-exactly}
 use Rattle.forms.specs.Forms.{rowsOf, subjectOf, keyBytesOf}
 use Rattle.forms.specs.Names.{Name}
 use Rattle.forms.specs.FormsLaws.{nothing-rows}
 use Rattle.forms.specs.Rows.{messageLength}
-use Rattle.layout.specs.Write.{writeRows}
-use Rattle.message.specs.Tests.{takesNumber}
+use Rattle.compose.specs.Write.{writeRows}
+use Rattle.head.specs.Tests.{takesNumber}
 use Rattle.state.specs.declared.answers.Written.{Written}
 use Rattle.state.specs.declared.refusal.Refusal.{Refusal}
 use Rattle.state.specs.declared.refusal.Refusal.the-variants.{Code as CodeOver, Numbering, Field, Range, Memory}
 use Rattle.writer.specs.declared.writing.Code.{Code}
 use Rattle.state.specs.Answers.{writtenNumbers, answered}
 use Rattle.state.specs.AnswersLaws.{written-told, refused-by, accepted-by}
-use Rattle.writer.specs.Writer.{cellsWritten, dataWritten, rowsRules, lengthWritten, writeRules}
+use Rattle.writer.specs.Writer.{valuesWritten, dataWritten, rowsRules, lengthWritten, writeRules}
 use Rattle.writer.specs.Chosen.{formWritten, inTable, numbered}
-use Rattle.writer.specs.WriterPromises.{WroteCells}
+use Rattle.writer.specs.WriterPromises.{WroteValues}
 use Rattle.written.specs.WrittenRefusals.{Value, MalformedAt, OutOfRangeAt, AllFine, First}
 use Rattle.written.specs.WrittenRowsLaws.{Given, field-exact, range-exact, fine-exact}
 
 -- ---- the verdict on the rows
 
-module _ (item : Item) (form : Form) (key cells : List ℕ) (given : Name → Value) (from : Given item form given cells) (key-long : length key ≡ keyBytesOf item) where
+module _ (item : Item) (form : Form) (key values : List ℕ) (given : Name → Value) (from : Given item form given values) (key-long : length key ≡ keyBytesOf item) where
   abbrev v : Verdict
-  v = writeRows 0 (rowsOf form) key cells .verdict
+  v = writeRows 0 (rowsOf form) key values .verdict
 
   abbrev refusal : ℕ → ℕ
-  refusal = refusalWritten (rowsOf form) key cells
+  refusal = refusalWritten (rowsOf form) key values
 
   -- the first refused row, in the terms of what is wrong with it
   module _ (n : ℕ) (Bad : ℕ → Type 0) (exact : (k : ℕ) → k < length (rowsOf form) → refusal k ≡ n ↔ Bad k) where
@@ -56,29 +57,29 @@ module _ (item : Item) (form : Form) (key cells : List ℕ) (given : Name → Va
       (λ f. let inside = f .within in record {
         within = f .within;
         bad = exact k (f .within) .0 (f .refused);
-        fine-before = λ j h. fine-exact item form key cells given from key-long j (omega arith) .0 (f .none-before j h);
+        fine-before = λ j h. fine-exact item form key values given from key-long j (omega arith) .0 (f .none-before j h);
       }),
       (λ f. let inside = f .within in record {
         within = f .within;
         refused = exact k (f .within) .1 (f .bad);
-        none-before = λ j h. fine-exact item form key cells given from key-long j (omega arith) .1 (f .fine-before j h);
+        none-before = λ j h. fine-exact item form key values given from key-long j (omega arith) .1 (f .fine-before j h);
       }),
     )
 
   verdict-field : (k : ℕ) → v ≡ verdict.Field k ↔ First form key given (MalformedAt form key given) k
   verdict-field k =
-      Iff·trans (write-exactly (rowsOf form) key cells (verdict.Field k))
-      (first-exact 11 (MalformedAt form key given) (field-exact item form key cells given from key-long) k)
+      Iff·trans (write-exactly (rowsOf form) key values (verdict.Field k))
+      (first-exact 11 (MalformedAt form key given) (field-exact item form key values given from key-long) k)
 
   verdict-range : (k : ℕ) → v ≡ verdict.Range k ↔ First form key given (OutOfRangeAt form given) k
   verdict-range k =
-      Iff·trans (write-exactly (rowsOf form) key cells (verdict.Range k))
-      (first-exact 12 (OutOfRangeAt form given) (range-exact item form key cells given from key-long) k)
+      Iff·trans (write-exactly (rowsOf form) key values (verdict.Range k))
+      (first-exact 12 (OutOfRangeAt form given) (range-exact item form key values given from key-long) k)
 
   verdict-good : v ≡ verdict.Good ↔ AllFine form key given
   verdict-good =
-      Iff·trans (write-exactly (rowsOf form) key cells verdict.Good)
-      ((λ g k h. fine-exact item form key cells given from key-long k h .0 (g k h)), (λ f k h. fine-exact item form key cells given from key-long k h .1 (f k h)))
+      Iff·trans (write-exactly (rowsOf form) key values verdict.Good)
+      ((λ g k h. fine-exact item form key values given from key-long k h .0 (g k h)), (λ f k h. fine-exact item form key values given from key-long k h .1 (f k h)))
 
 -- ---- the first broken rule
 
@@ -129,14 +130,14 @@ module _ (wanted : ℕ) (v : Verdict) (fits : Bool) where
 
 -- ---- the promise
 
-module _ (item : Item) (code : Code) (level : Level) (number : ℕ) (key : List ℕ) (cells : Form → List ℕ) (out out′ : List ℕ) (answer : Written)
-    (wrote : WroteCells item code level number key cells out answer out′)
+module _ (item : Item) (code : Code) (level : Level) (number : ℕ) (key : List ℕ) (values : Form → List ℕ) (out out′ : List ℕ) (answer : Written)
+    (wrote : WroteValues item code level number key values out answer out′)
   where
     abbrev chose : Chosen
     chose = formWritten item code level
 
     abbrev handed : List ℕ
-    handed = cellsWritten chose cells
+    handed = valuesWritten chose values
 
     abbrev broken : Option Refusal
     broken = firstBroken (writeRules chose number key handed (length out))
@@ -175,38 +176,38 @@ module _ (item : Item) (code : Code) (level : Level) (number : ℕ) (key : List 
 
     -- a form whose code and number may be written
     module _ (form : Form) (is-chosen : chose ≡ chosen.Form form) (takes : takesNumber (is.Form form) number ≡ true) (key-long : length key ≡ keyBytesOf item)
-        (given : Name → Value) (from : Given item form given (cells form))
+        (given : Name → Value) (from : Given item form given (values form))
       where
         abbrev wanted : ℕ
         wanted = messageLength (rowsOf form)
 
         abbrev own : Verdict
-        own = writeRows 0 (rowsOf form) key (cells form) .verdict
+        own = writeRows 0 (rowsOf form) key (values form) .verdict
 
         -- the rows and the room are left
         decided : broken ≡ firstOf wanted true true own (leb wanted (length out))
         unfolding writeRules dataWritten lengthWritten
         decided =
-            ap (λ (c : Chosen). firstBroken (writeRules c number key (cellsWritten c cells) (length out))) is-chosen
+            ap (λ (c : Chosen). firstBroken (writeRules c number key (valuesWritten c values) (length out))) is-chosen
             ∙ ap (λ (t : Bool). firstOf wanted true t own (leb wanted (length out))) takes
 
         by : {A : Type 0} (o : Option Refusal) → firstOf wanted true true own (leb wanted (length out)) ≡ o ↔ A → broken ≡ o ↔ A
         by o exact = rw decided exact
 
         both-fine : {A B : Type 0} → A ↔ B → (own ≡ verdict.Good) × A ↔ AllFine form key given × B
-        both-fine same = let good = verdict-good item form key (cells form) given from key-long in ((λ p. (good .0 (p .0), same .0 (p .1))), (λ p. (good .1 (p .0), same .1 (p .1))))
+        both-fine same = let good = verdict-good item form key (values form) given from key-long in ((λ p. (good .0 (p .0), same .0 (p .1))), (λ p. (good .1 (p .0), same .1 (p .1))))
 
         -- 11 at row k exactly where that row is malformed and every row before it is fine
         pub refuses-field : (k : ℕ) → answer ≡ Written.Refused (Field 0 k) ↔ First form key given (MalformedAt form key given) k
         refuses-field k =
             Iff·trans (answers-refusal (Field 0 k))
-            (by (some (Field 0 k)) (Iff·trans (field-why wanted own (leb wanted (length out)) k) (verdict-field item form key (cells form) given from key-long k)))
+            (by (some (Field 0 k)) (Iff·trans (field-why wanted own (leb wanted (length out)) k) (verdict-field item form key (values form) given from key-long k)))
 
         -- 12 at row k exactly where that row is out of range and every row before it is fine
         pub refuses-range : (k : ℕ) → answer ≡ Written.Refused (Range 0 k) ↔ First form key given (OutOfRangeAt form given) k
         refuses-range k =
             Iff·trans (answers-refusal (Range 0 k))
-            (by (some (Range 0 k)) (Iff·trans (range-why wanted own (leb wanted (length out)) k) (verdict-range item form key (cells form) given from key-long k)))
+            (by (some (Range 0 k)) (Iff·trans (range-why wanted own (leb wanted (length out)) k) (verdict-range item form key (values form) given from key-long k)))
 
         -- 15 exactly where every row is fine and `out` is shorter than the message
         pub refuses-memory : answer ≡ Written.Refused (Memory wanted) ↔ AllFine form key given × (length out < wanted)

@@ -24,9 +24,9 @@ use Rattle.quote.specs.declared.quote.QuantityCell.{QuantityCell}
 use Rattle.quote.specs.declared.quote.QuantityCell.the-variants as quantity-cell
 use Rattle.quote.specs.declared.quote.TurnoverCell.{TurnoverCell}
 use Rattle.quote.specs.declared.quote.TurnoverCell.the-variants as turnover-cell
-use Rattle.quote.specs.declared.spread.DifferenceCell.{DifferenceCell}
-use Rattle.quote.specs.declared.spread.DifferenceCell.the-variants as difference-cell
-use Rattle.quote.specs.declared.spread.SpreadQuote.{SpreadQuote}
+use Rattle.spread.specs.declared.spread.DifferenceCell.{DifferenceCell}
+use Rattle.spread.specs.declared.spread.DifferenceCell.the-variants as difference-cell
+use Rattle.spread.specs.declared.spread.SpreadQuote.{SpreadQuote}
 use Rattle.forms.specs.declared.rows.Level.{Level}
 use Rattle.forms.specs.declared.forms.Form.{Form}
 use Rattle.forms.specs.declared.forms.Form.the-variants.{Heartbeat, LevelOne, LevelTwo, PairOne, PairTwo}
@@ -35,24 +35,26 @@ use Rattle.forms.specs.declared.forms.Item.the-variants.{Contract, Pair}
 use Rattle.forms.specs.declared.forms.Chosen.the-variants as chosen
 use Rattle.forms.specs.declared.rows.Row.{Row}
 use Rattle.forms.specs.declared.rows.Row.the-variants.{Key, MarketType, Status, Price, Quantity, Turnover, Difference}
-use Rattle.layout.specs.Cells.{none, minus, noRoom, sided, heldIn, cellOf, keyUsed}
-use Rattle.layout.specs.CellsLaws.{MayHold, held-back, has-cell, has-cell-below}
-use Rattle.layout.specs.FirstBad.{refusalWritten}
+use Rattle.layout.specs.Cells.{minus, sided, keyUsed}
+use Rattle.layout.specs.Plain.{noValue, noRoom, valueOf, heldOf as heldBy}
+use Rattle.layout.specs.CellsLaws.{MayHold}
+use Rattle.layout.specs.PlainLaws.{held-back, has-value}
+use Rattle.compose.specs.FirstBad.{refusalWritten}
 use Rattle.layout.specs.Says.{rowAt}
-use Rattle.quote.specs.Quote.{fieldCell, cellsBy, cellsOf, cellOfPrice, cellOfQuantity, cellOfTurnover}
-use Rattle.quote.specs.Spread.{spreadFieldCell, spreadCellsOf, cellOfDifference}
+use Rattle.quote.specs.Quote.{fieldValue, valuesBy, valuesOf, valueOfPrice, valueOfQuantity, valueOfTurnover}
+use Rattle.spread.specs.Spread.{spreadFieldValue, spreadValuesOf, valueOfDifference}
 use Rattle.layout.specs.Read.{isMarketType, isStatus}
 use Rattle.forms.specs.Forms.{namedRows, rowsOf, subjectOf, keyBytesOf, isAsked}
 use Rattle.forms.specs.Names.{Name, NamedRow, named, instrument}
 use Rattle.forms.specs.Rows.{total}
-use Rattle.layout.specs.Write.{RowText, text, malformed, out-of-range, ofWritten, heldText, rowText, writeRefusal}
+use Rattle.compose.specs.Write.{RowText, text, malformed, out-of-range, ofWritten, heldText, rowText, writeRefusal}
 use Rattle.wire.specs.Bytes.{printable, allPrintable}
 use Rattle.writer.specs.declared.writing.Code.{Code}
 use Rattle.writer.specs.Chosen.{formWritten}
 use Rattle.written.specs.WrittenFormLaws.{asked-so}
-use Rattle.written.specs.WrittenRefusals.{Value, letter, nothing, amount, priceGiven, quantityGiven, turnoverGiven, differenceGiven, fieldValue, spreadFieldValue, byteOf, Outside, Malformed, Unwritable, OutOfRange, valueAt, partAt, MalformedAt, OutOfRangeAt, Fine}
+use Rattle.written.specs.WrittenRefusals.{Value, letter, nothing, amount, priceGiven, quantityGiven, turnoverGiven, differenceGiven, fieldGiven, spreadFieldGiven, byteOf, Outside, Malformed, Unwritable, OutOfRange, valueAt, partAt, MalformedAt, OutOfRangeAt, Fine}
 
--- ---- the cells of a quote are those of its values
+-- ---- the plain numbers of a quote are those of what it gives each row
 
 -- a value as a number
 abbrev pub heldOf : Value → Held
@@ -60,85 +62,85 @@ heldOf (letter byte) = Nothing
 heldOf nothing = Nothing
 heldOf (amount minus n) = sided minus n
 
--- the cell that a row is written from
-abbrev pub cellIn : Row → Value → ℕ
-cellIn (Key width) value = 0
-cellIn MarketType value = byteOf value
-cellIn Status value = byteOf value
-cellIn (Price width) value = cellOf false (heldOf value)
-cellIn (Quantity width) value = cellOf false (heldOf value)
-cellIn (Turnover width) value = cellOf false (heldOf value)
-cellIn (Difference width) value = cellOf true (heldOf value)
+-- the plain number that a row is written from
+abbrev pub plainIn : Row → Value → ℕ
+plainIn (Key width) value = 0
+plainIn MarketType value = byteOf value
+plainIn Status value = byteOf value
+plainIn (Price width) value = valueOf false (heldOf value)
+plainIn (Quantity width) value = valueOf false (heldOf value)
+plainIn (Turnover width) value = valueOf false (heldOf value)
+plainIn (Difference width) value = valueOf true (heldOf value)
 
 -- what a message of a contract or a pair is written from, row by row
-pub record Given (item : Item) (form : Form) (given : Name → Value) (cells : List ℕ) : Type 0 where
+pub record Given (item : Item) (form : Form) (given : Name → Value) (values : List ℕ) : Type 0 where
   pub key-enough : total keyUsed (rowsOf form) ≤ keyBytesOf item
-  pub cell-at : (k : ℕ) → k < length (rowsOf form) → getD cells k 0 ≡ cellIn (rowAt (rowsOf form) k) (valueAt form given k)
+  pub plain-at : (k : ℕ) → k < length (rowsOf form) → getD values k 0 ≡ plainIn (rowAt (rowsOf form) k) (valueAt form given k)
 
-abbrev cellsGiven : Form → (Name → Value) → List ℕ
-cellsGiven form given = map (λ (row : NamedRow). cellIn (row .row) (given (row .name))) (namedRows form)
+abbrev plainGiven : Form → (Name → Value) → List ℕ
+plainGiven form given = map (λ (row : NamedRow). plainIn (row .row) (given (row .name))) (namedRows form)
 
 -- row by row, where all of them are
-cells-at : (form : Form) (given : Name → Value) (cells behind : List ℕ) → cells ≡ cellsGiven form given → (k : ℕ) → k < length (rowsOf form)
-    → getD (cells ++ behind) k 0 ≡ cellIn (rowAt (rowsOf form) k) (valueAt form given k)
+plains-at : (form : Form) (given : Name → Value) (values behind : List ℕ) → values ≡ plainGiven form given → (k : ℕ) → k < length (rowsOf form)
+    → getD (values ++ behind) k 0 ≡ plainIn (rowAt (rowsOf form) k) (valueAt form given k)
 unfolding rowsOf
-cells-at form given cells behind e k h =
-    let cell : NamedRow → ℕ = λ (row : NamedRow). cellIn (row .row) (given (row .name)) in
-    let long : length (cellsGiven form given) ≡ length (rowsOf form) =
-    length-map (namedRows form) cell ∙ sym (length-map (namedRows form) (λ (row : NamedRow). row .row)) in
+plains-at form given values behind e k h =
+    let plain : NamedRow → ℕ = λ (row : NamedRow). plainIn (row .row) (given (row .name)) in
+    let long : length (plainGiven form given) ≡ length (rowsOf form) =
+    length-map (namedRows form) plain ∙ sym (length-map (namedRows form) (λ (row : NamedRow). row .row)) in
     ap (λ (c : List ℕ). getD (c ++ behind) k 0) e
-    ∙ List·getD-append (cellsGiven form given) behind 0 k (omega arith)
-    ∙ List·getD-map cell (namedRows form) k (named instrument (Key 0))
-    ∙ ap (λ (row : Row). cellIn row (valueAt form given k)) (sym (List·getD-map (λ (row : NamedRow). row .row) (namedRows form) k (named instrument (Key 0))))
+    ∙ List·getD-append (plainGiven form given) behind 0 k (omega arith)
+    ∙ List·getD-map plain (namedRows form) k (named instrument (Key 0))
+    ∙ ap (λ (row : Row). plainIn row (valueAt form given k)) (sym (List·getD-map (λ (row : NamedRow). row .row) (namedRows form) k (named instrument (Key 0))))
 
-price-given : (p : PriceCell) → cellOfPrice p ≡ cellOf false (heldOf (priceGiven p))
+price-given : (p : PriceCell) → valueOfPrice p ≡ valueOf false (heldOf (priceGiven p))
 price-given price-cell.None = refl
 price-given (price-cell.Amount units) = refl
 
-quantity-given : (q : QuantityCell) → cellOfQuantity q ≡ cellOf false (heldOf (quantityGiven q))
+quantity-given : (q : QuantityCell) → valueOfQuantity q ≡ valueOf false (heldOf (quantityGiven q))
 quantity-given quantity-cell.None = refl
 quantity-given (quantity-cell.Amount units) = refl
 
-turnover-given : (t : TurnoverCell) → cellOfTurnover t ≡ cellOf false (heldOf (turnoverGiven t))
+turnover-given : (t : TurnoverCell) → valueOfTurnover t ≡ valueOf false (heldOf (turnoverGiven t))
 turnover-given turnover-cell.None = refl
 turnover-given (turnover-cell.Amount units) = refl
 
-difference-given : (d : DifferenceCell) → cellOfDifference d ≡ cellOf true (heldOf (differenceGiven d))
+difference-given : (d : DifferenceCell) → valueOfDifference d ≡ valueOf true (heldOf (differenceGiven d))
 difference-given difference-cell.None = refl
 difference-given (difference-cell.Amount units) = refl
 
-contract-cells : (form : Form) (level : Level) → isAsked (subjectOf form) Contract level ≡ true → (quote : Quote)
-    → (total keyUsed (rowsOf form) ≤ keyBytesOf Contract) × (cellsBy (namedRows form) (fieldCell quote) ≡ cellsGiven form (fieldValue quote))
+contract-plain : (form : Form) (level : Level) → isAsked (subjectOf form) Contract level ≡ true → (quote : Quote)
+    → (total keyUsed (rowsOf form) ≤ keyBytesOf Contract) × (valuesBy (namedRows form) (fieldValue quote) ≡ plainGiven form (fieldGiven quote))
 unfolding rowsOf namedRows
-contract-cells Heartbeat level is quote = (omega arith, refl)
-contract-cells LevelOne level is quote = (omega arith, simp (price-given, quantity-given, turnover-given))
-contract-cells LevelTwo level is quote = (omega arith, simp (price-given, quantity-given, turnover-given))
-contract-cells PairOne level is quote = absurd (false≢true is)
-contract-cells PairTwo level is quote = absurd (false≢true is)
+contract-plain Heartbeat level is quote = (omega arith, refl)
+contract-plain LevelOne level is quote = (omega arith, simp (price-given, quantity-given, turnover-given))
+contract-plain LevelTwo level is quote = (omega arith, simp (price-given, quantity-given, turnover-given))
+contract-plain PairOne level is quote = absurd (false≢true is)
+contract-plain PairTwo level is quote = absurd (false≢true is)
 
-pair-cells : (form : Form) (level : Level) → isAsked (subjectOf form) Pair level ≡ true → (quote : SpreadQuote)
-    → (total keyUsed (rowsOf form) ≤ keyBytesOf Pair) × (cellsBy (namedRows form) (spreadFieldCell quote) ≡ cellsGiven form (spreadFieldValue quote))
+pair-plain : (form : Form) (level : Level) → isAsked (subjectOf form) Pair level ≡ true → (quote : SpreadQuote)
+    → (total keyUsed (rowsOf form) ≤ keyBytesOf Pair) × (valuesBy (namedRows form) (spreadFieldValue quote) ≡ plainGiven form (spreadFieldGiven quote))
 unfolding rowsOf namedRows
-pair-cells Heartbeat level is quote = absurd (false≢true is)
-pair-cells LevelOne level is quote = absurd (false≢true is)
-pair-cells LevelTwo level is quote = absurd (false≢true is)
-pair-cells PairOne level is quote = (omega arith, simp (difference-given, quantity-given))
-pair-cells PairTwo level is quote = (omega arith, simp (difference-given, quantity-given))
+pair-plain Heartbeat level is quote = absurd (false≢true is)
+pair-plain LevelOne level is quote = absurd (false≢true is)
+pair-plain LevelTwo level is quote = absurd (false≢true is)
+pair-plain PairOne level is quote = (omega arith, simp (difference-given, quantity-given))
+pair-plain PairTwo level is quote = (omega arith, simp (difference-given, quantity-given))
 
 module _ (code : Code) (level : Level) (form : Form) where
   -- a contract's message is written from the fields of its quote
-  pub contract-given : formWritten Contract code level ≡ chosen.Form form → (quote : Quote) → Given Contract form (fieldValue quote) (cellsOf form quote)
-  unfolding cellsOf
+  pub contract-given : formWritten Contract code level ≡ chosen.Form form → (quote : Quote) → Given Contract form (fieldGiven quote) (valuesOf form quote)
+  unfolding valuesOf
   contract-given chose quote =
-      let own = contract-cells form level (asked-so (code .0) (code .1) Contract level form chose) quote in
-      record { key-enough = own .0; cell-at = cells-at form (fieldValue quote) (cellsBy (namedRows form) (fieldCell quote)) _ (own .1) }
+      let own = contract-plain form level (asked-so (code .0) (code .1) Contract level form chose) quote in
+      record { key-enough = own .0; plain-at = plains-at form (fieldGiven quote) (valuesBy (namedRows form) (fieldValue quote)) _ (own .1) }
 
   -- and a pair's from those of its own
-  pub pair-given : formWritten Pair code level ≡ chosen.Form form → (quote : SpreadQuote) → Given Pair form (spreadFieldValue quote) (spreadCellsOf form quote)
-  unfolding spreadCellsOf
+  pub pair-given : formWritten Pair code level ≡ chosen.Form form → (quote : SpreadQuote) → Given Pair form (spreadFieldGiven quote) (spreadValuesOf form quote)
+  unfolding spreadValuesOf
   pair-given chose quote =
-      let own = pair-cells form level (asked-so (code .0) (code .1) Pair level form chose) quote in
-      record { key-enough = own .0; cell-at = cells-at form (spreadFieldValue quote) (cellsBy (namedRows form) (spreadFieldCell quote)) _ (own .1) }
+      let own = pair-plain form level (asked-so (code .0) (code .1) Pair level form chose) quote in
+      record { key-enough = own .0; plain-at = plains-at form (spreadFieldGiven quote) (valuesBy (namedRows form) (spreadFieldValue quote)) _ (own .1) }
 
 -- ---- a part of the key
 
@@ -193,7 +195,7 @@ well-formed : (w : Written) → writeRefusal (ofWritten w) ≡ 11 → ⊥
 well-formed (filled characters) e = omega arith
 well-formed refused e = omega arith
 
--- why a number that a cell may hold is refused
+-- why a number is refused
 abbrev pub Refuses : Kind → ℕ → Held → Type 0
 Refuses kind width Nothing = ⊥
 Refuses kind width (Units n) = Refused kind width false n
@@ -211,59 +213,59 @@ module _ (kind : Kind) (width : ℕ) where
   held-formed (Below n) e = well-formed (writtenAs kind width true n) e
 
   module _ (small : kind .most < minus - 2) where
-    -- the cell of an amount that has none is as far out of range as the amount
-    pub far : (signed : Bool) → Refuses kind width (heldIn signed noRoom)
+    -- the value of an amount that has none of its own is as far out of range as the amount
+    pub far : (signed : Bool) → Refuses kind width (heldBy signed noRoom)
     far true = inl (omega arith)
     far false = inl (omega arith)
 
-    -- a number that has a cell is the one that its cell holds
-    held-kept : (signed : Bool) (held : Held) (n : ℕ) → MayHold signed held → (n < minus - 2 → cellOf signed held ≡ noRoom → ⊥) → (kind .most < n → Refuses kind width held)
-        → Refuses kind width (heldIn signed (cellOf signed held)) ↔ Refuses kind width held
+    -- a number that has a value is the one that its value stands for
+    held-kept : (signed : Bool) (held : Held) (n : ℕ) → MayHold signed held → (n < minus - 2 → valueOf signed held ≡ noRoom → ⊥) → (kind .most < n → Refuses kind width held)
+        → Refuses kind width (heldBy signed (valueOf signed held)) ↔ Refuses kind width held
     held-kept signed held n may has over =
-        ⊎-elim (λ (e : cellOf signed held ≡ noRoom).
+        ⊎-elim (λ (e : valueOf signed held ≡ noRoom).
         let out : Refuses kind width held = ⊎-elim (λ (l : minus - 2 ≤ n). over (omega arith)) (λ (l : n < minus - 2). absurd (has l e)) (order (minus - 2) n) in
         rw e ((λ u. out), (λ u. far signed)))
-        (λ (e : cellOf signed held ≡ noRoom → ⊥). rw (held-back signed held may e) ((λ u. u), (λ u. u)))
-        (same (cellOf signed held) noRoom)
+        (λ (e : valueOf signed held ≡ noRoom → ⊥). rw (held-back signed held may e) ((λ u. u), (λ u. u)))
+        (same (valueOf signed held) noRoom)
 
-    units-kept : (signed : Bool) (n : ℕ) → Refuses kind width (heldIn signed (cellOf signed (Units n))) ↔ Refuses kind width (Units n)
-    units-kept signed n = held-kept signed (Units n) n tt (λ l e. omega (arith, has-cell signed n l)) (λ l. inl l)
+    units-kept : (signed : Bool) (n : ℕ) → Refuses kind width (heldBy signed (valueOf signed (Units n))) ↔ Refuses kind width (Units n)
+    units-kept signed n = held-kept signed (Units n) n tt (λ l e. omega (arith, has-value signed (Units n) l)) (λ l. inl l)
 
-    below-kept : (n : ℕ) → 0 < n → Refuses kind width (heldIn true (cellOf true (Below n))) ↔ Refuses kind width (Below n)
-    below-kept n some = held-kept true (Below n) n (refl, some) (λ l e. omega (arith, has-cell-below true n l)) (λ l. inl l)
+    below-kept : (n : ℕ) → 0 < n → Refuses kind width (heldBy true (valueOf true (Below n))) ↔ Refuses kind width (Below n)
+    below-kept n some = held-kept true (Below n) n (refl, some) (λ l e. omega (arith, has-value true (Below n) l)) (λ l. inl l)
 
     -- where a kind has no sign, what is below zero is refused
-    pub unsigned : (n : ℕ) → Refuses kind width (heldIn false (cellOf false (Below n)))
+    pub unsigned : (n : ℕ) → Refuses kind width (heldBy false (valueOf false (Below n)))
     unsigned n =
         ⊎-elim (λ (l : minus - 1 ≤ n). simp (le-ltb n (minus - 1) l) (far false))
-        (λ (l : n < minus - 1). simp (lt-ltb n (minus - 1) l, ne-eqb (minus + n) none (λ e. omega arith)) (inl (omega arith)))
+        (λ (l : n < minus - 1). simp (lt-ltb n (minus - 1) l, ne-eqb (minus + n) noValue (λ e. omega arith)) (inl (omega arith)))
         (order (minus - 1) n)
 
     amount-exact : (signed : Bool) → kind .signed ≡ signed → (given : Bool) (n : ℕ)
-        → Refuses kind width (heldIn signed (cellOf signed (sided given n))) ↔ Unwritable kind width (amount given n)
+        → Refuses kind width (heldBy signed (valueOf signed (sided given n))) ↔ Unwritable kind width (amount given n)
     amount-exact signed is false n = units-kept signed n
     amount-exact signed is true n = go signed is (eqb n 0) refl
       where
         go : (signed : Bool) → kind .signed ≡ signed → (zero : Bool) → eqb n 0 ≡ zero
-            → Refuses kind width (heldIn signed (cellOf signed (sided true n))) ↔ Unwritable kind width (amount true n)
+            → Refuses kind width (heldBy signed (valueOf signed (sided true n))) ↔ Unwritable kind width (amount true n)
         go signed is true z = rw z (units-kept signed n)
         go true is false z = rw z (rw z at (below-kept n (omega (arith, eqb-false n 0 z))))
         go false is false z =
             let out : Unwritable kind width (amount true n) = refuses kind width true n .0 (sideless kind width true n (rw (z, is))) in
-            let held-out : Refuses kind width (heldIn false (cellOf false (sided true n))) = rw z (unsigned n) in
+            let held-out : Refuses kind width (heldBy false (valueOf false (sided true n))) = rw z (unsigned n) in
             ((λ u. out), (λ u. held-out))
 
-    value-exact : (value : Value) → writeRefusal (heldText kind width (heldIn (kind .signed) (cellOf (kind .signed) (heldOf value)))) ≡ 12 ↔ Unwritable kind width value
-    value-exact value = Iff·trans (held-exact (heldIn (kind .signed) (cellOf (kind .signed) (heldOf value)))) (by value)
+    value-exact : (value : Value) → writeRefusal (heldText kind width (heldBy (kind .signed) (valueOf (kind .signed) (heldOf value)))) ≡ 12 ↔ Unwritable kind width value
+    value-exact value = Iff·trans (held-exact (heldBy (kind .signed) (valueOf (kind .signed) (heldOf value)))) (by value)
       where
-        by : (value : Value) → Refuses kind width (heldIn (kind .signed) (cellOf (kind .signed) (heldOf value))) ↔ Unwritable kind width value
+        by : (value : Value) → Refuses kind width (heldBy (kind .signed) (valueOf (kind .signed) (heldOf value))) ↔ Unwritable kind width value
         by (letter byte) = ((λ u. u), (λ u. u))
         by nothing = ((λ u. u), (λ u. u))
         by (amount given n) = amount-exact (kind .signed) refl given n
 
 -- ---- a row
 
-row-range : (row : Row) (part : List ℕ) (value : Value) → writeRefusal (rowText row part (cellIn row value)) ≡ 12 ↔ OutOfRange row value
+row-range : (row : Row) (part : List ℕ) (value : Value) → writeRefusal (rowText row part (plainIn row value)) ≡ 12 ↔ OutOfRange row value
 unfolding rowText
 row-range (Key width) part value = (tested-in-range (take width part) (leb width (length part) && allPrintable (take width part)), (λ e. absurd e))
 row-range MarketType part value = (tested-in-range (byteOf value ∷ []) (isMarketType (byteOf value)), (λ e. absurd e))
@@ -274,7 +276,7 @@ row-range (Turnover width) part value = value-exact turnover width (lit< tt) val
 row-range (Difference width) part value = value-exact difference width (lit< tt) value
 
 row-field : (row : Row) (part : List ℕ) (value : Value) → keyUsed row ≤ length part
-    → writeRefusal (rowText row part (cellIn row value)) ≡ 11 ↔ Malformed row part value
+    → writeRefusal (rowText row part (plainIn row value)) ≡ 11 ↔ Malformed row part value
 unfolding rowText
 row-field (Key width) part value has =
     let long = length-take-le width part has in
@@ -297,10 +299,10 @@ row-field Status part value has =
       (λ e. let n = or-none (eqb (byteOf value) 83) (eqb (byteOf value) 32) e in (eqb-false (byteOf value) 83 (n .0), eqb-false (byteOf value) 32 (n .1))),
       (λ m. rw (ne-eqb (byteOf value) 83 (m .0), ne-eqb (byteOf value) 32 (m .1))),
     )
-row-field (Price width) part value has = (held-formed price width (heldIn false (cellOf false (heldOf value))), (λ e. absurd e))
-row-field (Quantity width) part value has = (held-formed quantity width (heldIn false (cellOf false (heldOf value))), (λ e. absurd e))
-row-field (Turnover width) part value has = (held-formed turnover width (heldIn false (cellOf false (heldOf value))), (λ e. absurd e))
-row-field (Difference width) part value has = (held-formed difference width (heldIn true (cellOf true (heldOf value))), (λ e. absurd e))
+row-field (Price width) part value has = (held-formed price width (heldBy false (valueOf false (heldOf value))), (λ e. absurd e))
+row-field (Quantity width) part value has = (held-formed quantity width (heldBy false (valueOf false (heldOf value))), (λ e. absurd e))
+row-field (Turnover width) part value has = (held-formed turnover width (heldBy false (valueOf false (heldOf value))), (λ e. absurd e))
+row-field (Difference width) part value has = (held-formed difference width (heldBy true (valueOf true (heldOf value))), (λ e. absurd e))
 
 -- ---- a row of a form
 
@@ -310,14 +312,14 @@ used-before [] k h = absurd (omega arith)
 used-before (row ∷ rows) zero h = omega arith
 used-before (row ∷ rows) (suc k) h = omega (arith, used-before rows k (omega arith))
 
-module _ (item : Item) (form : Form) (key cells : List ℕ) (given : Name → Value) (from : Given item form given cells) (key-long : length key ≡ keyBytesOf item) (k : ℕ)
+module _ (item : Item) (form : Form) (key values : List ℕ) (given : Name → Value) (from : Given item form given values) (key-long : length key ≡ keyBytesOf item) (k : ℕ)
     (inside : k < length (rowsOf form))
   where
     abbrev row : Row
     row = rowAt (rowsOf form) k
 
     abbrev refusal : ℕ
-    refusal = refusalWritten (rowsOf form) key cells k
+    refusal = refusalWritten (rowsOf form) key values k
 
     part-there : keyUsed row ≤ length (partAt form key k)
     part-there =
@@ -325,8 +327,8 @@ module _ (item : Item) (form : Form) (key cells : List ℕ) (given : Name → Va
         let all = from .key-enough in
         omega (arith, length-drop (total keyUsed (take k (rowsOf form))) key)
 
-    refusal-is : refusal ≡ writeRefusal (rowText row (partAt form key k) (cellIn row (valueAt form given k)))
-    refusal-is = ap (λ (cell : ℕ). writeRefusal (rowText row (partAt form key k) cell)) (from .cell-at k inside)
+    refusal-is : refusal ≡ writeRefusal (rowText row (partAt form key k) (plainIn row (valueAt form given k)))
+    refusal-is = ap (λ (plain : ℕ). writeRefusal (rowText row (partAt form key k) plain)) (from .plain-at k inside)
 
     pub field-exact : refusal ≡ 11 ↔ MalformedAt form key given k
     field-exact = rw refusal-is (row-field row (partAt form key k) (valueAt form given k) part-there)
@@ -338,7 +340,7 @@ module _ (item : Item) (form : Form) (key cells : List ℕ) (given : Name → Va
     pub fine-exact : refusal ≡ 0 ↔ Fine form key given k
     fine-exact = (
       (λ e. ((λ m. omega (arith, field-exact .1 m)), (λ r. omega (arith, range-exact .1 r)))),
-      (λ f. by (rowText row (partAt form key k) (getD cells k 0)) (λ e. f .0 (field-exact .0 e)) (λ e. f .1 (range-exact .0 e))),
+      (λ f. by (rowText row (partAt form key k) (getD values k 0)) (λ e. f .0 (field-exact .0 e)) (λ e. f .1 (range-exact .0 e))),
     )
       where
         by : (t : RowText) → (writeRefusal t ≡ 11 → ⊥) → (writeRefusal t ≡ 12 → ⊥) → writeRefusal t ≡ 0

@@ -22,23 +22,25 @@ use Rattle.forms.specs.declared.forms.Chosen.the-variants as chosen
 use Rattle.forms.specs.declared.rows.Row.{Row}
 use Rattle.forms.specs.declared.rows.Row.the-variants.{Key, MarketType, Status, Price, Quantity, Turnover, Difference}
 use Rattle.layout.specs.declared.cells.Held.{Held}
-use Rattle.layout.specs.Cells.{minus, noRoom, sided, heldIn, cellOf, keyUsed}
-use Rattle.layout.specs.CellsLaws.{MayHold, sided-so, held-back}
-use Rattle.layout.specs.FirstBad.{rowWritten}
+use Rattle.layout.specs.Cells.{minus, sided, keyUsed}
+use Rattle.layout.specs.Plain.{noRoom, valueOf, heldOf as heldBy}
+use Rattle.layout.specs.CellsLaws.{MayHold, sided-so}
+use Rattle.layout.specs.PlainLaws.{held-back}
+use Rattle.compose.specs.FirstBad.{rowWritten}
 use Rattle.layout.specs.Says.{rowAt, fieldAt}
 use Rattle.forms.specs.Forms.{rowsOf}
 use Rattle.forms.specs.Rows.{widthOf, total, offsetOf}
-use Rattle.layout.specs.RowTextLaws.{text-width, filled-is as text-filled}
-use Rattle.layout.specs.Write.{Laid, text, ofWritten, rowText, heldText, writeRefusal, writeRows}
-use Rattle.layout.specs.WriteLaws.{GoodRow, good-row}
+use Rattle.compose.specs.RowTextLaws.{text-width, filled-is as text-filled}
+use Rattle.compose.specs.Write.{Laid, text, ofWritten, rowText, heldText, writeRefusal, writeRows}
+use Rattle.compose.specs.WriteLaws.{GoodRow, good-row}
 use Rattle.forms.specs.Names.{Name}
-use Rattle.message.specs.Fields.{dataOf}
+use Rattle.head.specs.Fields.{dataOf}
 use Rattle.state.specs.declared.answers.Written.{Written}
 use Rattle.writer.specs.declared.writing.Code.{Code}
 use Rattle.writer.specs.Chosen.{formWritten}
-use Rattle.writer.specs.WriterPromises.{WroteCells}
+use Rattle.writer.specs.WriterPromises.{WroteValues}
 use Rattle.written.specs.WrittenRefusals.{Value, letter, nothing, amount, valueAt, partAt}
-use Rattle.written.specs.WrittenRowsLaws.{heldOf, cellIn, Given, Refuses, held-exact, far, unsigned}
+use Rattle.written.specs.WrittenRowsLaws.{heldOf, plainIn, Given, Refuses, held-exact, far, unsigned}
 use Rattle.written.specs.WrittenUpdateLaws.{rows-good, data-there}
 use Rattle.written.specs.WrittenShortest.{Shortest, FieldOf, NumberField}
 
@@ -80,21 +82,21 @@ field-behind row rows characters rest k e =
     (ap (λ (n : ℕ). drop (n + offsetOf rows k) (characters ++ rest)) (sym e) ∙ drop-append-add characters rest (offsetOf rows k))
 
 -- in a good writing each row's field holds its text
-pub field-written : (i : ℕ) (rows : List Row) (key cells : List ℕ) → writeRows i rows key cells .verdict ≡ Good → (k : ℕ) → k < length rows
-    → rowWritten rows key cells k ≡ text (fieldAt rows (writeRows i rows key cells .bytes) k)
-field-written i [] key cells good k h = absurd (omega arith)
-field-written i (row ∷ rows) key cells good zero h =
-    let rest : Laid = writeRows (suc i) rows (drop (keyUsed row) key) (drop 1 cells) in
-    let g : GoodRow (rowText row key (getD cells 0 0)) i rest = good-row (rowText row key (getD cells 0 0)) i rest good in
-    let wide = text-width row key (getD cells 0 0) (g .is-text) in
+pub field-written : (i : ℕ) (rows : List Row) (key values : List ℕ) → writeRows i rows key values .verdict ≡ Good → (k : ℕ) → k < length rows
+    → rowWritten rows key values k ≡ text (fieldAt rows (writeRows i rows key values .bytes) k)
+field-written i [] key values good k h = absurd (omega arith)
+field-written i (row ∷ rows) key values good zero h =
+    let rest : Laid = writeRows (suc i) rows (drop (keyUsed row) key) (drop 1 values) in
+    let g : GoodRow (rowText row key (getD values 0 0)) i rest = good-row (rowText row key (getD values 0 0)) i rest good in
+    let wide = text-width row key (getD values 0 0) (g .is-text) in
     g .is-text ∙ ap text (sym (ap (take (widthOf row)) (g .bytes-are) ∙ take-at (g .characters) (rest .bytes) (widthOf row) wide))
-field-written i (row ∷ rows) key cells good (suc k) h =
-    let rest : Laid = writeRows (suc i) rows (drop (keyUsed row) key) (drop 1 cells) in
-    let g : GoodRow (rowText row key (getD cells 0 0)) i rest = good-row (rowText row key (getD cells 0 0)) i rest good in
-    let wide = text-width row key (getD cells 0 0) (g .is-text) in
+field-written i (row ∷ rows) key values good (suc k) h =
+    let rest : Laid = writeRows (suc i) rows (drop (keyUsed row) key) (drop 1 values) in
+    let g : GoodRow (rowText row key (getD values 0 0)) i rest = good-row (rowText row key (getD values 0 0)) i rest good in
+    let wide = text-width row key (getD values 0 0) (g .is-text) in
     let next : suc k ≡ 1 + k = omega arith in
-    ap₂ (rowText (rowAt rows k)) (sym (drop-drop (total keyUsed (take k rows)) (keyUsed row) key)) (ap (λ (n : ℕ). getD cells n 0) next ∙ sym (getD-drop 1 cells k 0))
-    ∙ field-written (suc i) rows (drop (keyUsed row) key) (drop 1 cells) (g .rest-good) k (omega arith)
+    ap₂ (rowText (rowAt rows k)) (sym (drop-drop (total keyUsed (take k rows)) (keyUsed row) key)) (ap (λ (n : ℕ). getD values n 0) next ∙ sym (getD-drop 1 values k 0))
+    ∙ field-written (suc i) rows (drop (keyUsed row) key) (drop 1 values) (g .rest-good) k (omega arith)
     ∙ ap text (sym (ap (λ (b : List ℕ). fieldAt (row ∷ rows) b (suc k)) (g .bytes-are) ∙ field-behind row rows (g .characters) (rest .bytes) k wide))
 
 -- ---- the field of a number's row
@@ -122,7 +124,7 @@ module _ (kind : Kind) (width : ℕ) (field : List ℕ) where
 
   module _ (small : kind .most < minus - 2) where
     -- a number that has a text is one that its row may hold
-    may-hold : (signed : Bool) (given : Bool) (n : ℕ) → (Refuses kind width (heldIn signed (cellOf signed (sided given n))) → ⊥) → MayHold signed (sided given n)
+    may-hold : (signed : Bool) (given : Bool) (n : ℕ) → (Refuses kind width (heldBy signed (valueOf signed (sided given n))) → ⊥) → MayHold signed (sided given n)
     may-hold true given n fine = sided-so given n
     may-hold false false n fine = tt
     may-hold false true n fine = go (eqb n 0) refl
@@ -131,20 +133,20 @@ module _ (kind : Kind) (width : ℕ) (field : List ℕ) where
         go true z = rw z tt
         go false z = absurd (fine (rw z (unsigned kind width small n)))
 
-    -- and the one that its cell holds
-    held-there : (signed : Bool) (value : Value) → heldText kind width (heldIn signed (cellOf signed (heldOf value))) ≡ text field
+    -- and the one that its value stands for
+    held-there : (signed : Bool) (value : Value) → heldText kind width (heldBy signed (valueOf signed (heldOf value))) ≡ text field
         → heldText kind width (heldOf value) ≡ text field
     held-there signed (letter byte) e = e
     held-there signed nothing e = e
     held-there signed (amount given n) e =
-        let fine = unrefused (heldIn signed (cellOf signed (sided given n))) e in
-        let has : cellOf signed (sided given n) ≡ noRoom → ⊥ = λ no. fine (rw no (far kind width small signed)) in
+        let fine = unrefused (heldBy signed (valueOf signed (sided given n))) e in
+        let has : valueOf signed (sided given n) ≡ noRoom → ⊥ = λ no. fine (rw no (far kind width small signed)) in
         rw (held-back signed (sided given n) (may-hold signed given n fine) has) at e
 
-    number-field : (signed : Bool) (value : Value) → heldText kind width (heldIn signed (cellOf signed (heldOf value))) ≡ text field → FieldOf kind value field
+    number-field : (signed : Bool) (value : Value) → heldText kind width (heldBy signed (valueOf signed (heldOf value))) ≡ text field → FieldOf kind value field
     number-field signed value e = value-field value (held-there signed value e)
 
-row-number : (row : Row) (part : List ℕ) (value : Value) (field : List ℕ) → rowText row part (cellIn row value) ≡ text field → NumberField row value field
+row-number : (row : Row) (part : List ℕ) (value : Value) (field : List ℕ) → rowText row part (plainIn row value) ≡ text field → NumberField row value field
 unfolding rowText
 row-number (Key width) part value field e = tt
 row-number MarketType part value field e = tt
@@ -156,9 +158,9 @@ row-number (Difference width) part value field e = number-field difference width
 
 -- ---- a written message
 
-module _ (item : Item) (code : Code) (level : Level) (number : ℕ) (key : List ℕ) (cells : Form → List ℕ) (out out′ : List ℕ) (n : ℕ)
-    (form : Form) (chose : formWritten item code level ≡ chosen.Form form) (wrote : WroteCells item code level number key cells out (Written.Message n) out′)
-    (given : Name → Value) (from : Given item form given (cells form))
+module _ (item : Item) (code : Code) (level : Level) (number : ℕ) (key : List ℕ) (values : Form → List ℕ) (out out′ : List ℕ) (n : ℕ)
+    (form : Form) (chose : formWritten item code level ≡ chosen.Form form) (wrote : WroteValues item code level number key values out (Written.Message n) out′)
+    (given : Name → Value) (from : Given item form given (values form))
   where
     -- row k's field in the message that was written
     abbrev pub fieldIn : ℕ → List ℕ
@@ -166,7 +168,7 @@ module _ (item : Item) (code : Code) (level : Level) (number : ℕ) (key : List 
 
     pub written-shortest : (k : ℕ) → k < length (rowsOf form) → NumberField (rowAt (rowsOf form) k) (valueAt form given k) (fieldIn k)
     written-shortest k inside =
-        let good = rows-good item code level number key cells out out′ n form chose wrote in
-        let holds = field-written 0 (rowsOf form) key (cells form) good k inside in
-        rw (data-there item code level number key cells out out′ n form chose wrote)
-        (row-number (rowAt (rowsOf form) k) (partAt form key k) (valueAt form given k) _ (rw (from .cell-at k inside) at holds))
+        let good = rows-good item code level number key values out out′ n form chose wrote in
+        let holds = field-written 0 (rowsOf form) key (values form) good k inside in
+        rw (data-there item code level number key values out out′ n form chose wrote)
+        (row-number (rowAt (rowsOf form) k) (partAt form key k) (valueAt form given k) _ (rw (from .plain-at k inside) at holds))

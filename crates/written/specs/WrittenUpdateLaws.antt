@@ -10,7 +10,7 @@ use borrow.Author.Tests.{eq-eqb}
 use lib.ListN.{length, take}
 use lib.Seq.{take-all}
 use Rattle.pairs.specs.Lists.{Lists}
-use Rattle.contracts.specs.Lookup.{segmentOf}
+use Rattle.lookup.specs.Lookup.{segmentOf}
 use Rattle.layout.specs.declared.read.Verdict.the-variants.{Good}
 use Rattle.forms.specs.declared.rows.Level.{Level}
 use Rattle.forms.specs.declared.forms.Form.{Form}
@@ -19,60 +19,61 @@ use Rattle.forms.specs.declared.forms.Named.the-variants as is
 use Rattle.forms.specs.declared.forms.Chosen.{Chosen}
 use Rattle.forms.specs.declared.forms.Chosen.the-variants as chosen
 use Rattle.forms.specs.declared.forms.Subject.the-variants.{Nothing}
-use Rattle.layout.specs.Cells.{zerosBehind, seenCells}
+use Rattle.layout.specs.Cells.{zerosBehind}
+use Rattle.layout.specs.Plain.{seenValues}
 use Rattle.forms.specs.Forms.{rowsOf, subjectOf, keyBytesOf, formOf}
 use Rattle.forms.specs.FormsLaws.{fits}
-use Rattle.layout.specs.RoundTrip.{key-of-update, rows-back}
+use Rattle.compose.specs.RoundTrip.{key-of-update, rows-back}
 use Rattle.forms.specs.Rows.{dataLength, messageLength}
 use Rattle.forms.specs.Sizes.{mostData, bareLength}
-use Rattle.layout.specs.Write.{Laid, writeRows}
-use Rattle.layout.specs.WriteLaws.{good-length}
+use Rattle.compose.specs.Write.{Laid, writeRows}
+use Rattle.compose.specs.WriteLaws.{good-length}
 use Rattle.message.specs.declared.body.Outline.{Outline}
 use Rattle.message.specs.declared.body.What.the-variants as what
-use Rattle.message.specs.declared.head.Head.the-variants as head
-use Rattle.message.specs.Fields.{lengthOf, numberOf, dataOf, formIn}
-use Rattle.message.specs.Head.{headRules}
-use Rattle.message.specs.Rules.{headOf}
-use Rattle.message.specs.Tests.{isSome, coded, takesNumber, takesLength}
-use Rattle.message.specs.HeadLaws.{framed-exact, trailed-exact, summed-exact}
+use Rattle.head.specs.declared.head.Head.the-variants as head
+use Rattle.head.specs.Fields.{lengthOf, numberOf, dataOf, formIn}
+use Rattle.head.specs.Head.{headRules}
+use Rattle.head.specs.Rules.{headOf}
+use Rattle.head.specs.Tests.{isSome, coded, takesNumber, takesLength}
+use Rattle.head.specs.HeadLaws.{framed-exact, trailed-exact, summed-exact}
 use Rattle.message.specs.Message.{Message, TellsOf, messageKey, keyPlace, messagePlace}
 use Rattle.message.specs.Reads.{messageOf}
 use Rattle.message.specs.MessageLaws.{key-found, good-head, heartbeat-reads, outline-told, update-is}
-use Rattle.message.specs.RulesLaws.{hold-good}
+use Rattle.head.specs.RulesLaws.{hold-good}
 use Rattle.state.specs.declared.answers.Written.{Written}
 use Rattle.writer.specs.declared.writing.Code.{Code}
-use Rattle.writer.specs.Writer.{rowsWritten, cellsWritten, dataWritten, messageBytes}
+use Rattle.writer.specs.Writer.{rowsWritten, valuesWritten, dataWritten, messageBytes}
 use Rattle.writer.specs.Chosen.{formWritten, numbered}
 use Rattle.writer.specs.WriterLaws.{message-long}
-use Rattle.writer.specs.WriterPromises.{WroteCells}
+use Rattle.writer.specs.WriterPromises.{WroteValues}
 use Rattle.writer.specs.WriterPromisesLaws.{written-good, message-in-front}
 use Rattle.written.specs.WrittenFieldsLaws.{letter-written, second-written, number-written, length-written, data-written, form-written, sum-written, end-written}
 use Rattle.written.specs.WrittenFormLaws.{form-told, second-capital}
 
-module _ (item : Item) (code : Code) (level : Level) (number : ℕ) (key : List ℕ) (cells : Form → List ℕ) (out out′ : List ℕ) (n : ℕ)
-    (form : Form) (chose : formWritten item code level ≡ chosen.Form form) (wrote : WroteCells item code level number key cells out (Written.Message n) out′)
+module _ (item : Item) (code : Code) (level : Level) (number : ℕ) (key : List ℕ) (values : Form → List ℕ) (out out′ : List ℕ) (n : ℕ)
+    (form : Form) (chose : formWritten item code level ≡ chosen.Form form) (wrote : WroteValues item code level number key values out (Written.Message n) out′)
   where
     abbrev rows : Laid
-    rows = writeRows 0 (rowsOf form) key (cells form)
+    rows = writeRows 0 (rowsOf form) key (values form)
 
     abbrev pub written : List ℕ
     written = messageBytes code number (rows .bytes)
 
-    data-laid : dataWritten (formWritten item code level) key (cellsWritten (formWritten item code level) cells) ≡ rows
+    data-laid : dataWritten (formWritten item code level) key (valuesWritten (formWritten item code level) values) ≡ rows
     unfolding dataWritten
-    data-laid = ap (λ (c : Chosen). writeRows 0 (rowsWritten c) key (cellsWritten c cells)) chose
+    data-laid = ap (λ (c : Chosen). writeRows 0 (rowsWritten c) key (valuesWritten c values)) chose
 
     pub rows-good : rows .verdict ≡ Good
-    rows-good = ap (λ (l : Laid). l .verdict) (sym data-laid) ∙ written-good item code level number key cells out n wrote .rows-good
+    rows-good = ap (λ (l : Laid). l .verdict) (sym data-laid) ∙ written-good item code level number key values out n wrote .rows-good
 
     pub number-fits : takesNumber (is.Form form) number ≡ true
-    number-fits = ap (λ (c : Chosen). numbered c number) (sym chose) ∙ written-good item code level number key cells out n wrote .has-number
+    number-fits = ap (λ (c : Chosen). numbered c number) (sym chose) ∙ written-good item code level number key values out n wrote .has-number
 
     pub message-there : take n out′ ≡ written
-    message-there = message-in-front item code level number key cells out n wrote ∙ ap (λ (l : Laid). messageBytes code number (l .bytes)) data-laid
+    message-there = message-in-front item code level number key values out n wrote ∙ ap (λ (l : Laid). messageBytes code number (l .bytes)) data-laid
 
     long : length (rows .bytes) ≡ dataLength (rowsOf form)
-    long = good-length 0 (rowsOf form) key (cells form) rows-good
+    long = good-length 0 (rowsOf form) key (values form) rows-good
 
     short : length (rows .bytes) + bareLength < 2 ^ 16
     short = omega (arith, long, fits form .data-fits)
@@ -126,7 +127,7 @@ module _ (item : Item) (code : Code) (level : Level) (number : ℕ) (key : List 
       pub key-is : messageKey item written ≡ key
       unfolding messageKey
       key-is =
-          let front = key-of-update form item (tells .0) (tells .1) key (cells form) rows-good in
+          let front = key-of-update form item (tells .0) (tells .1) key (values form) rows-good in
           ap (take (keyBytesOf item)) data-is ∙ front .stands ∙ take-all (keyBytesOf item) key (omega arith)
 
       -- whose contract or pair is listed
@@ -136,10 +137,10 @@ module _ (item : Item) (code : Code) (level : Level) (number : ℕ) (key : List 
 
         abbrev message : Message
         message =
-            record { what = what.Update number form place; length = messageLength (rowsOf form); cells = zerosBehind (seenCells (rowsOf form) (cells form)) }
+            record { what = what.Update number form place; length = messageLength (rowsOf form); cells = zerosBehind (seenValues (rowsOf form) (values form)) }
 
         pub message-is : messageOf lists (code .0) written ≡ message
         message-is =
             good-head lists (code .0) written (head-good few lists letter-there)
-            ∙ update-is (messagePlace lists (code .0) written) written (messageLength (rowsOf form)) (sym length-is) (what.Update number form place) form form-is item tells (record { cells = seenCells (rowsOf form) (cells form); verdict = Good })
-            (rw data-is (rows-back 0 (rowsOf form) key (cells form) rows-good)) (rw (key-is, listed, number-is few))
+            ∙ update-is (messagePlace lists (code .0) written) written (messageLength (rowsOf form)) (sym length-is) (what.Update number form place) form form-is item tells (record { cells = seenValues (rowsOf form) (values form); verdict = Good })
+            (rw data-is (rows-back 0 (rowsOf form) key (values form) rows-good)) (rw (key-is, listed, number-is few))

@@ -1,6 +1,6 @@
 -- As many cells as the record has rows, behind the key's.
 use native.Mathlib.Omega.{arith}
-use Rattle.state.specs.SlotsLaws.{rows-few}
+use Rattle.slots.specs.SlotsLaws.{rows-few}
 use Rattle.values.specs.ValuesLaws.{rows-room}
 use borrow.Author.Needs.{needs}
 use Rattle.values.proofs.put_rows.Statement.{statement}

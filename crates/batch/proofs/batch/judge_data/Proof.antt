@@ -2,9 +2,9 @@
 use mathlib.Core.Path.{_≡_, refl, sym, _∙_}
 use Rattle.pairs.specs.Lists.{lists}
 use Rattle.laws.specs.Refused.{codeNo}
-use Rattle.contracts.specs.Answers.{placeOf}
-use Rattle.contracts.specs.AnswersLaws.{found-told}
-use Rattle.contracts.specs.Lookup.{segmentOf}
+use Rattle.lookup.specs.Answers.{placeOf}
+use Rattle.lookup.specs.AnswersLaws.{found-told}
+use Rattle.lookup.specs.Lookup.{segmentOf}
 use Rattle.batch.specs.ScratchLaws.{row-ready, front-ready, scratch-judged}
 use borrow.Author.Needs.{needs}
 use Rattle.batch.proofs.batch.judge_data.Statement.{statement}

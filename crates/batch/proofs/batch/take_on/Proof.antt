@@ -5,9 +5,9 @@ use mathlib.Core.List.{List}
 use lib.ListN.{length}
 use Rattle.pairs.specs.Lists.{lists}
 use Rattle.laws.specs.Refused.{codeNo}
-use Rattle.contracts.specs.Answers.{placeOf}
-use Rattle.contracts.specs.AnswersLaws.{found-told}
-use Rattle.contracts.specs.Lookup.{segmentOf}
+use Rattle.lookup.specs.Answers.{placeOf}
+use Rattle.lookup.specs.AnswersLaws.{found-told}
+use Rattle.lookup.specs.Lookup.{segmentOf}
 use Rattle.sequence.specs.RowLaws.{sound-row-exactly}
 use Rattle.turns.specs.Acts.{Left}
 use Rattle.turns.specs.Turns.{Box, acted}

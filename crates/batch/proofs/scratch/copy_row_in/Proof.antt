@@ -1,6 +1,6 @@
 -- The row is copied from its segment, or started.
 use mathlib.Core.Path.{ap}
-use Rattle.contracts.specs.Answers.{placeOf}
+use Rattle.lookup.specs.Answers.{placeOf}
 use Rattle.batch.specs.ScratchLaws.{row-copied, row-started}
 use borrow.Author.Needs.{needs}
 use Rattle.batch.proofs.scratch.copy_row_in.Statement.{statement}

@@ -1,6 +1,6 @@
 -- In its segment's place, where there is one.
 use mathlib.Core.Path.{ap, sym, _∙_}
-use Rattle.contracts.specs.Answers.{placeOf}
+use Rattle.lookup.specs.Answers.{placeOf}
 use Rattle.state.specs.MemoryRows.{withGapRowIn}
 use borrow.Author.Needs.{needs}
 use Rattle.batch.proofs.scratch.put_row_in.Statement.{statement}

@@ -1,7 +1,7 @@
 -- No update has more rows behind its key than a contract's at level 2.
 use borrow.Author.Needs.{needs}
 use native.Mathlib.Omega.{arith}
-use Rattle.state.specs.SlotsLaws.{rows-few}
+use Rattle.slots.specs.SlotsLaws.{rows-few}
 use Rattle.commands.proofs.length.rows_at.Statement.{statement}
 use Rattle.commands.proofs.length.rows_at.Tie as tie
 

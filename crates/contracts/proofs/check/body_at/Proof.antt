@@ -4,7 +4,7 @@ use native.Mathlib.Omega.{arith}
 use borrow.Author.Needs.{needs}
 use lib.ListN.{getD}
 use denote.Ref.{now}
-use Rattle.contracts.specs.FileLaws.{segments-under, bodies-under}
+use Rattle.files.specs.FileLaws.{segments-under, bodies-under}
 use Rattle.contracts.proofs.check.body_at.Statement.{statement}
 use Rattle.contracts.proofs.check.body_at.Tie as tie
 

@@ -5,9 +5,9 @@ use mathlib.Core.Bool.{true}
 use native.Mathlib.Omega.{arith}
 use borrow.Author.Needs.{needs}
 use denote.Ref.{now}
-use Rattle.contracts.specs.Below.{allBelow}
-use Rattle.contracts.specs.BelowLaws.{loop-ends, loop-stops, loop-goes-on}
-use Rattle.contracts.specs.File.{countAt}
+use Rattle.files.specs.Below.{allBelow}
+use Rattle.files.specs.BelowLaws.{loop-ends, loop-stops, loop-goes-on}
+use Rattle.files.specs.File.{countAt}
 use Rattle.contracts.specs.SoundTests.{keySound, bodySound}
 use Rattle.contracts.proofs.check.body_sound.Statement.{statement}
 use Rattle.contracts.proofs.check.body_sound.Tie as tie

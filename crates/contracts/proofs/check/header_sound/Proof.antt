@@ -5,7 +5,7 @@ use borrow.Author.Needs.{needs}
 use lib.Dec.{eqb}
 use lib.ListN.{length}
 use denote.Ref.{now}
-use Rattle.contracts.specs.File.{segmentsOf}
+use Rattle.files.specs.File.{segmentsOf}
 use Rattle.contracts.specs.Sound.{mostSegments}
 use Rattle.contracts.specs.SoundTests.{within, bodyAt, headerSoundBy}
 use Rattle.contracts.proofs.check.header_sound.Statement.{statement}

@@ -4,8 +4,8 @@ use mathlib.Core.Path.{_≡_, ap₂, sym, ap, _∙_}
 use native.Mathlib.Omega.{arith}
 use borrow.Author.Needs.{needs}
 use denote.Ref.{now}
-use Rattle.contracts.specs.File.{keyBy}
-use Rattle.contracts.specs.Keys.{orderOf}
+use Rattle.files.specs.File.{keyBy}
+use Rattle.files.specs.Keys.{orderOf}
 use Rattle.contracts.specs.SoundTests.{isBelow, keyAscends}
 use Rattle.contracts.proofs.check.key_ascends.Statement.{statement}
 use Rattle.contracts.proofs.check.key_ascends.Tie as tie

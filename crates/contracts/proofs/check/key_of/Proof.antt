@@ -4,7 +4,7 @@ use native.Mathlib.Omega.{arith}
 use borrow.Author.Needs.{needs}
 use lib.ListN.{getD}
 use denote.Ref.{now}
-use Rattle.contracts.specs.FileLaws.{count-under, offset-under}
+use Rattle.files.specs.FileLaws.{count-under, offset-under}
 use Rattle.contracts.proofs.check.key_of.Statement.{statement}
 use Rattle.contracts.proofs.check.key_of.Tie as tie
 

@@ -5,7 +5,7 @@ use native.Mathlib.Omega.{arith}
 use borrow.Author.Needs.{needs}
 use lib.Dec.{ltb}
 use denote.Ref.{now}
-use Rattle.contracts.specs.File.{letterAt}
+use Rattle.files.specs.File.{letterAt}
 use Rattle.contracts.specs.SoundTests.{letterAscends}
 use Rattle.contracts.proofs.check.letter_ascends.Statement.{statement}
 use Rattle.contracts.proofs.check.letter_ascends.Tie as tie

@@ -1,21 +1,16 @@
--- Each by what is held.
-use Prim.Native.Nat.{_-_}
+-- Each by what is held: an amount in some kind's range leaves room for the minus.
 use native.Mathlib.Omega.{arith}
-use borrow.Author.Tests.{lt-ltb, le-ltb}
 use borrow.Author.Needs.{needs}
 use Rattle.layout.specs.Cells.{minus}
+use Rattle.layout.specs.CellsLaws.{Small}
 use Rattle.layout.proofs.cells.cell_of.Statement.{statement}
 use Rattle.layout.proofs.cells.cell_of.Tie as tie
 
-returns : tie.Need-returns
-returns c = rw (c .before .before .held2 .given .1) (simp (lt-ltb _ (minus - 1) (c .if1 .taken)))
+add-result : tie.Need-add-result
+add-result c = omega (arith, rw (c .before .held2 .given .1) at (c .before .before .before .pre))
 
 returns-3 : tie.Need-returns-3
-returns-3 c = rw (c .before .before .held .given .1) (c .units-cell .ensures)
-
-returns-4 : tie.Need-returns-4
-returns-4 c = let n = c .before .before .held2 .given .0 .0 in rw (c .before .before .held2 .given .1) (simp (le-ltb n (minus - 1) (omega (arith, c .if1 .left))))
+returns-3 c = rw (c .before .held2 .given .1)
 
 pub cell-of-spec : {M : Type 1} → statement M
-cell-of-spec =
-    tie.close (tie.spec (search needs) (search needs) (λ c κs. search needs) (search needs) (search needs) (search needs) returns (λ c. search needs) returns-3 returns-4)
+cell-of-spec = tie.close (tie.spec (search needs) (search needs) (search needs) add-result (λ c. search needs) (λ c. search needs) returns-3)

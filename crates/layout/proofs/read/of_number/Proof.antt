@@ -19,5 +19,6 @@ returns-3 c = rw (c .before .before .number2 .given .1) (ap (λ (cell : ℕ). ro
 pub of-number-spec : {M : Type 1} → statement M
 of-number-spec =
     tie.close
-    (tie.spec (search needs) (λ c κs. search needs) (search needs) (λ c κs. search needs) (search needs) (λ c κs. search needs) (search needs) (search needs)
+    (tie.spec (search needs) (λ c κs. search needs) (search needs) (λ c κs. rw (c .before .number .given .1) at (c .before .before .before .pre)) (search needs)
+    (λ c κs. rw (c .before .number2 .given .1) at (c .before .before .before .pre)) (search needs) (search needs)
     returns returns-2 returns-3 (λ c. search needs) (λ c. search needs))

@@ -1,10 +1,23 @@
 -- Each kind of row goes to its own reader.
+use lib.Dec.{lit<}
 use Rattle.decimal.specs.Kinds.{price, quantity, turnover, difference}
 use Rattle.layout.specs.Read.{readRow}
-use Rattle.layout.specs.ReadLaws.{of-numbers}
+use Rattle.layout.specs.ReadLaws.{of-numbers, read-small}
 use borrow.Author.Needs.{needs}
 use Rattle.layout.proofs.read.read_row.Statement.{statement}
 use Rattle.layout.proofs.read.read_row.Tie as tie
+
+of-number-requires : tie.Need-of-number-requires
+of-number-requires c κs = read-small price (lit< tt) (c .before .before .before .before .args .field .now) (c .read .result) (c .read .ensures)
+
+of-number-requires-2 : tie.Need-of-number-requires-2
+of-number-requires-2 c κs = read-small quantity (lit< tt) (c .before .before .before .before .args .field .now) (c .read2 .result) (c .read2 .ensures)
+
+of-number-requires-3 : tie.Need-of-number-requires-3
+of-number-requires-3 c κs = read-small turnover (lit< tt) (c .before .before .before .before .args .field .now) (c .read3 .result) (c .read3 .ensures)
+
+of-number-requires-4 : tie.Need-of-number-requires-4
+of-number-requires-4 c κs = read-small difference (lit< tt) (c .before .before .before .before .args .field .now) (c .read4 .result) (c .read4 .ensures)
 
 returns : tie.Need-returns
 unfolding readRow
@@ -37,4 +50,4 @@ returns-7 c = rw (c .before .before .enum-told7 .given .1) (of-numbers differenc
 pub read-row-spec : {M : Type 1} → statement M
 read-row-spec =
     tie.close
-    (tie.spec (search needs) (search needs) (search needs) (search needs) (search needs) (search needs) (search needs) (search needs) (search needs) (search needs) (search needs) (search needs) (search needs) (search needs) (search needs) (search needs) (search needs) (search needs) (search needs) returns returns-2 returns-3 returns-4 returns-5 returns-6 returns-7)
+    (tie.spec (search needs) (search needs) (search needs) (search needs) (search needs) (search needs) (search needs) (search needs) (search needs) of-number-requires (search needs) (search needs) of-number-requires-2 (search needs) (search needs) of-number-requires-3 (search needs) (search needs) of-number-requires-4 returns returns-2 returns-3 returns-4 returns-5 returns-6 returns-7)

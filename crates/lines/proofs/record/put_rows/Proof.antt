@@ -1,7 +1,7 @@
 -- A record's rows stand behind those of the key, and there are no more than values.
 use borrow.Author.Needs.{needs}
 use native.Mathlib.Omega.{arith}
-use Rattle.state.specs.SlotsLaws.{rows-few}
+use Rattle.slots.specs.SlotsLaws.{rows-few}
 use Rattle.values.specs.ValuesLaws.{rows-room}
 use Rattle.lines.proofs.record.put_rows.Statement.{statement}
 use Rattle.lines.proofs.record.put_rows.Tie as tie

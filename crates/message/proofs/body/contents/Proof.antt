@@ -3,8 +3,8 @@ use Prim.Native.Nat.{ℕ}
 use mathlib.Core.List.{List}
 use mathlib.Core.Path.{_≡_, sym, _∙_}
 use Rattle.forms.specs.AnswersLaws.{subject-told}
-use Rattle.message.specs.Fields.{lengthOf, formIn}
-use Rattle.message.specs.HeadLaws.{framed-exact}
+use Rattle.head.specs.Fields.{lengthOf, formIn}
+use Rattle.head.specs.HeadLaws.{framed-exact}
 use Rattle.message.specs.MessageLaws.{heartbeat-reads, passed-over-reads, no-length-reads}
 use borrow.Author.Needs.{needs}
 use Rattle.message.proofs.body.contents.Statement.{statement}

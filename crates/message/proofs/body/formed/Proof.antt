@@ -1,9 +1,9 @@
 -- The rest of the head, and then the contents.
 use mathlib.Core.Path.{_≡_, refl, sym, _∙_}
-use Rattle.message.specs.declared.head.Head.{Head}
-use Rattle.message.specs.Head.{formRules}
-use Rattle.message.specs.NumbersLaws.{head-told}
-use Rattle.message.specs.Rules.{firstFault}
+use Rattle.head.specs.declared.head.Head.{Head}
+use Rattle.head.specs.Head.{formRules}
+use Rattle.head.specs.FaultsLaws.{head-told}
+use Rattle.head.specs.Rules.{firstFault}
 use borrow.Author.Needs.{needs}
 use Rattle.message.proofs.body.formed.Statement.{statement}
 use Rattle.message.proofs.body.formed.Tie as tie

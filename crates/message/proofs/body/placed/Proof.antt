@@ -3,9 +3,9 @@ use mathlib.Core.Path.{_≡_, refl, ap, sym, _∙_}
 use lib.ListN.{take}
 use Rattle.pairs.specs.Lists.{lists}
 use Rattle.laws.specs.Refused.{contractNo}
-use Rattle.contracts.specs.declared.lookup.Found.{Found}
-use Rattle.contracts.specs.Answers.{placeOf}
-use Rattle.contracts.specs.AnswersLaws.{found-told}
+use Rattle.lookup.specs.declared.lookup.Found.{Found}
+use Rattle.lookup.specs.Answers.{placeOf}
+use Rattle.lookup.specs.AnswersLaws.{found-told}
 use Rattle.forms.specs.AnswersLaws.{tells}
 use Rattle.forms.specs.Forms.{keyBytesOf}
 use Rattle.message.specs.Message.{placeThere}

@@ -5,14 +5,14 @@ use mathlib.Core.Bool.{true}
 use mathlib.Core.List.{List}
 use borrow.Author.Tests.{not-true, not-false}
 use Rattle.forms.specs.AnswersLaws.{named-told}
-use Rattle.contracts.specs.Answers.{placeOf}
+use Rattle.lookup.specs.Answers.{placeOf}
 use Rattle.pairs.specs.Lists.{Lists, lists}
-use Rattle.contracts.specs.Lookup.{segmentOf}
-use Rattle.message.specs.declared.head.Head.{Head}
-use Rattle.message.specs.Head.{frameRules}
-use Rattle.message.specs.NumbersLaws.{head-told}
-use Rattle.message.specs.Rules.{firstFault}
-use Rattle.message.specs.HeadLaws.{good-frame, bad-frame}
+use Rattle.lookup.specs.Lookup.{segmentOf}
+use Rattle.head.specs.declared.head.Head.{Head}
+use Rattle.head.specs.Head.{frameRules}
+use Rattle.head.specs.FaultsLaws.{head-told}
+use Rattle.head.specs.Rules.{firstFault}
+use Rattle.head.specs.HeadLaws.{good-frame, bad-frame}
 use Rattle.message.specs.Reads.{messageOf, cellsRead}
 use Rattle.message.specs.MessageLaws.{places-by-segment, bad-head}
 use borrow.Author.Needs.{needs}

@@ -9,12 +9,12 @@ use Rattle.pairs.specs.Lists.{lists}
 use Rattle.layout.specs.declared.read.Verdict.{Verdict}
 use Rattle.message.specs.declared.body.What.{What}
 use mathlib.Core.Option.{Option}
-use Rattle.contracts.specs.Answers.{placeOf}
+use Rattle.lookup.specs.Answers.{placeOf}
 use Rattle.forms.specs.declared.forms.Form.{Form}
 use Rattle.forms.specs.declared.forms.Item.{Item}
 use Rattle.forms.specs.Forms.{keyBytesOf}
 use Rattle.forms.specs.Sizes.{bareLength}
-use Rattle.message.specs.Fields.{lengthOf, numberOf, dataOf}
+use Rattle.head.specs.Fields.{lengthOf, numberOf, dataOf}
 use Rattle.message.specs.Message.{messageKey, placeThere, placesThere, ofPlace}
 use Rattle.message.specs.Reads.{rowsRead, ofVerdict, contentsBy, ReadsMessage}
 use Rattle.message.specs.MessageLaws.{update-reads}

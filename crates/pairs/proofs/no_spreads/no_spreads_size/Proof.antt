@@ -3,7 +3,7 @@ use Prim.Native.Nat.{_<_}
 use native.Mathlib.Omega.{arith}
 use borrow.Author.Needs.{needs}
 use denote.Ref.{now}
-use Rattle.contracts.specs.FileLaws.{segments-under}
+use Rattle.files.specs.FileLaws.{segments-under}
 use Rattle.pairs.proofs.no_spreads.no_spreads_size.Statement.{statement}
 use Rattle.pairs.proofs.no_spreads.no_spreads_size.Tie as tie
 

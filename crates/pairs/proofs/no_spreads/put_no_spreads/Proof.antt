@@ -9,8 +9,8 @@ use lib.ListN.{length}
 use lib.Seq.{sets, length-sets}
 use denote.Ref.{now}
 use Rattle.wire.specs.Number.{bytesOf}
-use Rattle.contracts.specs.File.{segmentsOf}
-use Rattle.contracts.specs.FileLaws.{segments-under}
+use Rattle.files.specs.File.{segmentsOf}
+use Rattle.files.specs.FileLaws.{segments-under}
 use Rattle.pairs.specs.NoSpreads.{emptyEntries, noSpreads}
 use Rattle.pairs.specs.NoSpreadsLaws.{entries-next}
 use Rattle.pairs.proofs.no_spreads.put_no_spreads.Statement.{statement}

@@ -3,8 +3,8 @@ use mathlib.Core.Path.{ap, _∙_}
 use borrow.Author.Needs.{needs}
 use denote.Ref.{now}
 use Rattle.laws.specs.Refused.{contractNo}
-use Rattle.contracts.specs.AnswersLaws.{found-told}
-use Rattle.contracts.specs.Lookup.{placeIn}
+use Rattle.lookup.specs.AnswersLaws.{found-told}
+use Rattle.lookup.specs.Lookup.{placeIn}
 use Rattle.pairs.specs.SpreadTests.{isFound}
 use Rattle.pairs.proofs.spreads.half_listed.Statement.{statement}
 use Rattle.pairs.proofs.spreads.half_listed.Tie as tie

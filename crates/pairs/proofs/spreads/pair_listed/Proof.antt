@@ -9,7 +9,7 @@ use lib.ListN.{length, take, drop, length-drop}
 use lib.Seq.{take-all, length-take-le}
 use denote.Ref.{now}
 use Rattle.laws.specs.Lists.{take-min, drop-min}
-use Rattle.contracts.specs.Lookup.{placeIn}
+use Rattle.lookup.specs.Lookup.{placeIn}
 use Rattle.pairs.specs.Spreads.{pairAt, firstHalf, secondHalf}
 use Rattle.pairs.specs.SpreadTests.{isFound}
 use Rattle.pairs.proofs.spreads.pair_listed.Statement.{statement}

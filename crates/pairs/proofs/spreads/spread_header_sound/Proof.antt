@@ -7,7 +7,7 @@ use mathlib.Core.List.{List}
 use borrow.Author.Needs.{needs}
 use lib.Dec.{eqb}
 use denote.Ref.{now}
-use Rattle.contracts.specs.File.{segmentsOf}
+use Rattle.files.specs.File.{segmentsOf}
 use Rattle.pairs.specs.Habits.{pairs}
 use Rattle.contracts.specs.SoundTests.{headerSoundBy}
 use Rattle.pairs.specs.SpreadTests.{spreadHeaderSound}

@@ -5,7 +5,7 @@ use Rattle.quote.proofs.quote.put_own.Tie as tie
 
 returns : tie.Need-returns
 returns c =
-    rw (c .put-cell3 .ensures, c .before .before .turnover-cell .ensures, c .before .before .before .put-two .ensures, c .before .before .before .before .before .price-cell2 .ensures, c .before .before .before .before .before .before .price-cell .ensures, c .before .before .before .before .before .before .before .put-cell2 .ensures, c .before .before .before .before .before .before .before .before .before .before .put-cell .ensures)
+    rw (c .put-value3 .ensures, c .before .before .turnover-value .ensures, c .before .before .before .put-two .ensures, c .before .before .before .before .before .price-value2 .ensures, c .before .before .before .before .before .before .price-value .ensures, c .before .before .before .before .before .before .before .put-value2 .ensures, c .before .before .before .before .before .before .before .before .before .before .put-value .ensures)
 
 pub put-own-spec : {M : Type 1} → statement M
 put-own-spec =

@@ -11,7 +11,7 @@ returns c =
     let row : ℕ = c .before .before .before .before .before .before .args .row in
     let one : row + 1 ≡ suc row = omega arith in
     let two : row + 2 ≡ suc (suc row) = omega arith in
-    rw (c .put-cell3 .ensures, c .before .before .put-cell2 .ensures, c .before .before .before .before .put-cell .ensures, one, two)
+    rw (c .put-value3 .ensures, c .before .before .put-value2 .ensures, c .before .before .before .before .put-value .ensures, one, two)
 
 pub put-three-spec : {M : Type 1} → statement M
 put-three-spec =

@@ -10,7 +10,7 @@ returns : tie.Need-returns
 returns c =
     let row : ℕ = c .before .before .before .before .args .row in
     let one : row + 1 ≡ suc row = omega arith in
-    rw (c .put-cell2 .ensures, c .before .before .put-cell .ensures, one)
+    rw (c .put-value2 .ensures, c .before .before .put-value .ensures, one)
 
 pub put-two-spec : {M : Type 1} → statement M
 put-two-spec =

@@ -4,7 +4,7 @@ use mathlib.Core.Bool.{true}
 use borrow.Author.Needs.{needs}
 use borrow.Author.Tests.{not-true, not-false}
 use Rattle.pairs.specs.Lists.{lists}
-use Rattle.contracts.specs.File.{segmentsOf}
+use Rattle.files.specs.File.{segmentsOf}
 use Rattle.pairs.specs.SpreadTests.{spreadsSound}
 use Rattle.contracts.specs.SoundTests.{sound}
 use Rattle.state.specs.Answers.{checkedBy}

@@ -6,8 +6,8 @@ use native.Mathlib.Omega.{arith}
 use borrow.Author.Needs.{needs}
 use borrow.Author.Tests.{lt-ltb}
 use lib.Dec.{ltb}
-use Rattle.contracts.specs.Below.{allBelow}
-use Rattle.contracts.specs.BelowLaws.{pass-on, one-fails}
+use Rattle.files.specs.Below.{allBelow}
+use Rattle.files.specs.BelowLaws.{pass-on, one-fails}
 use Rattle.quotebox.specs.Start.{startOf, eachStarts}
 use Rattle.quotebox.proofs.starting.each_starts.Statement.{statement}
 use Rattle.quotebox.proofs.starting.each_starts.Tie as tie

@@ -9,7 +9,7 @@ use denote.Enum.Declared.{tagOf}
 use lib.Dec.{eqb}
 use lib.ListN.{getD}
 use types.Run.{OneOf, miss}
-use Rattle.contracts.specs.FileLaws.{segments-under}
+use Rattle.files.specs.FileLaws.{segments-under}
 use Rattle.state.specs.declared.refusal.Refusal.{Refusal}
 use Rattle.state.specs.declared.refusal.Refusal.the-variants.{Size, Packed, Flag, Count, Frame, Code, Trailer, Length, Checksum, Numbering, Field, Range, Contract, Gaps, Memory, List as ListOf, NoGap, State}
 use Rattle.state.specs.Refusals.{refusalNumbers}

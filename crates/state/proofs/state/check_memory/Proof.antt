@@ -5,10 +5,10 @@ use borrow.Author.Needs.{needs}
 use borrow.Author.Tests.{le-leb, lt-leb}
 use lib.ListN.{getD}
 use Rattle.pairs.specs.Lists.{lists}
-use Rattle.contracts.specs.File.{segmentsOf}
-use Rattle.contracts.specs.FileLaws.{segments-under, before-under}
+use Rattle.files.specs.File.{segmentsOf}
+use Rattle.files.specs.FileLaws.{segments-under, before-under}
 use Rattle.state.specs.Memory.{gapRowsWanted}
-use Rattle.state.specs.Slots.{recordsWanted}
+use Rattle.slots.specs.Slots.{recordsWanted}
 use Rattle.state.proofs.state.check_memory.Statement.{statement}
 use Rattle.state.proofs.state.check_memory.Tie as tie
 

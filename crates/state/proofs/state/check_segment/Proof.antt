@@ -6,9 +6,9 @@ use Rattle.state.specs.Memory.{lends}
 use borrow.Author.Needs.{needs}
 use Rattle.laws.specs.Refused.{codeNo}
 use Rattle.laws.specs.Rules.{firstBroken}
-use Rattle.contracts.specs.Answers.{placeOf}
-use Rattle.contracts.specs.AnswersLaws.{found-told}
-use Rattle.contracts.specs.Lookup.{segmentOf}
+use Rattle.lookup.specs.Answers.{placeOf}
+use Rattle.lookup.specs.AnswersLaws.{found-told}
+use Rattle.lookup.specs.Lookup.{segmentOf}
 use Rattle.state.specs.AnswersLaws.{checkedRefusal, checked-told}
 use Rattle.state.specs.State.{stateRules}
 use Rattle.state.specs.StateLaws.{state-broken, letter-broken, segment-holds, asks-segment, asks-refused}

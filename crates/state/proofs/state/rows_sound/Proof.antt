@@ -5,7 +5,7 @@ use mathlib.Core.Bool.{true}
 use native.Mathlib.Omega.{arith}
 use borrow.Author.Needs.{needs}
 use borrow.Author.Tests.{not-true, not-false}
-use Rattle.contracts.specs.BelowLaws.{pass-on, one-fails}
+use Rattle.files.specs.BelowLaws.{pass-on, one-fails}
 use Rattle.sequence.specs.RowLaid.{soundGapRow}
 use Rattle.state.specs.Memory.{gapRowCells, gapRowOf}
 use Rattle.state.specs.MemoryRows.{gapRowsSound}

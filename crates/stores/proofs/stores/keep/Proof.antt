@@ -10,8 +10,8 @@ use lib.Seq.{sets}
 use Rattle.laws.specs.Lists.{middle}
 use Rattle.forms.specs.Forms.{rowsOf, recordForm}
 use Rattle.forms.specs.FormsLaws.{fits}
-use Rattle.state.specs.Places.{recordOf}
-use Rattle.state.specs.SlotsLaws.{record-long, rows-kept, rows-few}
+use Rattle.slots.specs.Places.{recordOf}
+use Rattle.slots.specs.SlotsLaws.{record-long, rows-kept, rows-few}
 use Rattle.stores.specs.StoresLaws.{store-laid}
 use borrow.Author.Needs.{needs}
 use Rattle.stores.proofs.stores.keep.Statement.{statement}

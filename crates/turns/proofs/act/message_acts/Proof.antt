@@ -18,7 +18,7 @@ use Rattle.turns.specs.declared.act.Act.the-variants.{Taken, Old, Heartb
 use Rattle.turns.specs.Acts.{changedBy}
 use Rattle.turns.specs.ActsLaws.{heartbeat-acts, numbered, bad-acts}
 use Rattle.turns.specs.Turns.{Box, updated}
-use Rattle.contracts.specs.Lookup.{segmentOf}
+use Rattle.lookup.specs.Lookup.{segmentOf}
 use Rattle.stores.specs.StoresLaws.{none-kept}
 use Rattle.turns.specs.UpdateLaws.{fronts-near, place-few, update-kept}
 use Rattle.stores.specs.Stores.{Near}

@@ -2,7 +2,7 @@
 use mathlib.Core.Path.{sym, _∙_}
 use Rattle.forms.specs.declared.forms.Item.the-variants.{Contract}
 use Rattle.forms.specs.AnswersLaws.{chosen-told}
-use Rattle.quote.specs.Quote.{cellsOf}
+use Rattle.quote.specs.Quote.{valuesOf}
 use Rattle.writer.specs.WriterLaws.{form-chosen, none-chosen}
 use borrow.Author.Needs.{needs}
 use Rattle.writer.proofs.writing.write_message.Statement.{statement}
@@ -11,16 +11,16 @@ use Rattle.writer.proofs.writing.write_message.Tie as tie
 returns : tie.Need-returns
 returns c =
     let w = c .before .before in
-    let cells = w .before .before .before .before in
-    let f = cells .before .before in
+    let values = w .before .before .before .before in
+    let f = values .before .before in
     let a = f .before .before .before .before .args in
-    form-chosen Contract (a .code) (a .level) (a .number) (a .key .now) (λ form. cellsOf form (a .quote)) (a .out .now)
-    (sym (chosen-told (f .before .before .written-form .ensures)) ∙ f .form .given .1) (cells .cells-of .ensures) (w .write-form .ensures)
+    form-chosen Contract (a .code) (a .level) (a .number) (a .key .now) (λ form. valuesOf form (a .quote)) (a .out .now)
+    (sym (chosen-told (f .before .before .written-form .ensures)) ∙ f .form .given .1) (values .values-of .ensures) (w .write-form .ensures)
 
 returns-2 : tie.Need-returns-2
 returns-2 c =
     let a = c .before .before .before .before .args in
-    none-chosen Contract (a .code) (a .level) (a .number) (a .key .now) (λ form. cellsOf form (a .quote)) (a .out .now)
+    none-chosen Contract (a .code) (a .level) (a .number) (a .key .now) (λ form. valuesOf form (a .quote)) (a .out .now)
     (sym (chosen-told (c .before .before .written-form .ensures)) ∙ c .enum-told .given .1)
 
 pub write-message-spec : {M : Type 1} → statement M

@@ -1,0 +1,5 @@
+pub mod PaperCases
+pub mod Example
+pub mod MessageCases
+pub mod ListCases
+pub mod SpreadCases

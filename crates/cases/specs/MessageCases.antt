@@ -1,0 +1,131 @@
+-- Messages and what is answered: 01 "Cases", P5's message, and one for each rule that the others leave standing.
+use Prim.Native.Nat.{ℕ}
+use Prim.Native.String.{String}
+use mathlib.Core.Path.{_≡_, refl}
+use mathlib.Core.List.{List, [], _∷_, _++_, map}
+use lib.ListN.{replicate}
+use Rattle.laws.specs.Texts.{codes}
+use Rattle.wire.specs.Checksum.{bitStep, byteStep}
+use Rattle.scan.specs.Read.{readAs, step, walk}
+use Rattle.files.specs.File.{segmentsOf, letterAt, countAt, offsetAt, keyFrom}
+use Rattle.lookup.specs.Halving.{halvedIn}
+use Rattle.pairs.specs.Lists.{lists}
+use Rattle.lookup.specs.Lookup.{segmentOf, lookup}
+use Rattle.layout.specs.Read.{readRow}
+use Rattle.forms.specs.Sizes.{keyBytes, pairBytes}
+use Rattle.forms.specs.Forms.{namedRows, rowsOf, formsOf, formOf, sumRule}
+use Rattle.head.specs.Fields.{letterOf, secondOf, lengthOf, numberOf, dataOf, sumSent, endByte, formIn, sumIn, rightSum}
+use Rattle.head.specs.Rules.{headOf}
+use Rattle.head.specs.Tests.{framed, coded, trailed, summed}
+use Rattle.message.specs.Message.{messageKey, keyPlace}
+use Rattle.message.specs.Reads.{contentsBy, messageOf}
+use Rattle.message.specs.Numbers.{whatNumbers}
+
+-- 01 "The contract list": one contract, whose key is one byte throughout, makes 49 bytes with offset 10
+abbrev pub listOf : ℕ → List ℕ
+listOf letter = 0 ∷ 1 ∷ letter ∷ 0 ∷ 0 ∷ 1 ∷ 0 ∷ 0 ∷ 0 ∷ 10 ∷ replicate keyBytes 65
+
+-- 01 "The contract list": the letter D
+abbrev pub D : ℕ
+D = 0x44
+
+-- 01 "The contract list": the letter T
+abbrev pub T : ℕ
+T = 0x54
+
+-- 01 "Cases": a letter that is listed, the letter of the first message, and the bytes left
+pub record Given : Type 0 where
+  pub listed : ℕ
+  pub first : ℕ
+  pub bytes : List ℕ
+
+-- 01 "Cases": what is given, by its parts
+abbrev pub given : ℕ → ℕ → List ℕ → Given
+given listed first bytes = record { listed = listed; first = first; bytes = bytes }
+
+-- 01 "The message": a D message of 11 bytes: its second byte, its number, its sum and its end byte
+abbrev pub short : ℕ → ℕ → List ℕ → ℕ → List ℕ
+short second number sum end = D ∷ second ∷ 0 ∷ 11 ∷ 0 ∷ 0 ∷ 0 ∷ number ∷ sum ++ (end ∷ [])
+
+-- 01 "The message": an update with number 7: its length (2 bytes), a key of one byte throughout, its market type, blank rows
+-- and its sum
+abbrev pub update : List ℕ → ℕ → ℕ → ℕ → List ℕ → List ℕ
+update long byte market blank sum =
+    D ∷ 0x4E ∷ long ++ (0 ∷ 0 ∷ 0 ∷ 7 ∷ replicate keyBytes byte) ++ (market ∷ replicate blank 32) ++ sum ++ (13 ∷ [])
+
+-- 01, the table of refusals: what is answered in the paper's numbers, and the length
+abbrev pub answered : Given → List ℕ
+answered g =
+    let m = messageOf (lists (listOf (g .listed)) []) (g .first) (g .bytes) in
+    whatNumbers (m .what) ++ (m .length ∷ [])
+
+-- 01, the table's rows 5 to 13: messages that break one each, and good ones
+abbrev pub messages : List Given
+messages =
+    -- P5, and the same where only T is listed, and in a batch that begins with T
+    given D D (short 0x48 0 (0 ∷ 0 ∷ []) 13) ∷ given T D (short 0x48 0 (0 ∷ 0 ∷ []) 13) ∷ given T T (short 0x48 0 (0 ∷ 0 ∷ []) 13) ∷
+    -- 7 bytes left; a length of 10; a length over what is left; more bytes behind the message
+    given D D (D ∷ 0x48 ∷ 0 ∷ 11 ∷ 0 ∷ 0 ∷ 0 ∷ []) ∷ given D D (D ∷ 0x48 ∷ 0 ∷ 10 ∷ 0 ∷ 0 ∷ 0 ∷ 0 ∷ 0 ∷ 0 ∷ 13 ∷ []) ∷
+    given D D (D ∷ 0x48 ∷ 0 ∷ 12 ∷ 0 ∷ 0 ∷ 0 ∷ 0 ∷ 0 ∷ 0 ∷ 13 ∷ []) ∷ given D D (short 0x48 0 (0 ∷ 0 ∷ []) 13 ++ (D ∷ [])) ∷
+    -- a second byte h; an end byte 12; a heartbeat of 12 bytes; one with its right sum; one with number 1
+    given D D (short 0x68 0 (0 ∷ 0 ∷ []) 13) ∷ given D D (short 0x48 0 (0 ∷ 0 ∷ []) 12) ∷
+    given D D (D ∷ 0x48 ∷ 0 ∷ 12 ∷ 0 ∷ 0 ∷ 0 ∷ 0 ∷ 0 ∷ 0 ∷ 0 ∷ 13 ∷ []) ∷ given D D (short 0x48 0 (3 ∷ 91 ∷ []) 13) ∷
+    given D D (short 0x48 1 (0 ∷ 0 ∷ []) 13) ∷
+    -- passed over: with sum zero, right, high byte first; with number 0
+    given D D (short 0x45 1 (0 ∷ 0 ∷ []) 13) ∷ given D D (short 0x45 1 (40 ∷ 161 ∷ []) 13) ∷
+    given D D (short 0x45 1 (161 ∷ 40 ∷ []) 13) ∷ given D D (short 0x45 0 (0 ∷ 0 ∷ []) 13) ∷
+    -- an update of level 1, and of level 2; of 248 bytes; with sum zero
+    given D D (update (0 ∷ 249 ∷ []) 65 0x4E 198 (91 ∷ 132 ∷ [])) ∷ given D D (update (1 ∷ 249 ∷ []) 65 0x4E 454 (102 ∷ 187 ∷ [])) ∷
+    given D D (update (0 ∷ 248 ∷ []) 65 0x4E 197 (0 ∷ 0 ∷ [])) ∷ given D D (update (0 ∷ 249 ∷ []) 65 0x4E 198 (0 ∷ 0 ∷ [])) ∷
+    -- its key not listed; and its market type O too
+    given D D (update (0 ∷ 249 ∷ []) 66 0x4E 198 (97 ∷ 150 ∷ [])) ∷ given D D (update (0 ∷ 249 ∷ []) 66 0x4F 198 (205 ∷ 88 ∷ [])) ∷
+    []
+
+-- 01, the table of refusals: what is answered to each, and its length
+abbrev pub answers : List (List ℕ)
+answers =
+    (0 ∷ 11 ∷ []) ∷ (6 ∷ 11 ∷ []) ∷ (6 ∷ 11 ∷ []) ∷
+    (5 ∷ 11 ∷ []) ∷ (5 ∷ 10 ∷ []) ∷ (5 ∷ 12 ∷ []) ∷ (0 ∷ 11 ∷ []) ∷
+    (6 ∷ 11 ∷ []) ∷ (7 ∷ 11 ∷ []) ∷ (8 ∷ 12 ∷ []) ∷ (9 ∷ 11 ∷ []) ∷ (10 ∷ 11 ∷ []) ∷
+    (0 ∷ 1 ∷ 11 ∷ []) ∷ (0 ∷ 1 ∷ 11 ∷ []) ∷ (9 ∷ 11 ∷ []) ∷ (10 ∷ 11 ∷ []) ∷
+    (0 ∷ 7 ∷ 1 ∷ 0 ∷ 249 ∷ []) ∷ (0 ∷ 7 ∷ 2 ∷ 0 ∷ 505 ∷ []) ∷ (8 ∷ 248 ∷ []) ∷ (9 ∷ 249 ∷ []) ∷
+    (13 ∷ 249 ∷ []) ∷ (11 ∷ 5 ∷ 249 ∷ []) ∷
+    []
+
+pub messages-answered : map answered messages ≡ answers
+unfolding bitStep byteStep step walk readAs segmentsOf letterAt countAt offsetAt keyFrom halvedIn segmentOf lookup readRow namedRows rowsOf formsOf formOf sumRule letterOf secondOf lengthOf numberOf dataOf sumSent endByte formIn sumIn rightSum framed coded trailed summed headOf messageKey keyPlace contentsBy messageOf
+messages-answered = refl
+
+-- ---- pairs
+
+-- M-100: one pair, of one contract with itself
+abbrev pub pairList : List ℕ
+pairList = 0 ∷ 1 ∷ D ∷ 0 ∷ 0 ∷ 1 ∷ 0 ∷ 0 ∷ 0 ∷ 10 ∷ replicate pairBytes 65
+
+-- M-100: a pair's update with number 7: its length (2 bytes), the second half of its key, of one byte throughout as the first is, the
+-- text with which its prices begin, blank rows and its sum
+abbrev pub pairUpdate : List ℕ → ℕ → String → ℕ → List ℕ → List ℕ
+pairUpdate long byte text blank sum =
+    D ∷ 0x50 ∷ long ++ (0 ∷ 0 ∷ 0 ∷ 7 ∷ replicate keyBytes 65) ++ replicate keyBytes byte ++ codes text ++ replicate blank 32 ++ sum ++ (13 ∷ [])
+
+-- M-100: one of each level; 249 bytes long; with sum zero; a minus before the first digit, with a space behind it, and before a number
+-- that is too large; a pair that is not listed, though both halves might be; and a minus in a contract's price
+abbrev pub pairMessages : List (List ℕ)
+pairMessages =
+    pairUpdate (0 ∷ 227 ∷ []) 65 "" 138 (90 ∷ 89 ∷ []) ∷ pairUpdate (1 ∷ 227 ∷ []) 65 "" 394 (207 ∷ 22 ∷ []) ∷
+    pairUpdate (0 ∷ 249 ∷ []) 65 "" 160 (0 ∷ 0 ∷ []) ∷ pairUpdate (0 ∷ 227 ∷ []) 65 "" 138 (0 ∷ 0 ∷ []) ∷
+    pairUpdate (0 ∷ 227 ∷ []) 65 "               -5" 121 (140 ∷ 148 ∷ []) ∷
+    pairUpdate (0 ∷ 227 ∷ []) 65 "              - 5" 121 (70 ∷ 205 ∷ []) ∷
+    pairUpdate (0 ∷ 227 ∷ []) 65 "    -100000000000" 121 (165 ∷ 231 ∷ []) ∷
+    pairUpdate (0 ∷ 227 ∷ []) 66 "" 138 (60 ∷ 6 ∷ []) ∷
+    (D ∷ 0x4E ∷ 0 ∷ 249 ∷ 0 ∷ 0 ∷ 0 ∷ 7 ∷ replicate keyBytes 65 ++ (0x4E ∷ codes "               -5") ++ replicate 181 32 ++ (114 ∷ 110 ∷ 13 ∷ [])) ∷
+    []
+
+-- M-100, the table of refusals: what is answered to each
+abbrev pub pairAnswers : List (List ℕ)
+pairAnswers =
+    (0 ∷ 7 ∷ 1 ∷ 0 ∷ []) ∷ (0 ∷ 7 ∷ 2 ∷ 0 ∷ []) ∷ (8 ∷ []) ∷ (9 ∷ []) ∷ (0 ∷ 7 ∷ 1 ∷ 0 ∷ []) ∷ (11 ∷ 10 ∷ []) ∷ (12 ∷ 10 ∷ []) ∷ (13 ∷ []) ∷ (11 ∷ 6 ∷ []) ∷ []
+
+pub pairs-answered : map (λ bytes. whatNumbers (messageOf (lists (listOf D) pairList) D bytes .what)) pairMessages ≡ pairAnswers
+unfolding bitStep byteStep step walk readAs segmentsOf letterAt countAt offsetAt keyFrom halvedIn segmentOf lookup readRow namedRows rowsOf formsOf formOf sumRule letterOf secondOf lengthOf numberOf dataOf sumSent endByte formIn sumIn rightSum framed coded trailed summed headOf messageKey keyPlace contentsBy messageOf
+pairs-answered = refl

@@ -1,0 +1,10 @@
+pub mod Habits
+pub mod File
+pub mod FileLaws
+pub mod Below
+pub mod BelowLaws
+pub mod Keys
+pub mod KeysLaws
+pub mod Records
+pub mod RecordsLaws
+pub mod Inner

@@ -1,0 +1,9 @@
+pub mod Fields
+pub mod Tests
+pub mod Head
+pub mod Rules
+pub mod RulesLaws
+pub mod HeadLaws
+pub mod GoodHead
+pub mod Faults
+pub mod FaultsLaws

@@ -1,0 +1,5 @@
+pub mod ReadRules
+pub mod Record
+pub mod RecordLaws
+pub mod Reads
+pub mod ReadsLaws

@@ -26,9 +26,9 @@ use Rattle.batch.specs.Batch.{flagOf, sizeOf, countOf}
 use Rattle.batch.specs.Acts.{batchActs}
 use Rattle.state.specs.Memory.{lends, Lent}
 use Rattle.state.specs.declared.answers.Listed.{Listed}
-use Rattle.quotebox.specs.CallPromises.{ListedRuns}
-use Rattle.quotebox.specs.Start.{eachStarts, startRules}
-use Rattle.quotebox.specs.StartActs.{rowsStarted, recordsCleared}
+use Rattle.listing.specs.ListPromises.{ListedRuns}
+use Rattle.starting.specs.Start.{eachStarts, startRules}
+use Rattle.starting.specs.StartActs.{rowsStarted, recordsCleared}
 use Rattle.history.specs.Past.{highestIn, missingIn, runsStanding}
 use Rattle.history.specs.Calls.{start, take}
 use Rattle.history.specs.Step.{answerNumbers}

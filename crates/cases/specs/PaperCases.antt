@@ -38,11 +38,11 @@ use Rattle.turns.specs.Turns.{messageActs, messagesAct}
 use Rattle.batch.specs.Batch.{flagOf, sizeOf, countOf}
 use Rattle.batch.specs.Acts.{batchActs}
 use Rattle.state.specs.Memory.{Lent, lends}
-use Rattle.quotebox.specs.Calls.{runsPut, lentWrittenOff}
-use Rattle.quotebox.specs.CallRules.{gapsOfLetter, listRules, writeOffRules}
+use Rattle.listing.specs.ListActs.{runsPut, lentWrittenOff}
+use Rattle.listing.specs.ListRules.{gapsOfLetter, listRules, writeOffRules}
 use Rattle.reading.specs.ReadRules.{recordRules}
-use Rattle.quotebox.specs.Start.{eachStarts, startRules}
-use Rattle.quotebox.specs.StartActs.{rowsStarted, recordsCleared}
+use Rattle.starting.specs.Start.{eachStarts, startRules}
+use Rattle.starting.specs.StartActs.{rowsStarted, recordsCleared}
 use Rattle.state.specs.State.{segmentRules}
 use Rattle.writer.specs.Writer.{dataWritten, lengthWritten, writeRules, messageBytes}
 use Rattle.history.specs.Past.{Event, isTaken, highestIn, missingIn, runsStanding}

@@ -9,7 +9,9 @@ use Rattle.forms.specs.declared.forms.Item.the-variants.{Contract, Pair}
 use Rattle.quote.specs.Quote.{valuesOf}
 use Rattle.spread.specs.Spread.{spreadValuesOf}
 use Rattle.state.specs.Memory.{Lent, lends}
-use Rattle.quotebox.specs.CallPromisesLaws.{one-started, one-listed, one-written-off, one-read, one-no-spreads}
+use Rattle.starting.specs.StartPromisesLaws.{one-started, one-no-spreads}
+use Rattle.listing.specs.ListPromisesLaws.{one-listed, one-written-off}
+use Rattle.reading.specs.ReadsLaws.{one-read}
 use Rattle.batch.specs.TookLaws.{one-judged, one-took}
 use Rattle.writer.specs.WriterPromisesLaws.{one-written}
 use Rattle.history.specs.Calls as calls

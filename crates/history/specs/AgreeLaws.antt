@@ -28,21 +28,21 @@ use Rattle.state.specs.Memory.{Lent, lends, gapRowIn}
 use Rattle.slots.specs.Slots.{Slot, slot as recordSlot}
 use Rattle.slots.specs.Places.{formFor}
 use Rattle.state.specs.AnswersLaws.{listed-told}
-use Rattle.quotebox.specs.CallPromises.{ListedRuns}
-use Rattle.quotebox.specs.CallPromisesLaws.{one-read}
+use Rattle.listing.specs.ListPromises.{ListedRuns}
+use Rattle.reading.specs.ReadsLaws.{one-read}
 use Rattle.reading.specs.ReadsLaws.{record-refused}
-use Rattle.quotebox.specs.Calls.{listValues, runsPut}
-use Rattle.quotebox.specs.CallRules.{gapsOfLetter, listRules}
+use Rattle.listing.specs.ListActs.{listValues, runsPut}
+use Rattle.listing.specs.ListRules.{gapsOfLetter, listRules}
 use Rattle.reading.specs.ReadRules.{recordRules}
 use Rattle.state.specs.Answers.{leftBy, answered}
 use Rattle.state.specs.Refusals.{Rule}
 use Rattle.reading.specs.RecordLaws.{segment-broken, key-broken}
-use Rattle.quotebox.specs.Start.{startOf}
+use Rattle.starting.specs.Start.{startOf}
 use Rattle.state.specs.State.{segmentRules}
 use Rattle.state.specs.StateLaws.{good-unrefused, letter-broken}
 use Rattle.history.specs.Past.{Event, wroteOffIn, takenOf}
 use Rattle.history.specs.Segment.{Fits}
-use Rattle.history.specs.Shown.{QuoteFor, shown, blankFor, ReadsItem}
+use Rattle.reading.specs.Shown.{QuoteFor, shown, blankFor, ReadsItem}
 use Rattle.history.specs.Updates.{itemIn}
 use Rattle.history.specs.Histories.{Reached}
 use Rattle.history.specs.HoldsLaws.{reached-holds}

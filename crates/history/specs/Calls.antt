@@ -14,7 +14,7 @@ use Rattle.state.specs.declared.answers.Recorded.{Recorded}
 use Rattle.state.specs.declared.answers.Written.{Written}
 use Rattle.state.specs.Memory.{Lent, lends}
 use Rattle.writer.specs.declared.writing.Code.{Code}
-use Rattle.history.specs.Shown.{QuoteFor}
+use Rattle.reading.specs.Shown.{QuoteFor}
 
 -- 01 "What may be asked", M-100: start with lists and start numbers; judge a batch; take one; list a letter's gaps with cells lent;
 -- write off of a letter; the record of a letter's key at a level, of a contract or of a pair; write a message: code, level, number,

@@ -38,13 +38,16 @@ use Rattle.writer.specs.Writer.{lengthWritten}
 use Rattle.writer.specs.Chosen.{formWritten}
 use Rattle.writer.specs.WriterPromises.{WroteValues, WroteMessage, WroteSpread}
 use Rattle.writer.specs.WriterPromisesLaws.{one-written}
-use Rattle.quotebox.specs.StartActs.{lentStarted}
-use Rattle.quotebox.specs.Calls.{listValues, runsPut, runValues, lowestRun, lentWrittenOff}
-use Rattle.quotebox.specs.CallRules.{gapsOfLetter}
-use Rattle.quotebox.specs.CallPromises.{StartedBox, ListedRuns, WroteOffRun, PutNoSpreads}
-use Rattle.quotebox.specs.CallPromisesLaws.{one-started, one-listed, one-written-off, one-read, one-no-spreads}
+use Rattle.starting.specs.StartActs.{lentStarted}
+use Rattle.listing.specs.ListActs.{listValues, runsPut, runValues, lowestRun, lentWrittenOff}
+use Rattle.listing.specs.ListRules.{gapsOfLetter}
+use Rattle.starting.specs.StartPromises.{StartedBox, PutNoSpreads}
+use Rattle.listing.specs.ListPromises.{ListedRuns, WroteOffRun}
+use Rattle.starting.specs.StartPromisesLaws.{one-started, one-no-spreads}
+use Rattle.listing.specs.ListPromisesLaws.{one-listed, one-written-off}
+use Rattle.reading.specs.ReadsLaws.{one-read}
 use Rattle.reading.specs.Record.{recordNumber, recordOfKey, recordValues}
-use Rattle.history.specs.Shown.{QuoteFor, ReadsItem}
+use Rattle.reading.specs.Shown.{QuoteFor, ReadsItem}
 use Rattle.history.specs.Calls as calls
 use Rattle.history.specs.Calls.{Answer, started, judged, took, listed, wroteOff, read, wrote, start, judge, take, listGaps, writeOff, readRecord, writeMessage, writeSpread, withLists}
 use Rattle.history.specs.Step.{startRefusal, startAnswer, batchAnswer, listRefusal, listAnswer, offRefusal, removed, offAnswer, readRefusal, recordAnswer, readAnswer, readQuote, writeRefusal, writeAnswer, writeLeaves, written, noSpreadsRefusal, step}

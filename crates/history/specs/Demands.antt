@@ -24,14 +24,15 @@ use Rattle.state.specs.declared.answers.Recorded.{Recorded}
 use Rattle.state.specs.declared.answers.Written.{Written}
 use Rattle.writer.specs.declared.writing.Code.{Code}
 use Rattle.batch.specs.Promises.{JudgedBatch, TookBatch}
-use Rattle.quotebox.specs.CallPromises.{StartedBox, ListedRuns, WroteOffRun, PutNoSpreads}
+use Rattle.starting.specs.StartPromises.{StartedBox, PutNoSpreads}
+use Rattle.listing.specs.ListPromises.{ListedRuns, WroteOffRun}
 use Rattle.writer.specs.WriterPromises.{WroteValues}
-use Rattle.quotebox.specs.Start.{startOf}
+use Rattle.starting.specs.Start.{startOf}
 use Rattle.state.specs.GoodState.{GoodState}
 use Rattle.state.specs.Memory.{Lent}
 use Rattle.slots.specs.Slots.{Slot, SlotListed}
 use Rattle.history.specs.Past.{Event, afterWriteOff, wroteOffIn, takenOf, highestIn, missingIn, runsStanding, takenFor}
-use Rattle.history.specs.Shown.{QuoteFor, ReadsItem}
+use Rattle.reading.specs.Shown.{QuoteFor, ReadsItem}
 use Rattle.history.specs.Updates.{itemIn, letterIn, keyIn, levelIn}
 use Rattle.history.specs.Exactly.{NamesMissing, ReadsNewest, CountsCame, OverInBatch}
 use Rattle.history.specs.Machine.{isNew, LowestRun, IsAccepted, GoodNow, Judges}

@@ -9,10 +9,11 @@ use Rattle.pairs.specs.Lists.{Lists}
 use Rattle.state.specs.declared.refusal.Refusal.the-variants.{Gaps}
 use Rattle.state.specs.declared.answers.Judged.{Judged}
 use Rattle.state.specs.Memory.{Lent, lends}
-use Rattle.quotebox.specs.CallPromisesLaws.{start-refusal, list-refusal, off-refusal, no-spreads-refusal, start-leaves, off-leaves}
+use Rattle.starting.specs.StartPromisesLaws.{start-refusal, no-spreads-refusal, start-leaves}
+use Rattle.listing.specs.ListPromisesLaws.{list-refusal, off-refusal, off-leaves}
 use Rattle.batch.specs.OrderLaws.{refused-exact}
 use Rattle.batch.specs.Promises.{JudgedBatch, TookBatch}
-use Rattle.quotebox.specs.Start.{startOf}
+use Rattle.starting.specs.Start.{startOf}
 use Rattle.batch.specs.TookLaws.{judged-refused, refused-keeps, state-good}
 use Rattle.writer.specs.WriterPromisesLaws.{write-refusal}
 use Rattle.history.specs.Past.{Event, wroteOffIn, takenOf}

@@ -24,7 +24,7 @@ use Rattle.quote.specs.Shows.{fieldNamed}
 use Rattle.quote.specs.ShowsLaws.{shows-fields}
 use Rattle.spread.specs.ShowsLaws.{shows-spread-fields}
 use Rattle.layout.specs.declared.read.Verdict.the-variants as verdict
-use Rattle.message.specs.Items.{habitOf, fileOf}
+use Rattle.pairs.specs.Items.{habitOf, fileOf}
 use Rattle.message.specs.declared.body.What.{What}
 use Rattle.message.specs.declared.body.What.the-variants as what
 use Rattle.head.specs.declared.head.Fault.{Fault}
@@ -43,7 +43,7 @@ use Rattle.turns.specs.ActsLaws.{acts-as}
 use Rattle.turns.specs.Turns.{Box, numberActs, updated, messageActs}
 use Rattle.stores.specs.Stored.{stored}
 use Rattle.history.specs.Exactly.{UpdateSays}
-use Rattle.history.specs.Shown.{QuoteFor, shown, ShowsEach}
+use Rattle.reading.specs.Shown.{QuoteFor, shown, ShowsEach}
 use Rattle.history.specs.Kept.{cellsFor}
 use Rattle.history.specs.Updates.{slotOf, itemIn, levelIn}
 use Rattle.history.specs.Machine.{isNumbered, sequenceNumber}

@@ -22,9 +22,9 @@ use Rattle.slots.specs.Slots.{Slot}
 use Rattle.slots.specs.Places.{formFor}
 use Rattle.batch.specs.Batch.{batchLetter, countOf, batchData}
 use Rattle.batch.specs.Good.{GoodFront}
-use Rattle.quotebox.specs.Start.{startOf}
+use Rattle.starting.specs.Start.{startOf}
 use Rattle.history.specs.Past.{Event, came, wroteOffIn, takenOf, batchMessages, highestIn, missingIn, runsStanding, isTaken, isOld, howMany}
-use Rattle.history.specs.Shown.{QuoteFor, shown, blankFor, ShowsEach}
+use Rattle.reading.specs.Shown.{QuoteFor, shown, blankFor, ShowsEach}
 use Rattle.history.specs.Updates.{itemIn, keyIn, isOf}
 use Rattle.history.specs.Machine.{isHeartbeat, sequenceNumber, NamesExactly, TooMany}
 

@@ -26,7 +26,7 @@ use Rattle.forms.specs.declared.forms.Subject.{Subject}
 use Rattle.forms.specs.declared.forms.Subject.the-variants.{Of}
 use Rattle.forms.specs.declared.forms.Item.{Item}
 use Rattle.forms.specs.Forms.{recordForm, subjectOf, keyRowsOf}
-use Rattle.message.specs.Items.{fileOf, habitOf}
+use Rattle.pairs.specs.Items.{fileOf, habitOf}
 use Rattle.sequence.specs.Gaps.{Gaps, takes, wanted}
 use Rattle.sequence.specs.Changes.{full, wroteOff}
 use Rattle.sequence.specs.GapsLaws.{wroteOff-sound}
@@ -59,16 +59,16 @@ use Rattle.stores.specs.Stored.{stored}
 use Rattle.batch.specs.BatchLaws.{good-state, messages-accepted}
 use Rattle.batch.specs.LeftLaws.{is-listed, messages-leave}
 use Rattle.turns.specs.UpdateLaws.{item-of, tells-of, record-wanted}
-use Rattle.quotebox.specs.Calls.{runsPut, lowestRun, lentWrittenOff}
-use Rattle.quotebox.specs.CallRules.{gapsOfLetter, listRules, writeOffRules}
+use Rattle.listing.specs.ListActs.{runsPut, lowestRun, lentWrittenOff}
+use Rattle.listing.specs.ListRules.{gapsOfLetter, listRules, writeOffRules}
 use Rattle.reading.specs.ReadRules.{recordRules}
-use Rattle.quotebox.specs.CallsLaws.{off-left}
+use Rattle.listing.specs.ListActsLaws.{off-left}
 use Rattle.reading.specs.Record.{recordOfKey, recordNumber, cellsAt, quoteAt, quoteBeside}
 use Rattle.reading.specs.RecordLaws.{record-found}
-use Rattle.quotebox.specs.Start.{startRules, eachStarts}
-use Rattle.quotebox.specs.StartActs.{startBroken, startedRows, rowsStarted, recordsCleared, lentStarted}
-use Rattle.quotebox.specs.StartLaws.{started-lengths}
-use Rattle.history.specs.Shown.{QuoteFor, shown, blankFor}
+use Rattle.starting.specs.Start.{startRules, eachStarts}
+use Rattle.starting.specs.StartActs.{startBroken, startedRows, rowsStarted, recordsCleared, lentStarted}
+use Rattle.starting.specs.StartLaws.{started-lengths}
+use Rattle.reading.specs.Shown.{QuoteFor, shown, blankFor}
 use Rattle.history.specs.Calls.{started, judged, took, listed, wroteOff as offTold, read, Answer, Call, start, judge, take as taking, listGaps, writeOff, readRecord, writeMessage, writeSpread, noSpreads, withLists}
 use Rattle.history.specs.Step.{startAnswer, batchAnswer, listRefusal, listAnswer, offRefusal, removed, readRefusal, recordAnswer, readAnswer, readQuote, step}
 use Rattle.history.specs.TurnLaws.{tookBox, oldBox}

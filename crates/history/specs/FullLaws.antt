@@ -44,7 +44,7 @@ use Rattle.batch.specs.ScratchLaws.{never-good}
 use Rattle.state.specs.StateLaws.{state-exact}
 use Rattle.turns.specs.MessagesLaws.{not-both, messages-next, messages-refused}
 use Rattle.state.specs.Refusals.{ofFault}
-use Rattle.quotebox.specs.Start.{startOf}
+use Rattle.starting.specs.Start.{startOf}
 use Rattle.history.specs.Past.{Event, came, wroteOffIn, takenOf, runsStanding}
 use Rattle.history.specs.SegmentLaws.{takes-new, after-standing, fits-standing}
 use Rattle.history.specs.DoesLaws.{storedIn, Does, is-bad, beats, passes, updates, does}

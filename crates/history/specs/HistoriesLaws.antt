@@ -12,10 +12,12 @@ use Rattle.state.specs.Memory.{Lent}
 use Rattle.state.specs.AnswersLaws.{accepted-by}
 use Rattle.batch.specs.Promises.{TookBatch}
 use Rattle.batch.specs.TookLaws.{one-took}
-use Rattle.quotebox.specs.CallPromises.{StartedBox, WroteOffRun}
-use Rattle.quotebox.specs.CallPromisesLaws.{start-left, one-written-off}
-use Rattle.quotebox.specs.CallsLaws.{start-done}
-use Rattle.quotebox.specs.StartActs.{startBroken, lentStarted}
+use Rattle.starting.specs.StartPromises.{StartedBox}
+use Rattle.listing.specs.ListPromises.{WroteOffRun}
+use Rattle.starting.specs.StartPromisesLaws.{start-left}
+use Rattle.listing.specs.ListPromisesLaws.{one-written-off}
+use Rattle.starting.specs.StartPromisesLaws.{start-done}
+use Rattle.starting.specs.StartActs.{startBroken, lentStarted}
 use Rattle.history.specs.Past.{Event, afterTake, afterWriteOff}
 use Rattle.history.specs.Calls.{Call, start, judge, take, listGaps, writeOff, readRecord, writeMessage, writeSpread, noSpreads, withLists}
 use Rattle.history.specs.Step.{startRefusal, batchAnswer, offAnswer, step}

@@ -5,7 +5,7 @@ use Rattle.files.specs.File.{segmentsOf}
 use Rattle.pairs.specs.Lists.{SoundLists}
 use Rattle.sequence.specs.Row.{gapsOf}
 use Rattle.state.specs.Memory.{Lent, gapRowOf}
-use Rattle.quotebox.specs.Start.{startOf}
+use Rattle.starting.specs.Start.{startOf}
 use Rattle.state.specs.GoodState.{GoodState}
 use Rattle.history.specs.Past.{Event, takenOf, wroteOffIn}
 use Rattle.history.specs.Segment.{Fits}

@@ -35,15 +35,17 @@ use Rattle.state.specs.MemoryRows.{withGapRowIn, withGapRow}
 use Rattle.batch.specs.BatchLaws.{accepted-box, messages-accepted}
 use Rattle.batch.specs.LeftLaws.{is-listed}
 use Rattle.state.specs.AnswersLaws.{accepted-by}
-use Rattle.quotebox.specs.CallPromises.{StartedBox, WroteOffRun}
-use Rattle.quotebox.specs.CallPromisesLaws.{off-refusal, start-good, start-left, gaps-started, start-leaves, no-records, answers-lowest, gaps-written-off, others-kept, off-all, off-leaves}
-use Rattle.quotebox.specs.CallsLaws.{gaps-are}
-use Rattle.quotebox.specs.Calls.{runValues, lowestRun}
-use Rattle.quotebox.specs.CallRules.{gapsOfLetter, writeOffRules}
+use Rattle.starting.specs.StartPromises.{StartedBox}
+use Rattle.listing.specs.ListPromises.{WroteOffRun}
+use Rattle.listing.specs.ListPromisesLaws.{off-refusal, answers-lowest, gaps-written-off, others-kept, off-all, off-leaves}
+use Rattle.starting.specs.StartPromisesLaws.{start-good, start-left, gaps-started, start-leaves, no-records}
+use Rattle.listing.specs.ListActsLaws.{gaps-are}
+use Rattle.listing.specs.ListActs.{runValues, lowestRun}
+use Rattle.listing.specs.ListRules.{gapsOfLetter, writeOffRules}
 use Rattle.state.specs.GoodState.{GoodState}
 use Rattle.batch.specs.Promises.{TookBatch}
 use Rattle.state.specs.RowsLaws.{row-put, row-kept}
-use Rattle.quotebox.specs.Start.{startOf}
+use Rattle.starting.specs.Start.{startOf}
 use Rattle.state.specs.State.{segmentRules}
 use Rattle.state.specs.StateLaws.{is-some, letter-listed}
 use Rattle.batch.specs.TookLaws.{refused-keeps, state-good}

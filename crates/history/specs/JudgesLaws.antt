@@ -43,7 +43,7 @@ use Rattle.batch.specs.GoodLaws.{front-exact}
 use Rattle.batch.specs.LeftLaws.{is-listed}
 use Rattle.batch.specs.Promises.{JudgedBatch}
 use Rattle.batch.specs.ScratchLaws.{never-good}
-use Rattle.quotebox.specs.Start.{startOf}
+use Rattle.starting.specs.Start.{startOf}
 use Rattle.history.specs.Machine.{Machine, TooMany, isNumbered, isHeartbeat, takesIn, inSegment, comesTo, AllGood, FirstRefused, counted, isTakenFor, isOldFor, GoodNow, Refuses, in-front, in-turn, Judges, IsAccepted}
 use Rattle.history.specs.Past.{Event, batchMessages, runsStanding, isTaken, isOld, howMany}
 use Rattle.history.specs.Turn.{BoxFits}

@@ -15,7 +15,7 @@ use Rattle.message.specs.Message.{Message}
 use Rattle.slots.specs.Slots.{Slot, SlotListed}
 use Rattle.slots.specs.Places.{formFor, slotAt, slotCells, recordOf}
 use Rattle.history.specs.Past.{Event, takenFor}
-use Rattle.history.specs.Shown.{QuoteFor}
+use Rattle.reading.specs.Shown.{QuoteFor}
 use Rattle.history.specs.Updates.{itemIn, levelIn, isOf}
 use Rattle.history.specs.Machine.{higher, sequenceNumber}
 

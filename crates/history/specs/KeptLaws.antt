@@ -31,7 +31,7 @@ use Rattle.stores.specs.Stored.{stored}
 use Rattle.slots.specs.Slots.{Slot, slot as recordSlot, slotFor, SlotListed, recordsWanted}
 use Rattle.slots.specs.Places.{formFor, slotAt, slotCells, recordOf, recordRows}
 use Rattle.slots.specs.SlotsLaws.{cells-by-rows, slot-inside, slot-some, slots-apart}
-use Rattle.history.specs.Shown.{QuoteFor}
+use Rattle.reading.specs.Shown.{QuoteFor}
 use Rattle.history.specs.Updates.{sameSlot, slotOf, isSlot, segmentIn, itemIn, levelIn}
 use Rattle.history.specs.Kept.{cellsFor, RecordHolds, HoldsUpdate}
 use Rattle.history.specs.StoresLaws.{part-first, stored-here, stored-apart}

@@ -29,7 +29,6 @@ pub mod Segment
 pub mod SegmentLaws
 pub mod Sent
 pub mod SentLaws
-pub mod Shown
 pub mod Step
 pub mod StoresLaws
 pub mod TakenLaws

@@ -23,14 +23,14 @@ use Rattle.sequence.specs.RowLaid.{flat}
 use Rattle.sequence.specs.Sound.{SoundGaps}
 use Rattle.sequence.specs.SoundLaws.{sound-apart}
 use Rattle.state.specs.declared.answers.Listed.{Listed}
-use Rattle.quotebox.specs.CallPromises.{ListedRuns}
-use Rattle.quotebox.specs.CallPromisesLaws.{answers-runs, runs-in-cells}
-use Rattle.quotebox.specs.CallsLaws.{gaps-are}
-use Rattle.quotebox.specs.Calls.{listValues}
-use Rattle.quotebox.specs.CallRules.{gapsOfLetter, listRules}
+use Rattle.listing.specs.ListPromises.{ListedRuns}
+use Rattle.listing.specs.ListPromisesLaws.{answers-runs, runs-in-cells}
+use Rattle.listing.specs.ListActsLaws.{gaps-are}
+use Rattle.listing.specs.ListActs.{listValues}
+use Rattle.listing.specs.ListRules.{gapsOfLetter, listRules}
 use Rattle.state.specs.Answers.{answered, listedNumbers}
 use Rattle.state.specs.AnswersLaws.{listed-told}
-use Rattle.quotebox.specs.Start.{startOf}
+use Rattle.starting.specs.Start.{startOf}
 use Rattle.state.specs.Memory.{Lent}
 use Rattle.state.specs.State.{segmentRules}
 use Rattle.state.specs.StateLaws.{good-unrefused, segment-holds}

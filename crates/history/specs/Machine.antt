@@ -40,11 +40,11 @@ use Rattle.slots.specs.Slots.{Slot, SlotListed}
 use Rattle.batch.specs.Batch.{batchLetter, countOf, batchData, batchRules}
 use Rattle.batch.specs.Good.{GoodFront}
 use Rattle.writer.specs.WriterPromises.{WroteMessage, WroteSpread}
-use Rattle.quotebox.specs.CallPromises.{PutNoSpreads}
-use Rattle.quotebox.specs.Start.{startOf, startRules, GoodStart}
+use Rattle.starting.specs.StartPromises.{PutNoSpreads}
+use Rattle.starting.specs.Start.{startOf, startRules, GoodStart}
 use Rattle.history.specs.Calls as calls
 use Rattle.history.specs.Calls.{Call, Answer}
-use Rattle.history.specs.Shown.{QuoteFor, shown, blankFor}
+use Rattle.reading.specs.Shown.{QuoteFor, shown, blankFor}
 use Rattle.history.specs.Updates.{segmentIn, itemIn, levelIn, letterIn, keyIn, isOf}
 
 -- ---- words: what is taken, what is missing

@@ -12,7 +12,7 @@ use Rattle.head.specs.Fields.{lengthOf}
 use Rattle.message.specs.Message.{Message}
 use Rattle.message.specs.Reads.{messageOf}
 use Rattle.slots.specs.Slots.{Slot}
-use Rattle.quotebox.specs.Start.{startOf}
+use Rattle.starting.specs.Start.{startOf}
 use Rattle.history.specs.Machine.{Machine, comesNew, higher, arrives, inSegment, comesTo, standingFor, standing, allCome, counted}
 use Rattle.history.specs.Past.{Event, came, messagesOf, allCame, wroteOffIn, takenOf, takenFor, howMany, runsStanding}
 use Rattle.history.specs.Updates.{segmentIn, isOf}

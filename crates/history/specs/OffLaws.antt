@@ -28,11 +28,11 @@ use Rattle.state.specs.AnswersLaws.{written-off-told}
 use Rattle.state.specs.Memory.{Lent, gapRowOf}
 use Rattle.state.specs.Refusals.{Rule}
 use Rattle.state.specs.State.{segmentRules}
-use Rattle.quotebox.specs.CallPromises.{WroteOffRun}
-use Rattle.quotebox.specs.CallPromisesLaws.{off-refusal}
-use Rattle.quotebox.specs.Calls.{runValues, lowestRun}
-use Rattle.quotebox.specs.CallRules.{gapsOfLetter, writeOffRules}
-use Rattle.quotebox.specs.Start.{startOf}
+use Rattle.listing.specs.ListPromises.{WroteOffRun}
+use Rattle.listing.specs.ListPromisesLaws.{off-refusal}
+use Rattle.listing.specs.ListActs.{runValues, lowestRun}
+use Rattle.listing.specs.ListRules.{gapsOfLetter, writeOffRules}
+use Rattle.starting.specs.Start.{startOf}
 use Rattle.history.specs.Past.{Event, afterWriteOff, offIn, wroteOffIn, takenOf, missingIn}
 use Rattle.history.specs.Segment.{Fits}
 use Rattle.history.specs.Histories.{Reached}

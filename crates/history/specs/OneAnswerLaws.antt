@@ -21,8 +21,8 @@ use Rattle.sequence.specs.RunsLaws.{same-runs}
 use Rattle.forms.specs.declared.rows.Level.{Level}
 use Rattle.forms.specs.declared.forms.Item.{Item}
 use Rattle.forms.specs.declared.forms.Item.the-variants as item
-use Rattle.message.specs.Items.{fileOf, habitOf}
-use Rattle.message.specs.ItemsLaws.{sound-headers, segments-of, sound-of}
+use Rattle.pairs.specs.Items.{fileOf, habitOf}
+use Rattle.pairs.specs.ItemsLaws.{sound-headers, segments-of, sound-of}
 use Rattle.message.specs.Message.{placeIn}
 use Rattle.quote.specs.Quote.{valuesOf}
 use Rattle.spread.specs.Spread.{spreadValuesOf}
@@ -35,10 +35,10 @@ use Rattle.state.specs.declared.answers.Listed.{Listed}
 use Rattle.state.specs.declared.answers.WrittenOff.{WrittenOff}
 use Rattle.slots.specs.Slots.{Slot, slot as recordSlot}
 use Rattle.writer.specs.WriterPromisesLaws.{one-written}
-use Rattle.quotebox.specs.CallPromisesLaws.{one-no-spreads}
-use Rattle.quotebox.specs.Start.{startRules}
-use Rattle.quotebox.specs.StartLaws.{start-exact}
-use Rattle.history.specs.Shown.{QuoteFor}
+use Rattle.starting.specs.StartPromisesLaws.{one-no-spreads}
+use Rattle.starting.specs.Start.{startRules}
+use Rattle.starting.specs.StartLaws.{start-exact}
+use Rattle.reading.specs.Shown.{QuoteFor}
 use Rattle.history.specs.Calls as calls
 use Rattle.history.specs.Calls.{Call, Answer}
 use Rattle.history.specs.Step.{step}

@@ -18,7 +18,7 @@ use Rattle.state.specs.declared.answers.WrittenOff.{WrittenOff}
 use Rattle.state.specs.declared.answers.WrittenOff.the-variants as answer
 use Rattle.batch.specs.Batch.{batchLetter, countOf, batchData}
 use Rattle.slots.specs.Slots.{Slot}
-use Rattle.quotebox.specs.Start.{startOf}
+use Rattle.starting.specs.Start.{startOf}
 use Rattle.history.specs.Machine.{isNumbered, comesNew, taking, highestOf, missingBy, standingBy}
 use Rattle.history.specs.Updates.{segmentIn}
 

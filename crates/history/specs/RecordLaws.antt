@@ -21,8 +21,8 @@ use Rattle.layout.specs.Cells.{zerosBehind}
 use Rattle.forms.specs.declared.forms.Form.{Form}
 use Rattle.forms.specs.declared.forms.Item.{Item}
 use Rattle.forms.specs.Forms.{recordForm, keyRowsOf}
-use Rattle.message.specs.Items.{fileOf, habitOf}
-use Rattle.message.specs.ItemsLaws.{segments-of, sound-of}
+use Rattle.pairs.specs.Items.{fileOf, habitOf}
+use Rattle.pairs.specs.ItemsLaws.{segments-of, sound-of}
 use Rattle.message.specs.Message.{Message, placeIn}
 use Rattle.message.specs.Reads.{messageOf}
 use Rattle.state.specs.declared.refusal.Refusal.{Refusal}
@@ -35,9 +35,9 @@ use Rattle.slots.specs.SlotsLaws.{slot-inside}
 use Rattle.state.specs.AnswersLaws.{recorded-told}
 use Rattle.reading.specs.Record.{recordOfKey, recordNumber, recordValues, cellsAt, quoteAt, quoteBeside}
 use Rattle.reading.specs.RecordLaws.{key-holds, record-found}
-use Rattle.quotebox.specs.Start.{startOf}
+use Rattle.starting.specs.Start.{startOf}
 use Rattle.history.specs.Past.{Event, takenOf, takenFor}
-use Rattle.history.specs.Shown.{QuoteFor, shown, blankFor, ReadsItem}
+use Rattle.reading.specs.Shown.{QuoteFor, shown, blankFor, ReadsItem}
 use Rattle.history.specs.Updates.{slotOf, itemIn, levelIn, letterIn, keyIn}
 use Rattle.history.specs.Kept.{newest, RecordHolds, HoldsUpdate}
 use Rattle.history.specs.KeptLaws.{quote-cells, slot-rows, kept-number}

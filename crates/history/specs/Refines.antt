@@ -6,7 +6,7 @@ use mathlib.Core.Option.{some}
 use lib.ListN.{length}
 use Rattle.pairs.specs.Lists.{Lists}
 use Rattle.state.specs.Memory.{Lent}
-use Rattle.quotebox.specs.Start.{startOf}
+use Rattle.starting.specs.Start.{startOf}
 use Rattle.history.specs.Machine.{Machine, Answers}
 use Rattle.history.specs.Past.{Event, wroteOffIn, takenOf, takenFor}
 use Rattle.history.specs.Kept.{newest}

@@ -16,7 +16,7 @@ use Rattle.sequence.specs.Runs.{_to_}
 use Rattle.forms.specs.declared.rows.Level.{Level}
 use Rattle.forms.specs.declared.forms.Item.{Item}
 use Rattle.forms.specs.declared.forms.Item.the-variants as item
-use Rattle.message.specs.Items.{fileOf, habitOf}
+use Rattle.pairs.specs.Items.{fileOf, habitOf}
 use Rattle.message.specs.Message.{placeIn}
 use Rattle.quote.specs.Quote.{valuesOf}
 use Rattle.spread.specs.Spread.{spreadValuesOf}
@@ -40,22 +40,24 @@ use Rattle.state.specs.StateLaws.{good-unrefused, letter-broken}
 use Rattle.batch.specs.Batch.{batchLetter, countOf, batchData}
 use Rattle.batch.specs.Acts.{batchActs}
 use Rattle.batch.specs.Promises.{JudgedBatch}
-use Rattle.quotebox.specs.CallPromises.{StartedBox, ListedRuns, WroteOffRun}
-use Rattle.quotebox.specs.CallPromisesLaws.{start-left, list-refusal, runs-in-cells}
-use Rattle.quotebox.specs.Calls.{listValues, lowestRun, runValues}
-use Rattle.quotebox.specs.CallRules.{gapsOfLetter, listRules, writeOffRules}
+use Rattle.starting.specs.StartPromises.{StartedBox}
+use Rattle.listing.specs.ListPromises.{ListedRuns, WroteOffRun}
+use Rattle.starting.specs.StartPromisesLaws.{start-left}
+use Rattle.listing.specs.ListPromisesLaws.{list-refusal, runs-in-cells}
+use Rattle.listing.specs.ListActs.{listValues, lowestRun, runValues}
+use Rattle.listing.specs.ListRules.{gapsOfLetter, listRules, writeOffRules}
 use Rattle.reading.specs.ReadRules.{recordRules}
 use Rattle.reading.specs.Record.{recordNumber, recordOfKey, recordValues, quoteAt, quoteBeside}
 use Rattle.reading.specs.RecordLaws.{segment-broken, key-broken}
-use Rattle.quotebox.specs.Start.{startOf, startRules}
-use Rattle.quotebox.specs.StartLaws.{start-exact}
+use Rattle.starting.specs.Start.{startOf, startRules}
+use Rattle.starting.specs.StartLaws.{start-exact}
 use Rattle.history.specs.Machine as machine
 use Rattle.history.specs.Machine.{Machine, Judges, tookBatch, ListsGaps, WritesOff, Reads}
 use Rattle.history.specs.Past.{Event, batchMessages, cameIn, afterTake, afterWriteOff, offIn, runsStanding, highestIn}
 use Rattle.history.specs.Calls.{Call, start, judge, take, listGaps, writeOff, readRecord, writeMessage, writeSpread, noSpreads}
 use Rattle.history.specs.Step.{startRefusal, batchAnswer, offRefusal, offAnswer, readAnswer, readQuote, step}
 use Rattle.history.specs.CallsLaws.{took-list, off-list, judge-promised, list-promised, off-promised, read-promised, write-promised, no-spreads-promised}
-use Rattle.history.specs.Shown.{QuoteFor, shown, blankFor, ReadsItem}
+use Rattle.reading.specs.Shown.{QuoteFor, shown, blankFor, ReadsItem}
 use Rattle.history.specs.Histories.{Reached}
 use Rattle.history.specs.HoldsLaws.{reached-holds}
 use Rattle.history.specs.ListingLaws.{segment-good, gaps-exactly, runs-answered, runs-refused}

@@ -15,7 +15,7 @@ use Rattle.pairs.specs.Lists.{Lists}
 use Rattle.message.specs.Message.{Message, messageKey}
 use Rattle.message.specs.Reads.{messageOf}
 use Rattle.batch.specs.Batch.{batchLetter, countOf, batchData}
-use Rattle.history.specs.Shown.{QuoteFor, ShowsEach}
+use Rattle.reading.specs.Shown.{QuoteFor, ShowsEach}
 
 -- 01 "The batch": "Each message is a part of the batch that begins where the one before it ends": the bytes from each one's start
 abbrev pub messageStarts : ℕ → List ℕ → List (List ℕ)

@@ -18,7 +18,7 @@ use Rattle.pairs.specs.Lists.{Lists}
 use Rattle.forms.specs.declared.rows.Level.{Level}
 use Rattle.forms.specs.Forms.{recordForm}
 use Rattle.forms.specs.declared.forms.Item.{Item}
-use Rattle.message.specs.Items.{fileOf, habitOf}
+use Rattle.pairs.specs.Items.{fileOf, habitOf}
 use Rattle.message.specs.declared.body.What.{What}
 use Rattle.head.specs.Fields.{lengthOf}
 use Rattle.message.specs.Message.{Message, keyPlace, placeIn}
@@ -39,11 +39,11 @@ use Rattle.state.specs.StateLaws.{is-some}
 use Rattle.batch.specs.Batch.{batchLetter, countOf, batchData}
 use Rattle.batch.specs.Acts.{batchActs}
 use Rattle.reading.specs.ReadRules.{recordRules}
-use Rattle.quotebox.specs.Start.{startOf}
-use Rattle.quotebox.specs.StartActs.{lentStarted}
+use Rattle.starting.specs.Start.{startOf}
+use Rattle.starting.specs.StartActs.{lentStarted}
 use Rattle.sequence.specs.Runs.{Run}
 use Rattle.history.specs.Past.{Event, came, off, messagesOf, batchMessages, allCame, cameIn, afterTake, offIn, afterWriteOff, wroteOffIn, takenOf}
-use Rattle.history.specs.Shown.{QuoteFor, shown, ReadsItem}
+use Rattle.reading.specs.Shown.{QuoteFor, shown, ReadsItem}
 use Rattle.history.specs.Calls.{start, judge, take, listGaps, writeOff, readRecord, writeMessage, writeSpread, noSpreads, withLists}
 use Rattle.history.specs.Step.{startRefusal, batchAnswer, offRefusal, offAnswer}
 use Rattle.history.specs.CallsLaws.{took-list, off-list}

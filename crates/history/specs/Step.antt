@@ -32,12 +32,13 @@ use Rattle.batch.specs.Acts.{batchActs, answerOf, lentAfter}
 use Rattle.writer.specs.declared.writing.Code.{Code}
 use Rattle.writer.specs.Writer.{valuesWritten, dataWritten, lengthWritten, writeRules, messagePut}
 use Rattle.writer.specs.Chosen.{formWritten}
-use Rattle.quotebox.specs.StartActs.{startBroken, lentStarted}
-use Rattle.quotebox.specs.Calls.{runsPut, lowestRun, lentWrittenOff}
-use Rattle.quotebox.specs.CallRules.{gapsOfLetter, listRules, writeOffRules, noSpreadsRules}
+use Rattle.starting.specs.StartActs.{startBroken, lentStarted}
+use Rattle.listing.specs.ListActs.{runsPut, lowestRun, lentWrittenOff}
+use Rattle.listing.specs.ListRules.{gapsOfLetter, listRules, writeOffRules}
+use Rattle.starting.specs.NoSpreadsRules.{noSpreadsRules}
 use Rattle.reading.specs.ReadRules.{recordRules}
 use Rattle.reading.specs.Record.{recordOfKey, recordNumber, quoteAt, quoteBeside}
-use Rattle.history.specs.Shown.{QuoteFor, shown, blankFor}
+use Rattle.reading.specs.Shown.{QuoteFor, shown, blankFor}
 use Rattle.history.specs.Calls as calls
 use Rattle.history.specs.Calls.{Answer, Call, judge, judged, listGaps, listed, read, readRecord, start, started, take, took, withLists, writeMessage, writeSpread, writeOff, wrote, wroteOff}
 

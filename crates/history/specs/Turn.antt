@@ -10,7 +10,7 @@ use Rattle.sequence.specs.RowLaid.{soundGapRow}
 use Rattle.message.specs.Message.{Message}
 use Rattle.turns.specs.Turns.{Box}
 use Rattle.slots.specs.Slots.{recordsWanted}
-use Rattle.quotebox.specs.Start.{startOf}
+use Rattle.starting.specs.Start.{startOf}
 use Rattle.history.specs.Past.{Event, wroteOffIn, takenOf, isTaken, isOld, howMany, allCame}
 use Rattle.history.specs.Segment.{Fits}
 use Rattle.history.specs.Kept.{RecordsFit}

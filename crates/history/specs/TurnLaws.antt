@@ -32,7 +32,7 @@ use Rattle.slots.specs.Slots.{Slot, SlotListed}
 use Rattle.slots.specs.Places.{slotAt, recordOf}
 use Rattle.batch.specs.LeftLaws.{last-box}
 use Rattle.turns.specs.MessagesLaws.{not-both, messages-next, messages-refused}
-use Rattle.quotebox.specs.Start.{startOf}
+use Rattle.starting.specs.Start.{startOf}
 use Rattle.history.specs.Past.{Event, came, wroteOffIn, takenOf, messagesOf, takenFor}
 use Rattle.history.specs.Updates.{slotOf, isSlot, segmentIn, itemIn, levelIn}
 use Rattle.history.specs.SegmentLaws.{takes-new, fits-taken}

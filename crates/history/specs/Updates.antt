@@ -11,7 +11,7 @@ use Rattle.files.specs.File.{letterAt, keyBy}
 use Rattle.pairs.specs.Lists.{Lists}
 use Rattle.message.specs.declared.body.What.{What}
 use Rattle.message.specs.declared.body.What.the-variants.{Heartbeat, PassedOver, Update, Bad}
-use Rattle.message.specs.Items.{fileOf, habitOf}
+use Rattle.pairs.specs.Items.{fileOf, habitOf}
 use Rattle.slots.specs.Slots.{Slot, slot as recordSlot, slotFor}
 
 -- 01 "What may be asked": one record's slot

@@ -20,7 +20,8 @@ use Rattle.state.specs.Answers.{startedNumbers, judgedNumbers, listedNumbers, w
 use Rattle.state.specs.Memory.{Lent}
 use Rattle.batch.specs.Promises.{JudgedBatch, TookBatch}
 use Rattle.reading.specs.Record.{blank, blankSpread}
-use Rattle.quotebox.specs.CallPromises.{StartedBox, ListedRuns, WroteOffRun, PutNoSpreads}
+use Rattle.starting.specs.StartPromises.{StartedBox, PutNoSpreads}
+use Rattle.listing.specs.ListPromises.{ListedRuns, WroteOffRun}
 use Rattle.reading.specs.Reads.{ReadsFor}
 use Rattle.writer.specs.WriterPromises.{WroteValues}
 use Rattle.told.specs.Told.{Tells, recordNumbers}

@@ -9,7 +9,8 @@ use Rattle.state.specs.declared.answers.Recorded.{Recorded}
 use Rattle.state.specs.Answers.{startedNumbers, judgedNumbers, listedNumbers, writtenOffNumbers, writtenNumbers}
 use Rattle.state.specs.Memory.{Lent}
 use Rattle.state.specs.AnswersLaws.{recorded-told, written-told}
-use Rattle.quotebox.specs.CallPromisesLaws.{one-started, one-listed, one-written-off}
+use Rattle.starting.specs.StartPromisesLaws.{one-started}
+use Rattle.listing.specs.ListPromisesLaws.{one-listed, one-written-off}
 use Rattle.batch.specs.TookLaws.{one-judged, one-took}
 use Rattle.writer.specs.WriterPromisesLaws.{one-written}
 use Rattle.told.specs.Told.{recordNumbers}

@@ -30,7 +30,7 @@ use Rattle.state.specs.StateLaws.{state-exact}
 use Rattle.turns.specs.Turns.{Box, Acted, acted, refused, numberActs, updated, whatActs, messageActs, next, messagesAct, actedNumbers}
 use Rattle.batch.specs.Batch.{batchLetter, countOf, batchData, batchRules}
 use Rattle.batch.specs.Acts.{boxOf, unlessBroken, batchActs}
-use Rattle.quotebox.specs.CallRules.{gapsOfLetter}
+use Rattle.listing.specs.ListRules.{gapsOfLetter}
 
 -- the same gaps and the same counts
 record Alike (a b : Box) : Type 0 where

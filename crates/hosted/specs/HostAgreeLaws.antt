@@ -19,15 +19,15 @@ use Rattle.state.specs.Memory.{Lent, lends}
 use Rattle.state.specs.State.{segmentRules}
 use Rattle.batch.specs.Batch.{batchLetter}
 use Rattle.batch.specs.Promises.{JudgedBatch}
-use Rattle.quotebox.specs.CallPromises.{WroteOffRun}
-use Rattle.quotebox.specs.CallRules.{writeOffRules}
-use Rattle.quotebox.specs.Calls.{runValues, lowestRun}
+use Rattle.listing.specs.ListPromises.{WroteOffRun}
+use Rattle.listing.specs.ListRules.{writeOffRules}
+use Rattle.listing.specs.ListActs.{runValues, lowestRun}
 use Rattle.history.specs.AgreeLaws.{rules-same, gaps-agree, front-same, listings-agree, records-agree}
 use Rattle.history.specs.DemandsLaws.{after-calls}
 use Rattle.history.specs.Exactly.{SameTaken}
 use Rattle.history.specs.Histories.{Reached}
 use Rattle.history.specs.Past.{Event}
-use Rattle.history.specs.Shown.{QuoteFor}
+use Rattle.reading.specs.Shown.{QuoteFor}
 use Rattle.told.specs.Shown.{valuesAfter}
 use Rattle.told.specs.Told.{recordNumbers}
 use Rattle.told.specs.ToldLaws.{told-once}

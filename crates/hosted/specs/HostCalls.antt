@@ -12,7 +12,7 @@ use Rattle.state.specs.declared.answers.Recorded.{Recorded}
 use Rattle.state.specs.Answers.{startedNumbers, judgedNumbers, listedNumbers, writtenOffNumbers, writtenNumbers}
 use Rattle.state.specs.Memory.{Lent}
 use Rattle.values.specs.Values.{quoteIn, spreadIn}
-use Rattle.history.specs.Shown.{QuoteFor}
+use Rattle.reading.specs.Shown.{QuoteFor}
 use Rattle.history.specs.Calls as calls
 use Rattle.history.specs.Calls.{Call, Answer}
 use Rattle.history.specs.Step.{Outcome, step}

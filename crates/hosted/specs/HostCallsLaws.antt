@@ -12,7 +12,7 @@ use Rattle.forms.specs.declared.rows.Level.{Level}
 use Rattle.state.specs.declared.answers.Listed.{Listed}
 use Rattle.state.specs.declared.answers.Written.{Written}
 use Rattle.state.specs.Memory.{Lent}
-use Rattle.quotebox.specs.CallRules.{gapsOfLetter}
+use Rattle.listing.specs.ListRules.{gapsOfLetter}
 use Rattle.writer.specs.Writer.{lengthWritten}
 use Rattle.writer.specs.Chosen.{formWritten}
 use Rattle.history.specs.Calls as calls

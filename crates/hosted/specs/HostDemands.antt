@@ -16,10 +16,10 @@ use Rattle.state.specs.GoodState.{GoodState}
 use Rattle.state.specs.Memory.{Lent}
 use Rattle.slots.specs.Slots.{Slot, SlotListed}
 use Rattle.slots.specs.Places.{formFor}
-use Rattle.quotebox.specs.Start.{startOf}
+use Rattle.starting.specs.Start.{startOf}
 use Rattle.values.specs.Values.{most}
 use Rattle.history.specs.Past.{Event, highestIn, missingIn, runsStanding, takenFor}
-use Rattle.history.specs.Shown.{shown}
+use Rattle.reading.specs.Shown.{shown}
 use Rattle.history.specs.Updates.{itemIn, letterIn, keyIn, levelIn}
 use Rattle.history.specs.Exactly.{NamesMissing, IsNewest, NoUpdate, CountsCame, OverInBatch}
 use Rattle.host.specs.Promises.{HostStarted, HostJudged, HostTook, HostListed, HostWroteOff, HostPutNoSpreads}

@@ -26,18 +26,19 @@ use Rattle.state.specs.RefusalsLaws.{refusalOf}
 use Rattle.slots.specs.Slots.{Slot, SlotListed}
 use Rattle.slots.specs.Places.{formFor}
 use Rattle.batch.specs.Promises.{JudgedBatch, TookBatch}
-use Rattle.quotebox.specs.CallPromises.{StartedBox, ListedRuns, WroteOffRun}
-use Rattle.quotebox.specs.CallPromisesLaws.{off-refusal, runs-in-cells}
-use Rattle.quotebox.specs.Calls.{listValues, runValues, lowestRun}
-use Rattle.quotebox.specs.CallRules.{gapsOfLetter, listRules, writeOffRules}
-use Rattle.quotebox.specs.Start.{startOf}
-use Rattle.quotebox.specs.StartActs.{startBroken}
+use Rattle.starting.specs.StartPromises.{StartedBox}
+use Rattle.listing.specs.ListPromises.{ListedRuns, WroteOffRun}
+use Rattle.listing.specs.ListPromisesLaws.{off-refusal, runs-in-cells}
+use Rattle.listing.specs.ListActs.{listValues, runValues, lowestRun}
+use Rattle.listing.specs.ListRules.{gapsOfLetter, listRules, writeOffRules}
+use Rattle.starting.specs.Start.{startOf}
+use Rattle.starting.specs.StartActs.{startBroken}
 use Rattle.writer.specs.Writer.{lengthWritten}
 use Rattle.writer.specs.Chosen.{formWritten}
 use Rattle.values.specs.Values.{most}
 use Rattle.history.specs.Step.{writeRefusal, noSpreadsRefusal}
 use Rattle.history.specs.Past.{Event, highestIn, missingIn, runsStanding, takenFor}
-use Rattle.history.specs.Shown.{QuoteFor, shown}
+use Rattle.reading.specs.Shown.{QuoteFor, shown}
 use Rattle.history.specs.Updates.{itemIn, letterIn, keyIn, levelIn}
 use Rattle.history.specs.Exactly.{ReadsNewest, OverInBatch}
 use Rattle.history.specs.Exactly as exactly

@@ -13,7 +13,7 @@ use Rattle.slots.specs.Places.{formFor}
 use Rattle.batch.specs.Batch.{batchLetter}
 use Rattle.values.specs.Values.{most}
 use Rattle.history.specs.Past.{Event, takenFor}
-use Rattle.history.specs.Shown.{shown}
+use Rattle.reading.specs.Shown.{shown}
 use Rattle.history.specs.Updates.{itemIn, letterIn, keyIn, segmentIn, levelIn, isOf}
 use Rattle.told.specs.Shown.{valueCount}
 use Rattle.hosted.specs.HostItems.{valuesFor, HostReadItem}

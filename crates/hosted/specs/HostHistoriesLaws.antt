@@ -6,7 +6,7 @@ use Rattle.forms.specs.declared.forms.Item.the-variants.{Contract, Pair}
 use Rattle.state.specs.declared.answers.Started.{Started}
 use Rattle.state.specs.Answers.{startedNumbers}
 use Rattle.state.specs.Memory.{Lent}
-use Rattle.quotebox.specs.CallPromises.{StartedBox}
+use Rattle.starting.specs.StartPromises.{StartedBox}
 use Rattle.history.specs.Calls as calls
 use Rattle.history.specs.Calls.{Call}
 use Rattle.history.specs.Histories as histories

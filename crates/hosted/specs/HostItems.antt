@@ -9,7 +9,7 @@ use Rattle.quote.specs.Quote.{valuesOf}
 use Rattle.spread.specs.Spread.{spreadValuesOf}
 use Rattle.state.specs.Memory.{Lent}
 use Rattle.values.specs.Values.{rowValues, quoteIn, spreadValues, spreadIn}
-use Rattle.history.specs.Shown.{QuoteFor, shown, blankFor}
+use Rattle.reading.specs.Shown.{QuoteFor, shown, blankFor}
 use Rattle.host.specs.Promises.{HostReads, HostWrites}
 
 -- the host's header: one value a row behind the key, of a contract's quote or of a pair's

@@ -8,7 +8,7 @@ use Rattle.forms.specs.declared.forms.Item.{Item}
 use Rattle.forms.specs.declared.forms.Item.the-variants.{Contract, Pair}
 use Rattle.forms.specs.declared.rows.Level.{Level}
 use Rattle.values.specs.Values.{most}
-use Rattle.history.specs.Shown.{QuoteFor}
+use Rattle.reading.specs.Shown.{QuoteFor}
 use Rattle.told.specs.Shown.{valueCount}
 use Rattle.told.specs.ShownLaws.{values-long, spread-values-long, values-put}
 use Rattle.hosted.specs.HostItems.{valuesFor}

@@ -17,7 +17,7 @@ use Rattle.sequence.specs.Changes.{full}
 use Rattle.message.specs.Message.{keyPlace}
 use Rattle.state.specs.GoodState.{GoodState}
 use Rattle.state.specs.Memory.{Lent}
-use Rattle.quotebox.specs.CallRules.{gapsOfLetter}
+use Rattle.listing.specs.ListRules.{gapsOfLetter}
 use Rattle.layout.specs.Plain.{valueOf, heldOf}
 use Rattle.values.specs.Values.{first, most, valueRows}
 use Rattle.written.specs.ReadBack.{batchOf}

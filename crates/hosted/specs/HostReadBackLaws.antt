@@ -43,7 +43,7 @@ use Rattle.batch.specs.Promises.{JudgedBatch, TookBatch}
 use Rattle.batch.specs.TookLaws.{judged-good}
 use Rattle.writer.specs.Chosen.{formWritten}
 use Rattle.writer.specs.WriterPromises.{WroteValues}
-use Rattle.quotebox.specs.CallRules.{gapsOfLetter}
+use Rattle.listing.specs.ListRules.{gapsOfLetter}
 use Rattle.reading.specs.ReadRules.{recordRules}
 use Rattle.reading.specs.Record.{recordOfKey, recordNumber, recordValues}
 use Rattle.values.specs.Values.{most, quoteIn, spreadIn}
@@ -54,7 +54,7 @@ use Rattle.written.specs.WrittenFieldsLaws.{letter-written}
 use Rattle.written.specs.WrittenFormLaws.{level-chosen}
 use Rattle.written.specs.WrittenUpdateLaws.{written, rows-good, message-there, written-short, form-is, number-is, key-is}
 use Rattle.history.specs.DemandsLaws.{took-judged}
-use Rattle.history.specs.Shown.{QuoteFor, shown, blankFor, ReadsItem}
+use Rattle.reading.specs.Shown.{QuoteFor, shown, blankFor, ReadsItem}
 use Rattle.host.specs.Promises.{HostTook, codeOf}
 use Rattle.told.specs.Shown.{valuesAfter, valueCount}
 use Rattle.told.specs.Told.{Tells, recordNumbers}

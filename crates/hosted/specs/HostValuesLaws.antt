@@ -42,7 +42,7 @@ use Rattle.slots.specs.SlotsLaws.{rows-few, rows-kept}
 use Rattle.values.specs.ValuesLaws.{values-behind, spread-values-behind}
 use Rattle.history.specs.KeptLaws.{same-slot}
 use Rattle.history.specs.Kept.{cellsFor}
-use Rattle.history.specs.Shown.{QuoteFor, shown}
+use Rattle.reading.specs.Shown.{QuoteFor, shown}
 use Rattle.history.specs.Updates.{sameSlot, slotOf, itemIn, levelIn, isSlot, isOf}
 use Rattle.hosted.specs.HostItems.{valuesFor}
 use Rattle.hosted.specs.HostValues.{levelRows, ValuesSay}

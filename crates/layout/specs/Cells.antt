@@ -1,5 +1,5 @@
 -- What a cell holds: one number for each row of an update; and what a row takes of the key, which has no cell.
-use Prim.Native.Nat.{ℕ, _+_, _^_, _-_}
+use Prim.Native.Nat.{ℕ, _+_, _^_, _-_, _<_}
 use mathlib.Core.Bool.{Bool, true, cond}
 use mathlib.Core.List.{List, _++_}
 use lib.Dec.{eqb, leb, ltb}
@@ -31,6 +31,12 @@ sideIn cell = cond (ltb cell minus) (Units cell) (sided true (cell - minus))
 -- amount, or where the row has a sign an amount on its side of zero
 abbrev pub heldIn : Bool → ℕ → Held
 heldIn signed cell = cond (eqb cell none) Nothing (cond signed (sideIn cell) (Units cell))
+
+-- lent memory: what has a cell: every amount that is in its kind's range is among these
+abbrev pub Small : Held → Type 0
+Small Nothing = Unit {0}
+Small (Units n) = n < minus - 2
+Small (Below n) = n < minus - 2
 
 -- lent memory: the cell of a number that was read, which is in range: an amount's own, below zero with the minus beside it
 abbrev pub cellOf : Held → ℕ

@@ -7,7 +7,7 @@ use borrow.Author.Tests.{le-leb, lt-ltb, le-ltb, ne-eqb, eqb-false}
 use lib.Dec.{eqb, ltb}
 use Rattle.layout.specs.declared.cells.Held.{Held}
 use Rattle.layout.specs.declared.cells.Held.the-variants.{Nothing, Units, Below}
-use Rattle.layout.specs.Cells.{none, minus, sided, sideIn, heldIn, cellOf, byteIn}
+use Rattle.layout.specs.Cells.{none, minus, sided, sideIn, heldIn, Small, cellOf, byteIn}
 
 -- a number that a row with a sign, or one without, may hold: only a sign puts it below zero, and minus zero is zero
 abbrev pub MayHold : Bool → Held → Type 0
@@ -40,12 +40,6 @@ holds-so signed cell = whole signed (eqb cell none)
     whole signed true = tt
     whole false false = tt
     whole true false = part (ltb cell minus)
-
--- an amount that every kind's range is under
-abbrev pub Small : Held → Type 0
-Small Nothing = Unit {0}
-Small (Units n) = n < minus - 2
-Small (Below n) = n < minus - 2
 
 -- what was put in a cell is read from it
 pub stored-held : (signed : Bool) (held : Held) → MayHold signed held → Small held → heldIn signed (cellOf held) ≡ held

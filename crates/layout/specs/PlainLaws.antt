@@ -8,8 +8,8 @@ use borrow.Author.Tests.{lt-ltb, le-ltb, ne-eqb}
 use Rattle.laws.specs.Order.{order, same}
 use Rattle.layout.specs.declared.cells.Held.{Held}
 use Rattle.layout.specs.declared.cells.Held.the-variants.{Nothing, Units, Below}
-use Rattle.layout.specs.Cells.{cellOf}
-use Rattle.layout.specs.CellsLaws.{MayHold, Small}
+use Rattle.layout.specs.Cells.{Small, cellOf}
+use Rattle.layout.specs.CellsLaws.{MayHold}
 use Rattle.layout.specs.Plain.{noValue, minusValue, noRoom, valueOf, heldOf}
 
 -- where the row has no sign, what a value stands for gives the value back

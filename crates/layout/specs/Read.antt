@@ -22,8 +22,7 @@ use Rattle.decimal.specs.Kinds.{price, quantity, turnover, difference}
 use Rattle.scan.specs.Read.{readAs}
 use Rattle.forms.specs.Rows.{widthOf}
 use Rattle.layout.specs.Answers.{verdictNumbers}
-use Rattle.layout.specs.Cells.{cellOf}
-use Rattle.layout.specs.CellsLaws.{Small}
+use Rattle.layout.specs.Cells.{Small, cellOf}
 
 -- 01, the table's rows 11 and 12: a number's cell, where the text is one
 abbrev pub ofNumber : Number → RowRead

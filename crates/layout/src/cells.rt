@@ -1,6 +1,5 @@
 ghost use mathlib.Core.Path.{_≡_};
-ghost use Rattle.layout.specs.Cells.{sided, sideIn, heldIn, cellOf, byteIn};
-ghost use Rattle.layout.specs.CellsLaws.{Small};
+ghost use Rattle.layout.specs.Cells.{sided, sideIn, heldIn, Small, cellOf, byteIn};
 ghost use Rattle.layout.specs.Plain.{valueOf};
 
 // What a cell holds for "none".

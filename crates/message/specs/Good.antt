@@ -19,7 +19,7 @@ use Rattle.forms.specs.Forms.{subjectOf, formsOf}
 use Rattle.head.specs.Fields.{letterOf, secondOf, lengthOf, numberOf, dataOf, sumSent, endByte, formIn, sumIn, rightSum}
 use Rattle.head.specs.GoodHead.{Framed, Coded, HasLength, HasSum, HasNumber}
 use Rattle.message.specs.Message.{messagePlace, rowsIn}
-use Rattle.message.specs.Items.{fileOf, habitOf}
+use Rattle.pairs.specs.Items.{fileOf, habitOf}
 
 -- 01, the table's rows 11 and 12: every row's field is well formed and in range: it says the cell that is kept of it
 abbrev pub GoodRows : List Row → List ℕ → Type 0

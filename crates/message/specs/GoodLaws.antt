@@ -39,8 +39,8 @@ use Rattle.message.specs.declared.body.What.{What}
 use Rattle.head.specs.declared.head.Head.{Head}
 use Rattle.head.specs.declared.head.Head.the-variants.{Good, Bad}
 use Rattle.message.specs.Message.{messagePlace, placeThere, keyPlace, rowsIn, ofNamed}
-use Rattle.message.specs.Items.{fileOf}
-use Rattle.message.specs.ItemsLaws.{sound-headers, segments-of, sound-of}
+use Rattle.pairs.specs.Items.{fileOf}
+use Rattle.pairs.specs.ItemsLaws.{sound-headers, segments-of, sound-of}
 use Rattle.message.specs.Reads.{rowsRead, ofVerdict, contentsBy, contentsOf, ofHead, messageOf}
 use Rattle.message.specs.Order.{rowRules, subjectRules, keyRules, bodyRules, messageRules}
 use Rattle.head.specs.Tests.{isSome, isFormed, isInRange}

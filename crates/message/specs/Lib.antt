@@ -2,8 +2,6 @@ pub mod CallerLaws
 pub mod FrontLaws
 pub mod Good
 pub mod GoodLaws
-pub mod Items
-pub mod ItemsLaws
 pub mod Message
 pub mod MessageLaws
 pub mod Numbers

@@ -19,7 +19,7 @@ use Rattle.message.specs.declared.body.What.{What}
 use Rattle.message.specs.declared.body.What.the-variants as what
 use Rattle.head.specs.declared.head.Fault.the-variants as fault
 use Rattle.head.specs.Fields.{dataOf}
-use Rattle.message.specs.Items.{fileOf, habitOf}
+use Rattle.pairs.specs.Items.{fileOf, habitOf}
 
 -- 01 "The message", M-100: an update tells of a contract or a pair, at a level
 abbrev pub TellsOf : Item → Form → Type 0

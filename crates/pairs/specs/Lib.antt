@@ -1,6 +1,8 @@
 pub mod ContentsLaws
 pub mod Habits
 pub mod Inner
+pub mod Items
+pub mod ItemsLaws
 pub mod Lists
 pub mod NoSpreads
 pub mod NoSpreadsLaws

@@ -10,8 +10,8 @@ use Rattle.decimal.specs.declared.Kind.{Kind}
 use Rattle.decimal.specs.DenotesLaws.{below-signed, below-some}
 use Rattle.layout.specs.declared.cells.Held.{Held}
 use Rattle.layout.specs.declared.cells.Held.the-variants.{Nothing, Units, Below}
-use Rattle.layout.specs.Cells.{minus, heldIn, cellOf}
-use Rattle.layout.specs.CellsLaws.{MayHold, Small, holds-so, stored-held}
+use Rattle.layout.specs.Cells.{minus, heldIn, Small, cellOf}
+use Rattle.layout.specs.CellsLaws.{MayHold, holds-so, stored-held}
 use Rattle.layout.specs.Plain.{noRoom, valueOf}
 use Rattle.layout.specs.PlainLaws.{held-back}
 use Rattle.layout.specs.Says.{HeldSays}

@@ -1,19 +1,16 @@
-// The public calls over lent memory: those that are made here, and those of the crates below.
-mod gaps;
-mod spreads;
-mod starting;
+// The public calls over lent memory, under one name.
 
 pub use batch::judge;
 pub use batch::take;
-pub use gaps::list_gaps;
-pub use gaps::write_off;
 pub use layout::KEY_ROWS;
+pub use listing::list_gaps;
+pub use listing::write_off;
 pub use reading::Reading;
 pub use reading::SpreadReading;
 pub use reading::read_record;
 pub use reading::read_spread;
 pub use slots::record_rows;
-pub use spreads::no_spreads;
+pub use starting::no_spreads;
 pub use starting::start;
 pub use state::Judged;
 pub use state::Listed;

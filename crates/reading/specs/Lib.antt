@@ -3,3 +3,4 @@ pub mod Record
 pub mod RecordLaws
 pub mod Reads
 pub mod ReadsLaws
+pub mod Shown

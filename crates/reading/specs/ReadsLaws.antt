@@ -10,6 +10,7 @@ use Rattle.forms.specs.declared.forms.Item.{Item}
 use Rattle.state.specs.declared.answers.Recorded.{Recorded}
 use Rattle.state.specs.declared.refusal.Refusal.{Refusal}
 use Rattle.state.specs.Answers.{answered}
+use Rattle.state.specs.AnswersLaws.{recorded-told}
 use Rattle.state.specs.Memory.{Lent}
 use Rattle.reading.specs.Record.{recordOfKey, recordNumber, recordValues, quoteAt, quoteBeside, ReadsAt}
 use Rattle.reading.specs.ReadRules.{recordRules}
@@ -39,3 +40,8 @@ module _ {A : Type 0} (show : Form → List ℕ → A) (blank : A) (item : Item)
         quotes = own .shows ∙ ap (λ (k : ℕ). quoteAt show blank item (lent .records) k level) here
             ∙ sym (ap (λ (o : Option Refusal). quoteBeside blank o (quoteAt show blank item (lent .records) at level)) e);
       }
+
+-- one outcome, of a contract's record and of a pair's
+pub one-read : {A : Type 0} {show : Form → List ℕ → A} {blank : A} {item : Item} {lent : Lent} {letter : ℕ} {key : List ℕ} {level : Level} {quote quote′ : A} (a b : Recorded)
+    → ReadsFor show blank item lent letter key level a quote → ReadsFor show blank item lent letter key level b quote′ → (a ≡ b) × (quote ≡ quote′)
+one-read a b p q = (recorded-told a b (p .answers ∙ sym (q .answers)), p .quotes ∙ sym (q .quotes))

@@ -20,8 +20,8 @@ use Rattle.forms.specs.declared.forms.Item.the-variants.{Contract, Pair}
 use Rattle.forms.specs.Forms.{namedRows, rowsOf, keyRowsOf}
 use Rattle.forms.specs.Sizes.{mostRows}
 use Rattle.head.specs.Tests.{isSome}
-use Rattle.message.specs.Items.{fileOf, habitOf}
-use Rattle.message.specs.ItemsLaws.{habit-few, header-of, segments-of}
+use Rattle.pairs.specs.Items.{fileOf, habitOf}
+use Rattle.pairs.specs.ItemsLaws.{habit-few, header-of, segments-of}
 use Rattle.message.specs.Message.{placeIn, placeThere, keyPlace}
 use Rattle.state.specs.Memory.{Lent}
 use Rattle.slots.specs.Slots.{slot}

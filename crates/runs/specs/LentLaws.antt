@@ -25,7 +25,8 @@ use Rattle.state.specs.declared.refusal.Refusal.the-variants.{List as ListOf}
 use Rattle.state.specs.Answers.{startedNumbers, judgedNumbers, listedNumbers, writtenOffNumbers, recordedNumbers}
 use Rattle.state.specs.Memory.{lends}
 use Rattle.pairs.specs.Lists.{Lists}
-use Rattle.quotebox.specs.CallPromises.{StartedBox, ListedRuns, WroteOffRun}
+use Rattle.starting.specs.StartPromises.{StartedBox}
+use Rattle.listing.specs.ListPromises.{ListedRuns, WroteOffRun}
 use Rattle.reading.specs.Reads.{ReadsFor}
 use Rattle.batch.specs.Promises.{JudgedBatch, TookBatch}
 use Rattle.state.specs.Refusals.{refusalNumbers}

@@ -1,8 +1,6 @@
 pub mod ArrayLaws
 pub mod FlatLaws
 pub mod FrontLaws
-pub mod Histories
-pub mod HistoriesLaws
 pub mod LentLaws
 pub mod Promises
 pub mod PromisesLaws

@@ -20,7 +20,8 @@ use Rattle.state.specs.Memory.{lends}
 use Rattle.batch.specs.Promises.{JudgedBatch, TookBatch}
 use Rattle.reading.specs.declared.record.SpreadReading.{SpreadReading}
 use Rattle.state.specs.declared.answers.Recorded.{Recorded}
-use Rattle.quotebox.specs.CallPromises.{StartedBox, ListedRuns, WroteOffRun}
+use Rattle.starting.specs.StartPromises.{StartedBox}
+use Rattle.listing.specs.ListPromises.{ListedRuns, WroteOffRun}
 use Rattle.reading.specs.Reads.{ReadsFor}
 use Rattle.reading.specs.Record.{blank, blankSpread}
 use Rattle.quote.specs.Quote.{quoteOf}
@@ -28,8 +29,8 @@ use Rattle.spread.specs.Spread.{spreadQuoteOf}
 use Rattle.forms.specs.declared.forms.Form.{Form}
 use Rattle.forms.specs.declared.forms.Item.{Item}
 use Rattle.forms.specs.declared.forms.Item.the-variants.{Contract, Pair}
-use Rattle.quotebox.specs.Start.{eachStarts}
-use Rattle.history.specs.Shown.{QuoteFor, shown, blankFor}
+use Rattle.starting.specs.Start.{eachStarts}
+use Rattle.reading.specs.Shown.{QuoteFor, shown, blankFor}
 use Rattle.runs.specs.declared.run.Run.{Run}
 use Rattle.runs.specs.Rows.{flat, inRuns}
 

@@ -28,16 +28,19 @@ use Rattle.turns.specs.Turns.{actedNumbers}
 use Rattle.batch.specs.Batch.{batchRules}
 use Rattle.batch.specs.Acts.{batchActs}
 use Rattle.state.specs.AnswersLaws.{started-told, judged-told, listed-told, written-off-told, recorded-told, refused-by}
-use Rattle.quotebox.specs.CallRules.{listRules, writeOffRules}
+use Rattle.listing.specs.ListRules.{listRules, writeOffRules}
 use Rattle.reading.specs.ReadRules.{recordRules}
-use Rattle.quotebox.specs.CallPromises.{StartedBox, ListedRuns, WroteOffRun}
+use Rattle.starting.specs.StartPromises.{StartedBox}
+use Rattle.listing.specs.ListPromises.{ListedRuns, WroteOffRun}
 use Rattle.reading.specs.Reads.{ReadsFor}
-use Rattle.quotebox.specs.CallPromisesLaws.{one-started, one-listed, one-written-off, one-read, start-refusal, list-refusal, off-refusal}
+use Rattle.starting.specs.StartPromisesLaws.{one-started, start-refusal}
+use Rattle.listing.specs.ListPromisesLaws.{one-listed, one-written-off, list-refusal, off-refusal}
+use Rattle.reading.specs.ReadsLaws.{one-read}
 use Rattle.state.specs.Memory.{Lent, lends, gapRowsWanted}
 use Rattle.state.specs.State.{stateRules, memoryRules, segmentRules}
 use Rattle.batch.specs.Promises.{JudgedBatch, TookBatch}
 use Rattle.state.specs.Refusals.{Rule, refusalNumbers}
-use Rattle.quotebox.specs.StartLaws.{memory-decides}
+use Rattle.starting.specs.StartLaws.{memory-decides}
 use Rattle.state.specs.StateLaws.{state-broken}
 use Rattle.batch.specs.TookLaws.{one-judged, one-took, refused-keeps}
 use Rattle.runs.specs.declared.run.Run.{Run}

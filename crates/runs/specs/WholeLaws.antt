@@ -40,15 +40,16 @@ use Rattle.batch.specs.Batch.{batchRules, batchLetter, countOf, batchData}
 use Rattle.batch.specs.Acts.{unlessBroken, batchActs, lentAfter}
 use Rattle.state.specs.Memory.{Lent, lends, gapRowOfLetter, gapRowsWanted}
 use Rattle.state.specs.MemoryRows.{withGapRowOfLetter}
-use Rattle.quotebox.specs.Calls.{listValues, runsPut, runValues, lowestRun, lentWrittenOff}
-use Rattle.quotebox.specs.CallRules.{gapsOfLetter, listRules, writeOffRules}
+use Rattle.listing.specs.ListActs.{listValues, runsPut, runValues, lowestRun, lentWrittenOff}
+use Rattle.listing.specs.ListRules.{gapsOfLetter, listRules, writeOffRules}
 use Rattle.reading.specs.ReadRules.{recordRules}
-use Rattle.quotebox.specs.CallPromises.{StartedBox, ListedRuns, WroteOffRun}
+use Rattle.starting.specs.StartPromises.{StartedBox}
+use Rattle.listing.specs.ListPromises.{ListedRuns, WroteOffRun}
 use Rattle.reading.specs.Reads.{ReadsFor}
 use Rattle.reading.specs.Record.{recordOfKey, recordNumber, recordValues, quoteAt, quoteBeside}
 use Rattle.batch.specs.Promises.{JudgedBatch, TookBatch}
-use Rattle.quotebox.specs.Start.{startRules}
-use Rattle.quotebox.specs.StartActs.{startBroken, startedRows, rowsStarted, recordsCleared, lentStarted}
+use Rattle.starting.specs.Start.{startRules}
+use Rattle.starting.specs.StartActs.{startBroken, startedRows, rowsStarted, recordsCleared, lentStarted}
 use Rattle.state.specs.State.{segmentRules}
 use Rattle.state.specs.Refusals.{Rule, refusalNumbers}
 use Rattle.runs.specs.Rows.{most}

@@ -13,7 +13,7 @@ use Rattle.forms.specs.declared.forms.Form.{Form}
 use Rattle.forms.specs.declared.forms.Item.{Item}
 use Rattle.forms.specs.declared.forms.Item.the-variants.{Contract, Pair}
 use Rattle.forms.specs.Forms.{rowsOf, recordForm, keyRowsOf}
-use Rattle.message.specs.Items.{fileOf}
+use Rattle.pairs.specs.Items.{fileOf}
 use Rattle.slots.specs.declared.records.Fronts.{Fronts}
 use Rattle.slots.specs.Slots.{Slot, slot, itemCells, levelCells}
 

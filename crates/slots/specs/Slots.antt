@@ -9,7 +9,7 @@ use Rattle.forms.specs.declared.forms.Subject.{Subject}
 use Rattle.forms.specs.declared.forms.Subject.the-variants.{Nothing, Of}
 use Rattle.forms.specs.declared.forms.Item.{Item}
 use Rattle.forms.specs.declared.forms.Item.the-variants.{Contract, Pair}
-use Rattle.message.specs.Items.{fileOf}
+use Rattle.pairs.specs.Items.{fileOf}
 
 -- 01 "What may be asked", M-100: a record's slot: that of a contract or a pair, by its segment and its place there, and of a level
 pub data Slot : Type 0 where

@@ -18,8 +18,8 @@ use Rattle.forms.specs.declared.forms.Item.the-variants.{Contract, Pair}
 use Rattle.forms.specs.Forms.{namedRows, rowsOf, recordForm, keyRowsOf}
 use Rattle.forms.specs.FormsLaws.{fits}
 use Rattle.forms.specs.Sizes.{mostRows}
-use Rattle.message.specs.Items.{fileOf}
-use Rattle.message.specs.ItemsLaws.{segments-of}
+use Rattle.pairs.specs.Items.{fileOf}
+use Rattle.pairs.specs.ItemsLaws.{segments-of}
 use Rattle.slots.specs.Slots.{Slot, slot, SlotListed, recordsWanted, levelCells, itemCells}
 use Rattle.slots.specs.Places.{slotAt, slotCells, recordOf, recordRows, recordAt, frontOf, itemsAt}
 

@@ -18,7 +18,7 @@ use Rattle.state.specs.declared.state.Checked.{Checked}
 use Rattle.state.specs.declared.state.Checked.the-variants as checked
 use Rattle.state.specs.Refusals.{refusalNumbers}
 use Rattle.state.specs.RefusalsLaws.{refusalOf, accepts, refusal-back, refusal-told, never}
-use Rattle.state.specs.Answers.{judgedNumbers, startedNumbers, listedNumbers, writtenOffNumbers, recordedNumbers, writtenNumbers, checkedNumbers, answered, checkedBy}
+use Rattle.state.specs.Answers.{judgedNumbers, startedNumbers, listedNumbers, writtenOffNumbers, recordedNumbers, writtenNumbers, checkedNumbers, answered, leftBy, checkedBy}
 
 -- ---- which rule was broken
 
@@ -113,3 +113,11 @@ written-back (Written.Refused r) = refused-back lengthAnswered Written.Refused r
 
 pub written-told : (a b : Written) → writtenNumbers a ≡ writtenNumbers b → a ≡ b
 written-told = told writtenNumbers (answerOf lengthAnswered Written.Refused) written-back
+
+-- ---- what a call leaves
+
+pub left-as : {A : Type 0} (o : Option Refusal) (r : Refusal) (before after : A) → o ≡ some r → leftBy o before after ≡ before
+left-as o r before after e = rw e
+
+pub left-new : {A : Type 0} (o : Option Refusal) (before after : A) → o ≡ none → leftBy o before after ≡ after
+left-new o before after e = rw e

@@ -23,8 +23,8 @@ use Rattle.forms.specs.Sizes.{mostRows}
 use Rattle.message.specs.declared.body.What.the-variants as what
 use Rattle.message.specs.CallerLaws.{IsUpdate, update-told, head-good, cells-stored}
 use Rattle.message.specs.Message.{Message, TellsOf, messageKey, placeIn}
-use Rattle.message.specs.Items.{fileOf, habitOf}
-use Rattle.message.specs.ItemsLaws.{habit-few, header-of, segments-of}
+use Rattle.pairs.specs.Items.{fileOf, habitOf}
+use Rattle.pairs.specs.ItemsLaws.{habit-few, header-of, segments-of}
 use Rattle.message.specs.Reads.{cellsBy, cellsRead, rowsRead, messageOf}
 use Rattle.message.specs.MessageLaws.{key-found, length-is}
 use Rattle.message.specs.Numbers.{verdictOf}

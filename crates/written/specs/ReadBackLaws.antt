@@ -55,7 +55,7 @@ use Rattle.state.specs.Memory.{Lent}
 use Rattle.slots.specs.Places.{slotAt, slotIn, recordOf, recordRows}
 use Rattle.state.specs.AnswersLaws.{recorded-told, judged-told}
 use Rattle.reading.specs.Reads.{ReadsFor}
-use Rattle.quotebox.specs.CallRules.{gapsOfLetter}
+use Rattle.listing.specs.ListRules.{gapsOfLetter}
 use Rattle.reading.specs.ReadRules.{recordRules}
 use Rattle.state.specs.GoodState.{GoodState}
 use Rattle.state.specs.StateLaws.{good-unrefused, segment-holds}

@@ -1,0 +1,5 @@
+pub mod ListRules
+pub mod ListActs
+pub mod ListPromises
+pub mod ListActsLaws
+pub mod ListPromisesLaws

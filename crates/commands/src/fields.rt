@@ -6,8 +6,8 @@ use layout::KEY_BYTES;
 use layout::Level;
 use layout::PAIR_BYTES;
 use quote::Quote;
-use quotebox::Code;
 use spread::SpreadQuote;
+use writer::Code;
 
 // As many start numbers as a command can have.
 const MOST_STARTS: usize = 255;

@@ -51,7 +51,7 @@ pub fn front_of(command: u8) -> usize {
 pub fn rows_at(item: Item, level: Level) -> usize
     ensures { λ r. ⌜ r ≤ mostRows - keyRowCount ⌝ }
 {
-    quotebox::record_rows(item, level)
+    slots::record_rows(item, level)
 }
 
 // The same by a level's byte; 0 where there is no such level.

@@ -7,19 +7,19 @@ ghost use lib.ListN.{length};
 use console::put;
 use console::put_line;
 pub use message::put_written;
-use quotebox::Judged;
-use quotebox::Listed;
-use quotebox::Refusal;
-use quotebox::Started;
-use quotebox::WrittenOff;
 pub use record::put_recorded;
+use state::Judged;
+use state::Listed;
+use state::Refusal;
+use state::Started;
+use state::WrittenOff;
 
 // `NAME refused`, the number, message, row and cells wanted.
 pub(crate) fn put_refused(page: &mut [u8], used: usize, name: &[u8], refusal: Refusal) -> usize
     requires { ⌜ used ≤ length (now page) ⌝ }
     ensures { λ r. ⌜ r ≤ length (now (page .entry)) ⌝ }
 {
-    let numbers = quotebox::refusal_numbers(refusal);
+    let numbers = state::refusal_numbers(refusal);
     put_line(page, used, name, b" refused", &numbers)
 }
 

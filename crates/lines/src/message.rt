@@ -3,7 +3,7 @@ ghost use Prim.Native.Nat.{_≤_};
 ghost use lib.ListN.{length};
 use crate::put_refused;
 use console::put;
-use quotebox::Written;
+use state::Written;
 
 // Two digits, the high one first.
 fn put_hex(page: &mut [u8], used: usize, byte: u8) -> usize

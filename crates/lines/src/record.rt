@@ -7,7 +7,7 @@ use forms::Item;
 use forms::Level;
 use forms::MOST_ROWS;
 use forms::Row;
-use quotebox::Recorded;
+use state::Recorded;
 
 // The minus of a price difference's value; the amount stands beside it.
 const MINUS: u64 = 0x8000_0000_0000_0000;
@@ -77,7 +77,7 @@ fn put_rows(
 {
     let rows = rows::rows_of(forms::record_form(item, level));
     let first = forms::key_rows_of(item);
-    let count = quotebox::record_rows(item, level);
+    let count = slots::record_rows(item, level);
     put_values(page, used, rows, first, values, count)
 }
 

@@ -14,7 +14,7 @@ use Rattle.state.specs.declared.refusal.Refusal.{Refusal}
 use Rattle.state.specs.declared.state.Checked.{Checked}
 use Rattle.state.specs.declared.state.Checked.the-variants as checks
 use Rattle.state.specs.Memory.{Lent}
-use Rattle.turns.specs.Turns.{Acted, refused, actedNumbers}
+use Rattle.turns.specs.Turns.{refused, actedNumbers}
 use Rattle.batch.specs.Batch.{batchRules, batchLetter, countOf, batchData}
 use Rattle.batch.specs.Acts.{batchActs, lentAfter}
 use Rattle.batch.specs.BatchLaws.{rule-refuses, messages-decide}

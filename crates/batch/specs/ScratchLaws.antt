@@ -1,5 +1,5 @@
 -- Laws of scratch rows: what is copied or started is one, and on one the messages of a batch do what they do.
-use Prim.Native.Nat.{ℕ, zero, suc, _+_, _*_, _≤_, _<_}
+use Prim.Native.Nat.{ℕ, zero, suc, _<_}
 use mathlib.Core.Path.{_≡_, refl, ap, ap₂, sym, _∙_}
 use mathlib.Core.Bool.{false≢true}
 use mathlib.Core.List.{List}
@@ -34,7 +34,7 @@ use Rattle.turns.specs.ActsLaws.{acts-as}
 use Rattle.state.specs.Answers.{judgedNumbers}
 use Rattle.turns.specs.Turns.{Box, acted, refused, messageActs, messagesAct, actedNumbers}
 use Rattle.batch.specs.Acts.{boxOf, lentAfter}
-use Rattle.state.specs.Memory.{lends, gapRowIn, gapRowCells, gapRowOf}
+use Rattle.state.specs.Memory.{lends, gapRowIn, gapRowOf}
 use Rattle.state.specs.MemoryRows.{withGapRowOfLetter}
 use Rattle.turns.specs.MessagesLaws.{messages-refused, not-both}
 use Rattle.state.specs.Refusals.{ofFault}

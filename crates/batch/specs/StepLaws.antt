@@ -33,7 +33,7 @@ use Rattle.forms.specs.declared.forms.Named.the-variants as is
 use Rattle.forms.specs.Forms.{subjectOf}
 use Rattle.head.specs.declared.head.Head.the-variants.{Good}
 use Rattle.message.specs.CallerLaws.{contents-good}
-use Rattle.head.specs.Fields.{formIn, lengthOf, numberOf}
+use Rattle.head.specs.Fields.{formIn, numberOf}
 use Rattle.message.specs.Message.{messagePlace, ofNamed, ofPlace, ofSubject}
 use Rattle.message.specs.Reads.{rowsRead, ofVerdict, contentsBy, messageOf}
 use Rattle.message.specs.Numbers.{verdictOf}

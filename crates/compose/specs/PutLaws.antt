@@ -9,7 +9,7 @@ use lib.ListN.{length, take, set, drop-of-length-le}
 use lib.Seq.{take-all}
 use Rattle.laws.specs.Refused.{fieldNo, rangeNo}
 use Rattle.print.specs.declared.text.Put.{Put}
-use Rattle.print.specs.Write.{Written, filled, refused, Wrote, putNumber, blankText, writtenAs}
+use Rattle.print.specs.Write.{Written, filled, refused, Wrote, putNumber}
 use Rattle.layout.specs.declared.cells.Held.{Held}
 use Rattle.forms.specs.declared.rows.Row.{Row}
 use Rattle.compose.specs.declared.write.RowPut.{RowPut}
@@ -17,7 +17,6 @@ use Rattle.compose.specs.declared.write.RowPut.the-variants.{Fits, Field
 use Rattle.decimal.specs.declared.Kind.{Kind}
 use Rattle.forms.specs.Rows.{widthOf}
 use Rattle.compose.specs.Answers.{rowPutNumber}
-use Rattle.layout.specs.Plain.{heldOf}
 use Rattle.compose.specs.Write.{PutsRow, rowText, heldText, ofWritten, writeRefusal, RowText, text, malformed, out-of-range, keyText, letterText, overFront}
 use Rattle.wire.specs.Bytes.{allPrintable}
 

@@ -17,7 +17,7 @@ use Rattle.forms.specs.Forms.{subjectOf}
 use Rattle.head.specs.Fields.{dataAt, letterOf, secondOf, lengthOf, sumSent, endByte, sumIn, rightSum, zeroSum}
 use Rattle.layout.specs.declared.read.RowRead.{RowRead}
 use Rattle.layout.specs.declared.read.RowRead.the-variants as read
-use Rattle.head.specs.declared.head.Fault.the-variants.{Field, Range, Contract}
+use Rattle.head.specs.declared.head.Fault.the-variants.{Field, Range}
 
 -- 01, the table's row 5: at least 8 bytes left, a length of at least 11 and not over what is left
 unfoldable pub framed : List ℕ → Bool

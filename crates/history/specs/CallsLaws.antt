@@ -15,9 +15,6 @@ use Rattle.forms.specs.declared.forms.Item.{Item}
 use Rattle.forms.specs.declared.forms.Item.the-variants.{Contract, Pair}
 use Rattle.pairs.specs.NoSpreads.{noSpreads}
 use Rattle.quote.specs.declared.quote.Quote.{Quote}
-use Rattle.spread.specs.declared.spread.SpreadQuote.{SpreadQuote}
-use Rattle.quote.specs.Quote.{valuesOf}
-use Rattle.spread.specs.Spread.{spreadValuesOf}
 use Rattle.sequence.specs.Gaps.{Gaps}
 use Rattle.sequence.specs.Runs.{Run}
 use Rattle.state.specs.declared.refusal.Refusal.{Refusal}
@@ -36,7 +33,7 @@ use Rattle.batch.specs.TookLaws.{answer-numbers, one-judged, one-took}
 use Rattle.writer.specs.declared.writing.Code.{Code}
 use Rattle.writer.specs.Writer.{lengthWritten}
 use Rattle.writer.specs.Chosen.{formWritten}
-use Rattle.writer.specs.WriterPromises.{WroteValues, WroteMessage, WroteSpread}
+use Rattle.writer.specs.WriterPromises.{WroteValues}
 use Rattle.writer.specs.WriterPromisesLaws.{one-written}
 use Rattle.starting.specs.StartActs.{lentStarted}
 use Rattle.listing.specs.ListActs.{listValues, runsPut, runValues, lowestRun, lentWrittenOff}
@@ -49,7 +46,7 @@ use Rattle.reading.specs.ReadsLaws.{one-read}
 use Rattle.reading.specs.Record.{recordNumber, recordOfKey, recordValues}
 use Rattle.reading.specs.Shown.{QuoteFor, ReadsItem}
 use Rattle.history.specs.Calls as calls
-use Rattle.history.specs.Calls.{Answer, started, judged, took, listed, wroteOff, read, wrote, start, judge, take, listGaps, writeOff, readRecord, writeMessage, writeSpread, withLists}
+use Rattle.history.specs.Calls.{Answer, started, judged, took, listed, wroteOff, read, wrote, start, judge, take, listGaps, writeOff, readRecord, withLists}
 use Rattle.history.specs.Step.{startRefusal, startAnswer, batchAnswer, listRefusal, listAnswer, offRefusal, removed, offAnswer, readRefusal, recordAnswer, readAnswer, readQuote, writeRefusal, writeAnswer, writeLeaves, written, noSpreadsRefusal, step}
 
 -- ---- the answers by their numbers

@@ -1,7 +1,7 @@
 -- What a message of a segment does, by what it is. Of the laws on histories this one alone looks into an update.
 use Prim.Native.Nat.{ℕ, _<_}
 use mathlib.Core.Path.{_≡_, refl, sym, ap, subst, _∙_}
-use mathlib.Core.Bool.{true, false}
+use mathlib.Core.Bool.{true}
 use mathlib.Core.List.{List}
 use mathlib.Core.Option.{Option, none, some}
 use Rattle.lookup.specs.Lookup.{segmentOf}

@@ -1,10 +1,9 @@
 -- A row's field is read as each answer exactly where what that answer says of the field is so: demand 2 for one row.
-use Prim.Native.Nat.{ℕ, _≤_, _<_}
+use Prim.Native.Nat.{ℕ}
 use mathlib.Core.Path.{_≡_, refl, sym, ap, subst, _∙_}
 use mathlib.Core.Bool.{Bool, true, false, cond, false≢true}
 use mathlib.Core.List.{List}
-use mathlib.Core.Logic.{_↔_, _⊎_, inl, inr, ⊎-elim}
-use native.Mathlib.Omega.{arith}
+use mathlib.Core.Logic.{_↔_, _⊎_, ⊎-elim}
 use Rattle.laws.specs.Choice.{clash, either}
 use Rattle.laws.specs.Tests.{eqb-is, or-is}
 use Rattle.decimal.specs.declared.Kind.{Kind}

@@ -1,9 +1,9 @@
 -- Laws of a pair's quote, its cells and its values: each gives back the other.
 use Prim.Native.Nat.{ℕ}
-use mathlib.Core.Path.{_≡_, refl, ap, sym, _∙_}
+use mathlib.Core.Path.{_≡_, ap, sym, _∙_}
 use mathlib.Core.Bool.{true, false, false≢true}
 use mathlib.Core.List.{List, _++_}
-use lib.ListN.{length, getD}
+use lib.ListN.{getD}
 use Rattle.forms.specs.declared.forms.Form.{Form}
 use Rattle.forms.specs.declared.forms.Form.the-variants.{Heartbeat, LevelOne, LevelTwo, PairOne, PairTwo}
 use Rattle.forms.specs.Names.{Name, NamedRow, buyPrice, buyQuantity, sellPrice, sellQuantity, lastPrice, tradedQuantity, openingPrice, highPrice, lowPrice, allBuyers, allSellers}

@@ -23,7 +23,7 @@ use Rattle.quote.specs.Quote.{priceOf, quantityOf, turnoverOf, next, rowNamed, 
 use Rattle.spread.specs.Spread.{differenceOf, spreadOrderIn, spreadQuoteBy, spreadQuoteOf, spreadValuesOf}
 use Rattle.slots.specs.Places.{recordRows}
 use Rattle.slots.specs.SlotsLaws.{rows-few, rows-kept}
-use Rattle.values.specs.Values.{first, most, valueRows, rowValues, spreadValues, valueAt, orderFrom, spreadOrderFrom, quoteFrom, spreadFrom, quoteIn, spreadIn}
+use Rattle.values.specs.Values.{first, most, valueRows, rowValues, spreadValues, valueAt, quoteFrom, spreadFrom, quoteIn, spreadIn}
 
 -- ---- the values of rows
 

@@ -1,10 +1,8 @@
 -- By the segment, where there is one.
-use mathlib.Core.Path.{_≡_, ap, sym, subst, _∙_}
+use mathlib.Core.Path.{_≡_, ap, sym, _∙_}
 use Prim.Native.Nat.{ℕ}
 use Rattle.laws.specs.Choice.{never}
 use Rattle.lookup.specs.Answers.{placeOf}
-use Rattle.pairs.specs.Lists.{lists}
-use Rattle.slots.specs.Places.{FrontsOf}
 use borrow.Author.Needs.{needs}
 use Rattle.batch.proofs.batch.fronts_in.Statement.{statement}
 use Rattle.batch.proofs.batch.fronts_in.Tie as tie

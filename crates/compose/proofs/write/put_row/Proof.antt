@@ -1,5 +1,5 @@
 -- Each kind of row goes to its own writer.
-use mathlib.Core.Path.{ap, sym, _∙_}
+use mathlib.Core.Path.{ap, _∙_}
 use mathlib.Core.Bool.{true, false}
 use Rattle.decimal.specs.Kinds.{price, quantity, turnover, difference}
 use Rattle.forms.specs.Rows.{widthOf}

@@ -1,7 +1,6 @@
 -- Each by what is held: an amount in some kind's range leaves room for the minus.
 use native.Mathlib.Omega.{arith}
 use borrow.Author.Needs.{needs}
-use Rattle.layout.specs.Cells.{minus, Small}
 use Rattle.layout.proofs.cells.cell_of.Statement.{statement}
 use Rattle.layout.proofs.cells.cell_of.Tie as tie
 

@@ -1,9 +1,7 @@
 -- The head, and then the contents.
 use Prim.Native.Nat.{ℕ}
 use mathlib.Core.Path.{_≡_, refl, sym, _∙_}
-use mathlib.Core.Bool.{true}
 use mathlib.Core.List.{List}
-use borrow.Author.Tests.{not-true, not-false}
 use Rattle.forms.specs.AnswersLaws.{named-told}
 use Rattle.lookup.specs.Answers.{placeOf}
 use Rattle.pairs.specs.Lists.{Lists, lists}

@@ -1,7 +1,6 @@
 -- The letter's segment first, and then the key in it.
-use Prim.Native.Nat.{ℕ, _<_}
+use Prim.Native.Nat.{ℕ}
 use mathlib.Core.Path.{_≡_, sym, ap, _∙_}
-use mathlib.Core.Option.{Option, none, some}
 use Rattle.pairs.specs.Lists.{lists}
 use Rattle.state.specs.Memory.{Lent, lends}
 use borrow.Author.Needs.{needs}

@@ -5,8 +5,7 @@ use borrow.Author.Needs.{needs}
 use borrow.Author.Tests.{le-leb, lt-leb}
 use lib.ListN.{getD}
 use Rattle.pairs.specs.Lists.{lists}
-use Rattle.files.specs.File.{segmentsOf}
-use Rattle.files.specs.FileLaws.{segments-under, before-under}
+use Rattle.files.specs.FileLaws.{segments-under}
 use Rattle.state.specs.Memory.{gapRowsWanted}
 use Rattle.slots.specs.Slots.{recordsWanted}
 use Rattle.state.proofs.state.check_memory.Statement.{statement}

@@ -130,10 +130,10 @@ fn put_row(row: Row, key: &[u8], value: u64, field: &mut [u8]) -> RowPut
         Row::Key(_) => put_key(key, field),
         Row::MarketType => put_market_type(value, field),
         Row::Status => put_status(value, field),
-        Row::Price(_) => put_number(layout::held_in(false, value), Price::KIND, field),
-        Row::Quantity(_) => put_number(layout::held_in(false, value), Quantity::KIND, field),
-        Row::Turnover(_) => put_number(layout::held_in(false, value), Turnover::KIND, field),
-        Row::Difference(_) => put_number(layout::held_in(true, value), Difference::KIND, field),
+        Row::Price(_) => put_number(layout::held_of(false, value), Price::KIND, field),
+        Row::Quantity(_) => put_number(layout::held_of(false, value), Quantity::KIND, field),
+        Row::Turnover(_) => put_number(layout::held_of(false, value), Turnover::KIND, field),
+        Row::Difference(_) => put_number(layout::held_of(true, value), Difference::KIND, field),
     }
 }
 

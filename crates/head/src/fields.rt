@@ -21,7 +21,7 @@ pub fn letter_of(bytes: &[u8]) -> u8
     wire::u8_at(bytes, 0)
 }
 
-pub fn second_of(bytes: &[u8]) -> u8
+pub(crate) fn second_of(bytes: &[u8]) -> u8
     ensures { λ r. ⌜ r ≡ secondOf (now (bytes .entry)) ⌝ }
 {
     wire::u8_at(bytes, SECOND)

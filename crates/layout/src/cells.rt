@@ -1,6 +1,6 @@
 ghost use mathlib.Core.Path.{_≡_};
 ghost use Rattle.layout.specs.Cells.{sided, sideIn, heldIn, Small, cellOf, byteIn};
-ghost use Rattle.layout.specs.Plain.{valueOf};
+ghost use Rattle.layout.specs.Plain.{valueOf, heldOf};
 
 // What a cell holds for "none".
 pub const NONE: u64 = 0xffff_ffff_ffff_ffff;
@@ -41,7 +41,6 @@ fn side_in(cell: u64) -> Held
     sided(true, cell - MINUS)
 }
 
-// Today a value stands for what a cell of the same bits holds.
 pub fn held_in(signed: bool, cell: u64) -> Held
     ensures { λ r. ⌜ r ≡ heldIn signed cell ⌝ }
 {
@@ -52,6 +51,13 @@ pub fn held_in(signed: bool, cell: u64) -> Held
         return side_in(cell);
     }
     Held::Units(cell)
+}
+
+// The number that a value stands for. Today that is what a cell of the same bits holds.
+pub fn held_of(signed: bool, value: u64) -> Held
+    ensures { λ r. ⌜ r ≡ heldOf signed value ⌝ }
+{
+    held_in(signed, value)
 }
 
 // The cell of a number that was read.

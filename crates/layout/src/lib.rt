@@ -6,6 +6,7 @@ pub use cells::Held;
 pub use cells::NONE;
 pub use cells::byte_in;
 pub use cells::held_in;
+pub use cells::held_of;
 pub use cells::sided;
 pub use cells::value_of;
 pub use forms::BARE;

@@ -40,29 +40,29 @@ pub fn say_read(asked: &[u8]) {
     }
 }
 
-fn cells_in(asked: &[u8]) -> [u64; MOST_ROWS] {
-    let mut cells = [0u64; MOST_ROWS];
-    console::u64s_at(asked, 40, &mut cells);
-    cells
+fn values_in(asked: &[u8]) -> [u64; MOST_ROWS] {
+    let mut values = [0u64; MOST_ROWS];
+    console::u64s_at(asked, 40, &mut values);
+    values
 }
 
-fn say_data(form: Form, key: &[u8], cells: &[u64; MOST_ROWS], data: &mut [u8]) {
-    match compose::write_update(form, key, cells, data) {
+fn say_data(form: Form, key: &[u8], values: &[u64; MOST_ROWS], data: &mut [u8]) {
+    match compose::write_update(form, key, values, data) {
         Verdict::Good => say_bytes(data),
         Verdict::Field(row) => say_with(b"field ", row as u64),
         Verdict::Range(row) => say_with(b"range ", row as u64),
     }
 }
 
-// A level's byte, a key of 39 bytes, and 37 cells of eight.
+// A level's byte, a key of 39 bytes, and 37 values of eight.
 pub fn say_written(asked: &[u8], data: &mut [u8]) {
     if asked.len() < 40 {
         return;
     }
     let level = asked[0];
     let size = layout::data_length(form_of(level));
-    let cells = cells_in(asked);
+    let values = values_in(asked);
     if size <= data.len() {
-        say_data(form_of(level), &asked[1..40], &cells, &mut data[0..size]);
+        say_data(form_of(level), &asked[1..40], &values, &mut data[0..size]);
     }
 }

@@ -33,28 +33,28 @@ unfolding rowText
 returns-4 c =
     let told = c .before .before .before .before .before in
     let s = told .before .before .before .before in
-    puts-number (s .args .row) (s .args .key .now) (s .args .value) (heldOf false (s .args .value)) price (s .pre) (rw (told .enum-told4 .given .1)) (rw (c .before .before .before .before .held-in .ensures) at (c .before .before .put-number .ensures))
+    puts-number (s .args .row) (s .args .key .now) (s .args .value) (heldOf false (s .args .value)) price (s .pre) (rw (told .enum-told4 .given .1)) (rw (c .before .before .before .before .held-of .ensures) at (c .before .before .put-number .ensures))
 
 returns-5 : tie.Need-returns-5
 unfolding rowText
 returns-5 c =
     let told = c .before .before .before .before .before in
     let s = told .before .before .before .before in
-    puts-number (s .args .row) (s .args .key .now) (s .args .value) (heldOf false (s .args .value)) quantity (s .pre) (rw (told .enum-told5 .given .1)) (rw (c .before .before .before .before .held-in2 .ensures) at (c .before .before .put-number2 .ensures))
+    puts-number (s .args .row) (s .args .key .now) (s .args .value) (heldOf false (s .args .value)) quantity (s .pre) (rw (told .enum-told5 .given .1)) (rw (c .before .before .before .before .held-of2 .ensures) at (c .before .before .put-number2 .ensures))
 
 returns-6 : tie.Need-returns-6
 unfolding rowText
 returns-6 c =
     let told = c .before .before .before .before .before in
     let s = told .before .before .before .before in
-    puts-number (s .args .row) (s .args .key .now) (s .args .value) (heldOf false (s .args .value)) turnover (s .pre) (rw (told .enum-told6 .given .1)) (rw (c .before .before .before .before .held-in3 .ensures) at (c .before .before .put-number3 .ensures))
+    puts-number (s .args .row) (s .args .key .now) (s .args .value) (heldOf false (s .args .value)) turnover (s .pre) (rw (told .enum-told6 .given .1)) (rw (c .before .before .before .before .held-of3 .ensures) at (c .before .before .put-number3 .ensures))
 
 returns-7 : tie.Need-returns-7
 unfolding rowText
 returns-7 c =
     let told = c .before .before .before .before .before in
     let s = told .before .before .before .before in
-    puts-number (s .args .row) (s .args .key .now) (s .args .value) (heldOf true (s .args .value)) difference (s .pre) (rw (told .enum-told7 .given .1)) (rw (c .before .before .before .before .held-in4 .ensures) at (c .before .before .put-number4 .ensures))
+    puts-number (s .args .row) (s .args .key .now) (s .args .value) (heldOf true (s .args .value)) difference (s .pre) (rw (told .enum-told7 .given .1)) (rw (c .before .before .before .before .held-of4 .ensures) at (c .before .before .put-number4 .ensures))
 
 pub put-row-spec : {M : Type 1} → statement M
 put-row-spec =

@@ -160,13 +160,25 @@ fn with_minus(text: &str) -> Vec<String> {
     all
 }
 
-fn sums_and_numbers(asked: &mut Asked, r: &mut Random, numbers: usize) {
+// Texts of every length, and each bit of texts with and without bytes behind their last whole word: the sum is linear, so a step
+// that treats one bit wrongly shows in these.
+fn sums(asked: &mut Asked, r: &mut Random) {
     for length in 0..=600usize {
         for _ in 0..17 {
             let text: Vec<u8> = (0..length).map(|_| r.next() as u8).collect();
             asked.sum(&text);
         }
     }
+    for length in [96usize, 103] {
+        for bit in 0..8 * length {
+            let mut text = vec![0u8; length];
+            text[bit / 8] = 128 >> (bit % 8);
+            asked.sum(&text);
+        }
+    }
+}
+
+fn numbers_in_text(asked: &mut Asked, r: &mut Random, numbers: usize) {
     let (short, long) = (short_texts(), long_texts());
     for of in KINDS {
         short.iter().chain(&long).for_each(|text| asked.read(of, text));
@@ -413,7 +425,8 @@ fn rows(asked: &mut Asked, r: &mut Random, count: usize) {
 fn all_asked(seed: u64, times: usize) -> Asked {
     let mut r = Random::new(seed);
     let mut asked = Asked { asks: vec![], lines: vec![], checks: vec![] };
-    sums_and_numbers(&mut asked, &mut r, 100_000 * times);
+    sums(&mut asked, &mut r);
+    numbers_in_text(&mut asked, &mut r, 100_000 * times);
     lists(&mut asked, &mut r, 1_000 * times);
     spreads(&mut asked, &mut r, 1_000 * times);
     sequences(&mut asked, &mut r, 100 * times);

@@ -5,7 +5,7 @@ use mathlib.Core.Path.{_≡_, refl}
 use mathlib.Core.List.{List, [], _∷_, _++_, map}
 use lib.ListN.{replicate}
 use Rattle.laws.specs.Texts.{codes}
-use Rattle.wire.specs.Checksum.{bitStep, byteStep}
+use Rattle.accumulator.specs.Accumulator.{bitStep, byteStep}
 use Rattle.scan.specs.Read.{readAs, step, walk}
 use Rattle.files.specs.File.{segmentsOf, letterAt, countAt, offsetAt, keyFrom}
 use Rattle.lookup.specs.Halving.{halvedIn}

@@ -8,7 +8,8 @@ use mathlib.Core.List.{List, [], _∷_, _++_, map}
 use mathlib.Core.Option.{some}
 use lib.ListN.{length, replicate, drop, set}
 use Rattle.laws.specs.Texts.{codes}
-use Rattle.wire.specs.Checksum.{bitStep, byteStep, sumOf, checksumOf}
+use Rattle.accumulator.specs.Accumulator.{bitStep, byteStep}
+use Rattle.wire.specs.Checksum.{sumOf, checksumOf}
 use Rattle.scan.specs.Answers.{numberNumbers}
 use Rattle.decimal.specs.Kinds.{price}
 use Rattle.scan.specs.Read.{readAs, step, walk}

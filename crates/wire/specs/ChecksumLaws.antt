@@ -1,66 +1,59 @@
--- Laws of the checksum: a byte's bits seen at the top of sixteen, and a text's sum one byte at a time.
-use Prim.Native.Nat.{ℕ, suc, _+_, _-_, _*_, _/_, _%_, _^_, _≤_, _<_}
-use mathlib.Core.Path.{_≡_, ap, sym, _∙_}
+-- Laws of the checksum: a text's sum one byte and eight bytes at a time, and the reserved bytes.
+use Prim.Native.Nat.{ℕ, zero, suc, _+_, _-_, _*_, _^_, _≤_, _<_}
+use mathlib.Core.Path.{_≡_, refl, sym}
 use mathlib.Core.Logic.{_⊎_, inl, inr}
-use mathlib.Core.List.{List}
+use mathlib.Core.List.{List, [], _∷_, _++_}
 use native.Mathlib.Omega.{arith}
-use native.Mathlib.Nat.{mul-div-mul-right, mul-mod-left, add-zero, mul-add, two-pow-succ}
-use lib.Arith.{mod-mul}
-use lib.ListN.{length, getD, drop}
-use lib.Seq.{drop-cons}
-use lib.Pow.{pow-add, pow-pos, field, mod-mod-pow, shl-shr}
+use native.Mathlib.Numerals.{add-one}
+use native.Mathlib.Nat.{pow-suc}
+use lib.ListN.{length, getD, take, drop, length-drop}
+use lib.Seq.{drop-cons, getD-drop, take-add}
+use lib.Pow.{pow-add}
 use borrow.Author.Tests.{ne-eqb}
-use Rattle.wire.specs.Checksum.{bits, bitStep, bitSteps, byteStep, sumFrom, lowered}
-
-one-more : (k : ℕ) → 1 + k ≡ suc k
-one-more k = omega arith
-
--- where the lowest m + 1 bits of a byte stand at the top of sixteen, the highest of them is the top bit
-top-bit : (byte m j : ℕ) → m + j ≡ 15 → byte % 2 ^ suc m * 2 ^ j / 2 ^ 15 ≡ byte / 2 ^ m % 2
-top-bit byte m j whole =
-    let split : 2 ^ 15 ≡ 2 ^ m * 2 ^ j = ap (λ (k : ℕ). 2 ^ k) (sym whole) ∙ pow-add 2 m j in
-    rw (split, mul-div-mul-right (byte % 2 ^ suc m) (2 ^ m) (pow-pos j), ← one-more m) (field byte 1 m)
-
--- doubled in sixteen bits, the bits below it come to the top
-next-bits : (byte m j : ℕ) → m + j ≡ 15
-    → (byte % 2 ^ suc m * 2 ^ j + byte % 2 ^ suc m * 2 ^ j) % 2 ^ 16 ≡ byte % 2 ^ m * 2 ^ suc j
-next-bits byte m j whole =
-    let x : ℕ = byte % 2 ^ suc m in
-    let c : ℕ = 2 ^ suc j in
-    let twice : x * 2 ^ j + x * 2 ^ j ≡ x * c = sym (mul-add x (2 ^ j) (2 ^ j)) ∙ ap (λ (k : ℕ). x * k) (sym (two-pow-succ j)) in
-    let sixteen : m + suc j ≡ 16 = omega (arith, whole) in
-    let split : 2 ^ 16 ≡ 2 ^ m * c = ap (λ (k : ℕ). 2 ^ k) (sym sixteen) ∙ pow-add 2 m (suc j) in
-    let low : x % 2 ^ m ≡ byte % 2 ^ m = rw (← one-more m) (mod-mod-pow byte 1 m) in
-    rw (twice, split, mod-mul (x * c) (pow-pos m) (pow-pos (suc j)), shl-shr x (suc j), mul-mod-left x c, low)
-    (add-zero _)
-
--- after k bits of a byte those that are left stand at the top of `d`
-abbrev pub AtTop : ℕ → ℕ → ℕ → Type 0
-AtTop byte k d = d ≡ byte % 2 ^ (8 - k) * 2 ^ (8 + k)
-
-module _ (byte k d : ℕ) (some-left : k < 8) (at-top : AtTop byte k d) where
-  left : 8 - k ≡ suc (7 - k)
-  left = omega arith
-
-  fewer : 8 - (k + 1) ≡ 7 - k
-  fewer = omega arith
-
-  whole : 7 - k + (8 + k) ≡ 15
-  whole = omega arith
-
-  pub doubled-top : AtTop byte (k + 1) ((d + d) % 2 ^ 16)
-  doubled-top =
-      let e : 8 + (k + 1) ≡ suc (8 + k) = omega arith in
-      rw (fewer, e, at-top, left) (next-bits byte (7 - k) (8 + k) whole)
-
-  pub one-bit : (acc : ℕ)
-      → bitSteps acc (bits (8 - k) byte) ≡ bitSteps (bitStep acc (d / 2 ^ 15)) (bits (8 - (k + 1)) byte)
-  one-bit acc = rw (fewer, at-top, left, top-bit byte (7 - k) (8 + k) whole)
+use Rattle.accumulator.specs.Accumulator.{byteStep}
+use Rattle.accumulator.specs.Words.{wordStep}
+use Rattle.accumulator.specs.Linear.{step-joined}
+use Rattle.accumulator.specs.WordsLaws.{no-bits, byte-word}
+use Rattle.wire.specs.Checksum.{sumFrom, sumOf, lowered}
+use Rattle.wire.specs.Number.{numberAt}
+use Rattle.wire.specs.NumberLaws.{number-under, number-of-front}
 
 -- the sum from the front: one byte, then those behind it
 pub sum-on : (text : List ℕ) (i acc : ℕ) → i < length text
     → sumFrom acc (drop i text) ≡ sumFrom (byteStep acc (getD text i 0)) (drop (suc i) text)
 sum-on text i acc h = rw (drop-cons text i 0 h)
+
+pub sum-joined : (front rest : List ℕ) (acc : ℕ) → sumFrom acc (front ++ rest) ≡ sumFrom (sumFrom acc front) rest
+sum-joined [] rest acc = refl
+sum-joined (b ∷ bs) rest acc = sum-joined bs rest (byteStep acc b)
+
+byte-bits : (w : ℕ) → 256 ^ w ≡ 2 ^ (8 * w)
+byte-bits zero = refl
+byte-bits (suc w) =
+    let e : 8 * suc w ≡ 8 * w + 8 = omega arith in
+    rw (e, pow-suc 256 w, pow-add 2 (8 * w) 8, byte-bits w)
+
+-- the sum of so many bytes is that of the word that they are
+module _ (text : List ℕ) (byte : (i : ℕ) → getD text i 0 < 256) where
+  pub sum-of-word : (w at acc : ℕ) → at + w ≤ length text
+      → sumFrom acc (take w (drop at text)) ≡ wordStep (8 * w) acc (numberAt w text at)
+  sum-of-word zero at acc h = sym (no-bits acc 0)
+  sum-of-word (suc w) at acc h =
+      let b : ℕ = getD text at 0 in
+      let rest : ℕ = numberAt w text (at + 1) in
+      let under : rest < 2 ^ (8 * w) = rw (← byte-bits w) (number-under text byte w (at + 1)) in
+      let e : 8 * suc w ≡ 8 + 8 * w = omega arith in
+      rw (drop-cons text at 0 (omega arith), e, byte-bits w, step-joined 8 (8 * w) acc b rest under, ← byte-word acc b, ← add-one at)
+      (sum-of-word w (at + 1) (byteStep acc b) (omega arith))
+
+-- the sum of a text's front grows by the word behind it
+pub sum-eight : (text : List ℕ) → ((i : ℕ) → getD text i 0 < 256) → (i : ℕ) → i + 8 ≤ length text
+    → sumOf (take (i + 8) text) ≡ wordStep 64 (sumOf (take i text)) (numberAt 8 (take 8 (drop i text)) 0)
+sum-eight text byte i h =
+    let rest : List ℕ = drop i text in
+    let byte′ : (j : ℕ) → getD rest j 0 < 256 = λ j. rw (getD-drop i text j 0) (byte (i + j)) in
+    rw (take-add i 8 text, sum-joined (take i text) (take 8 rest) 0, number-of-front 8 8 rest 0 (omega arith))
+    (sum-of-word rest byte′ 8 0 (sumOf (take i text)) (rw (length-drop i text) (omega arith)))
 
 -- 01 "The checksum": 10, 13, 17 and 19
 abbrev pub Reserved : ℕ → Type 0

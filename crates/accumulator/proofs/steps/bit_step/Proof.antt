@@ -1,9 +1,9 @@
 -- The test is the one of the definition, and so is each side.
-use Rattle.wire.specs.Checksum.{bitStep}
+use Rattle.accumulator.specs.Accumulator.{bitStep}
 use borrow.Author.Tests.{eq-eqb, ne-eqb}
 use borrow.Author.Needs.{needs}
-use Rattle.wire.proofs.checksum.bit_step.Statement.{statement}
-use Rattle.wire.proofs.checksum.bit_step.Tie as tie
+use Rattle.accumulator.proofs.steps.bit_step.Statement.{statement}
+use Rattle.accumulator.proofs.steps.bit_step.Tie as tie
 
 returns : tie.Need-returns
 unfolding bitStep

@@ -2,10 +2,10 @@
 use Prim.Native.Nat.{ℕ, _≤_, _-_, _+_}
 use mathlib.Core.Path.{_≡_, refl, ap, sym, _∙_}
 use native.Mathlib.Omega.{arith}
-use Rattle.wire.specs.Checksum.{bits, bitSteps, byteStep}
-use Rattle.wire.specs.ChecksumLaws.{AtTop, doubled-top, one-bit}
-use Rattle.wire.proofs.checksum.byte_step.Statement.{statement}
-use Rattle.wire.proofs.checksum.byte_step.Tie as tie
+use Rattle.accumulator.specs.Accumulator.{bits, bitSteps, byteStep}
+use Rattle.accumulator.specs.StepsLaws.{AtTop, doubled-top, one-bit}
+use Rattle.accumulator.proofs.steps.byte_step.Statement.{statement}
+use Rattle.accumulator.proofs.steps.byte_step.Tie as tie
 
 abbrev Inv-loop : tie.InvT-loop
 Inv-loop acc byte a₀ d₀ k₀ a d k =

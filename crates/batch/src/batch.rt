@@ -30,14 +30,18 @@ const MOST_DATA: usize = 32767;
 // The bytes of a pair's level 1 update, the shortest.
 const LEAST_UPDATE: usize = 227;
 
-// The updates whose stores find room in the scratch memory of a short batch.
+// The updates whose stores find room in the scratch memory of a short batch, and of a longer one.
 const FEW: usize = 4;
+
+const SOME: usize = 24;
 
 // The updates that the longest data can hold.
 const MOST: usize = MOST_DATA / LEAST_UPDATE;
 
-// Data under so many bytes holds a few updates at most.
-const MANY_DATA: usize = (FEW + 1) * LEAST_UPDATE;
+// Data under so many bytes holds a few updates at most, or some.
+const SOME_DATA: usize = (FEW + 1) * LEAST_UPDATE;
+
+const MANY_DATA: usize = (SOME + 1) * LEAST_UPDATE;
 
 // Under 5 bytes (1), flag (2, 3), the rest of 1, no messages (4).
 fn check(batch: &[u8]) -> Checked
@@ -164,8 +168,8 @@ fn take_on(
     answer
 }
 
-// Scratch memory is cleared before it is used, so a short batch gets little, and one too short for an update, as heartbeats are
-// sent, has no room for a store.
+// Scratch memory is cleared before it is used, so a batch gets the less the shorter it is, and one too short for an update, as
+// heartbeats are sent, has no room for a store.
 fn take_data(
     list: &[u8],
     spreads: &[u8],
@@ -181,9 +185,13 @@ fn take_data(
         let mut none = [0u64; 1];
         return take_on(list, spreads, rows, records, &mut none, data, count);
     }
-    if data.len() < MANY_DATA {
+    if data.len() < SOME_DATA {
         let mut few = [0u64; FEW * stores::STORE];
         return take_on(list, spreads, rows, records, &mut few, data, count);
+    }
+    if data.len() < MANY_DATA {
+        let mut some = [0u64; SOME * stores::STORE];
+        return take_on(list, spreads, rows, records, &mut some, data, count);
     }
     let mut most = [0u64; MOST * stores::STORE];
     take_on(list, spreads, rows, records, &mut most, data, count)

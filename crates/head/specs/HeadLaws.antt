@@ -24,7 +24,7 @@ use Rattle.forms.specs.declared.forms.Sum.the-variants.{Zero, Right, RightOrZer
 use Rattle.forms.specs.Sizes.{bareLength}
 use Rattle.forms.specs.Rows.{messageLength}
 use Rattle.forms.specs.Forms.{rowsOf, subjectOf, formsOf, ofLength, namedBy, formOf}
-use Rattle.forms.specs.FormsLaws.{told-form, sum-by-form}
+use Rattle.forms.specs.FormsLaws.{told-form, sum-by-form, nothing-zero}
 use Rattle.forms.specs.Inner.{sumNamed}
 use Rattle.head.specs.declared.head.Fault.{Fault}
 use Rattle.head.specs.declared.head.Head.{Head}
@@ -34,7 +34,7 @@ use Rattle.head.specs.RulesLaws.{good-hold, andThen, first-append}
 use Rattle.head.specs.GoodHead.{Framed, Coded, LetterListed, HasLength, HasSum, NumberFor, HasNumber}
 use Rattle.head.specs.Fields.{dataAt, letterOf, secondOf, lengthOf, sumSent, endByte, formIn, sumIn, rightSum, zeroSum}
 use Rattle.head.specs.Head.{frameRules, formRules}
-use Rattle.head.specs.Tests.{framed, isCapital, coded, trailed, takesLength, summed, takesSum, numbersSubject, takesNumber, isSome, sameBytes}
+use Rattle.head.specs.Tests.{framed, isCapital, coded, trailed, takesLength, summed, takesSum, numbersSubject, takesNumber, tellsNothing, isHeartbeat, isSome, sameBytes}
 
 -- 5
 pub framed-exact : (bytes : List ℕ) → framed bytes ≡ true ↔ Framed bytes
@@ -188,3 +188,29 @@ pub sum-of-form : (bytes : List ℕ) (named : Named) → named ≡ formIn bytes 
 unfolding sumIn formIn
 sum-of-form bytes named e t =
     rw e (sum-by-form (letterOf bytes) (secondOf bytes) (lengthOf bytes) (λ none. false≢true (ap takesLength (sym (e ∙ none)) ∙ t)))
+
+-- what is named a heartbeat is a form that tells of nothing
+pub heartbeat-form : (named : Named) → isHeartbeat named ≡ true → (form : Form) × (named ≡ is.Form form) × (subjectOf form ≡ Nothing)
+heartbeat-form (is.Form form) e = (form, refl, nothing (subjectOf form) e)
+  where
+    nothing : (subject : Subject) → tellsNothing subject ≡ true → subject ≡ Nothing
+    nothing Nothing e = refl
+    nothing (Of item level) e = absurd (false≢true e)
+heartbeat-form is.NoLength e = absurd (false≢true e)
+heartbeat-form is.PassedOver e = absurd (false≢true e)
+
+-- 8 to 10 of a heartbeat: its sum and its number are zero
+module _ (bytes : List ℕ) (e : isHeartbeat (formIn bytes) ≡ true) where
+  pub heartbeat-length : takesLength (formIn bytes) ≡ true
+  heartbeat-length = rw (heartbeat-form (formIn bytes) e .1)
+
+  pub heartbeat-sum : summed bytes ≡ sameBytes (sumSent bytes) zeroSum
+  unfolding summed
+  heartbeat-sum =
+      let (form, named, nothing) = heartbeat-form (formIn bytes) e in
+      rw (sum-of-form bytes (is.Form form) (sym named) refl, nothing-zero form nothing)
+
+  pub heartbeat-number : (number : ℕ) → takesNumber (formIn bytes) number ≡ eqb number 0
+  heartbeat-number number =
+      let (form, named, nothing) = heartbeat-form (formIn bytes) e in
+      rw (named, nothing)

@@ -75,6 +75,17 @@ takesNumber (is.Form form) number = numbersSubject (subjectOf form) number
 takesNumber is.NoLength number = leb 1 number
 takesNumber is.PassedOver number = leb 1 number
 
+-- 01 "The message": a heartbeat tells of nothing
+abbrev pub tellsNothing : Subject → Bool
+tellsNothing Nothing = true
+tellsNothing (Of item level) = false
+
+-- 01 "The message": whether what is named is a heartbeat
+abbrev pub isHeartbeat : Named → Bool
+isHeartbeat (is.Form form) = tellsNothing (subjectOf form)
+isHeartbeat is.NoLength = false
+isHeartbeat is.PassedOver = false
+
 -- 01, the table's row 11: well formed
 abbrev pub isFormed : RowRead → Bool
 isFormed (read.Cell cell) = true

@@ -6,7 +6,7 @@ ghost use Rattle.lookup.specs.Answers.{placeOf};
 ghost use Rattle.head.specs.GoodHead.{Framed};
 ghost use Rattle.head.specs.Fields.{lengthOf, formIn, sumSent, rightSum};
 ghost use Rattle.head.specs.Head.{frameRules, formRules};
-ghost use Rattle.head.specs.Tests.{framed, isCapital, coded, trailed, takesLength, summed, numbersSubject, takesNumber, sameBytes};
+ghost use Rattle.head.specs.Tests.{framed, isCapital, coded, trailed, takesLength, summed, numbersSubject, takesNumber, isHeartbeat, sameBytes};
 ghost use Rattle.head.specs.Faults.{headNumbers};
 ghost use Rattle.head.specs.Rules.{firstFault};
 use crate::fields;
@@ -145,6 +145,19 @@ pub fn takes_number(named: Named, number: u32) -> bool
     }
 }
 
+pub fn is_heartbeat(named: Named) -> bool
+    ensures { λ r. ⌜ r ≡ isHeartbeat named ⌝ }
+{
+    match named {
+        Named::Form(form) => match layout::subject_of(form) {
+            Subject::Nothing => true,
+            Subject::Of(_, _) => false,
+        },
+        Named::NoLength => false,
+        Named::PassedOver => false,
+    }
+}
+
 // The rules 5 to 7 in turn: the first broken one decides.
 pub fn judge_frame(letter: u8, segment: Found, bytes: &[u8]) -> Head
     ensures { λ r. ⌜ headNumbers r ≡ headNumbers (firstFault (frameRules letter (placeOf segment) (now (bytes .entry)))) ⌝ }
@@ -173,6 +186,20 @@ pub fn judge_form(bytes: &[u8], named: Named) -> Head
         return Head::Bad(Fault::Checksum);
     }
     if !takes_number(named, fields::number_of(bytes)) {
+        return Head::Bad(Fault::Numbering);
+    }
+    Head::Good
+}
+
+// The same for a heartbeat, of which both sum and number are zero: it needs no other word of the table.
+pub fn judge_heartbeat(bytes: &[u8]) -> Head
+    requires { ⌜ (framed (now bytes) ≡ true) × (isHeartbeat (formIn (now bytes)) ≡ true) ⌝ }
+    ensures { λ r. ⌜ headNumbers r ≡ headNumbers (firstFault (formRules (now (bytes .entry)))) ⌝ }
+{
+    if !carries(bytes, fields::length_of(bytes), 0, 0) {
+        return Head::Bad(Fault::Checksum);
+    }
+    if fields::number_of(bytes) != 0 {
         return Head::Bad(Fault::Numbering);
     }
     Head::Good

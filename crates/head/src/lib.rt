@@ -10,6 +10,8 @@ pub use fields::letter_of;
 pub use fields::number_of;
 pub use head::Fault;
 pub use head::Head;
+pub use head::is_heartbeat;
 pub use head::judge_form;
 pub use head::judge_frame;
+pub use head::judge_heartbeat;
 pub use head::takes_number;

@@ -24,10 +24,13 @@ use Rattle.head.specs.declared.head.Fault.{Fault}
 use Rattle.head.specs.declared.head.Head.{Head}
 use Rattle.head.specs.declared.head.Head.the-variants as head
 use Rattle.head.specs.Fields.{formIn, lengthOf, numberOf, dataOf}
-use Rattle.head.specs.Rules.{headOf}
+use Rattle.head.specs.Faults.{headNumbers}
+use Rattle.head.specs.FaultsLaws.{head-told}
+use Rattle.head.specs.Head.{formRules}
+use Rattle.head.specs.Rules.{headOf, firstFault}
 use Rattle.message.specs.NumbersLaws.{what-told}
 use Rattle.message.specs.Message.{Message, TellsOf, placeIn, placeThere, placesThere, messageKey, messagePlace, keyPlace, ofPlace}
-use Rattle.message.specs.Reads.{Outlines, rowsRead, ofVerdict, bare, contentsBy, contentsOf, messageOf, ReadsMessage}
+use Rattle.message.specs.Reads.{Outlines, rowsRead, ofVerdict, bare, contentsBy, contentsOf, messageOf, ReadsMessage, ReadsFormed}
 
 module _ (item : Item) (lists : Lists) (letter : ℕ) where
   -- a key is looked up in the segment of its letter, where there is one
@@ -96,6 +99,19 @@ module _ (place : Item → Option ℕ) (bytes : List ℕ) (whole : ℕ) (long : 
         → contentsBy place bytes ≡ record { what = w; length = whole; cells = zerosBehind (read .cells) }
     unfolding contentsBy
     update-is read same what-is = rw (long, e, s .1, same, what-is)
+
+-- a message with a good frame, by what the rest of its head was judged
+module _ (place : Item → Option ℕ) (bytes cells : List ℕ) (judged : Head) (told : headNumbers judged ≡ headNumbers (firstFault (formRules bytes))) where
+  form-is : {h : Head} → judged ≡ h → firstFault (formRules bytes) ≡ h
+  form-is e = sym (head-told judged (firstFault (formRules bytes)) told) ∙ e
+
+  pub good-form : {answer : Outline} {cells′ : List ℕ} → judged ≡ head.Good → ReadsMessage (contentsBy place bytes) (rowsRead bytes .cells) cells answer cells′
+      → ReadsFormed place bytes cells answer cells′
+  good-form e reads = rw (form-is e) reads
+
+  pub bad-form : {answer : Outline} {f : Fault} → judged ≡ head.Bad f → Outlines (bare (what.Bad f) (lengthOf bytes)) answer
+      → ReadsFormed place bytes cells answer cells
+  bad-form e outlines = rw (form-is e) (record { told = outlines; stored = refl })
 
 module _ (lists : Lists) (letter : ℕ) (bytes : List ℕ) where
   abbrev headHere : Head

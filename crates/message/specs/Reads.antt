@@ -19,7 +19,8 @@ use Rattle.head.specs.declared.head.Fault.the-variants as fault
 use Rattle.head.specs.declared.head.Head.{Head}
 use Rattle.head.specs.declared.head.Head.the-variants as head
 use Rattle.head.specs.Fields.{formIn, lengthOf, numberOf, dataOf}
-use Rattle.head.specs.Rules.{headOf}
+use Rattle.head.specs.Head.{formRules}
+use Rattle.head.specs.Rules.{headOf, firstFault}
 use Rattle.message.specs.Numbers.{TellsWhat}
 use Rattle.message.specs.Message.{Message, messagePlace, ofNamed, rowsIn}
 
@@ -78,3 +79,9 @@ pub record Outlines (message : Message) (answer : Outline) : Type 0 where
 pub record ReadsMessage (message : Message) (read cells : List ℕ) (answer : Outline) (cells′ : List ℕ) : Type 0 where
   pub told : Outlines message answer
   pub stored : cells′ ≡ sets cells 0 read
+
+-- lent memory: the same of a message whose frame, code and trailer are good, by the rest of its head
+abbrev pub ReadsFormed : (Item → Option ℕ) → List ℕ → List ℕ → Outline → List ℕ → Type 0
+ReadsFormed place bytes cells answer cells′ =
+    let head : Head = firstFault (formRules bytes) in
+    ReadsMessage (ofHead head (lengthOf bytes) (contentsBy place bytes)) (cellsBy head bytes) cells answer cells′

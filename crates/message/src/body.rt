@@ -1,6 +1,9 @@
 // What a message is: all of its checks, 5 to 13.
 ghost use mathlib.Core.Path.{_≡_};
 ghost use mathlib.Core.Bool.{true};
+ghost use mathlib.Core.List.{List};
+ghost use mathlib.Core.Option.{Option};
+ghost use Prim.Native.Nat.{ℕ};
 ghost use lib.ListN.{take};
 ghost use Rattle.laws.specs.Refused.{contractNo};
 ghost use Rattle.lookup.specs.Answers.{placeOf, foundNumbers, lookedUp};
@@ -9,12 +12,10 @@ ghost use Rattle.lookup.specs.Lookup.{segmentOf};
 ghost use Rattle.forms.specs.Forms.{keyBytesOf};
 ghost use Rattle.head.specs.GoodHead.{Framed};
 ghost use Rattle.head.specs.Fields.{lengthOf, formIn};
-ghost use Rattle.head.specs.Head.{formRules};
-ghost use Rattle.head.specs.Tests.{framed};
+ghost use Rattle.head.specs.Tests.{framed, isHeartbeat};
 ghost use Rattle.message.specs.Message.{TellsOf, placeThere, placesThere, ofPlace};
-ghost use Rattle.message.specs.Reads.{rowsRead, cellsBy, cellsRead, contentsBy, bare, ofHead, messageOf, Outlines, ReadsMessage};
+ghost use Rattle.message.specs.Reads.{rowsRead, cellsRead, contentsBy, bare, messageOf, Outlines, ReadsMessage, ReadsFormed};
 ghost use Rattle.message.specs.Numbers.{TellsWhat};
-ghost use Rattle.head.specs.Rules.{firstFault};
 use head::Fault;
 use head::Head;
 use layout::Form;
@@ -150,7 +151,21 @@ fn bad(fault: Fault, bytes: &[u8]) -> Outline
     }
 }
 
-// A message with a good frame, code and trailer, by its form.
+// A heartbeat with a good frame, code and trailer: nothing is stored.
+fn heartbeat(bytes: &[u8]) -> Outline
+    requires { ⌜ (framed (now bytes) ≡ true) × (isHeartbeat (formIn (now bytes)) ≡ true) ⌝ }
+    ensures { λ r. ⌜ ((place : Item → Option ℕ) (cells : List ℕ) → ReadsFormed place (now (bytes .entry)) cells r cells) ⌝ }
+{
+    match head::judge_heartbeat(bytes) {
+        Head::Good => Outline {
+            what: What::Heartbeat,
+            length: head::length_of(bytes),
+        },
+        Head::Bad(fault) => bad(fault, bytes),
+    }
+}
+
+// A message with a good frame, code and trailer, by its form. Most messages of a quiet line are heartbeats, and theirs is the short way.
 fn formed(
     list: &[u8],
     spreads: &[u8],
@@ -160,8 +175,11 @@ fn formed(
     cells: &mut [u64; MOST_ROWS],
 ) -> Outline
     requires { ⌜ (framed (now bytes) ≡ true) × (named ≡ formIn (now bytes)) ⌝ }
-    ensures { λ r. ⌜ ReadsMessage (ofHead (firstFault (formRules (now (bytes .entry)))) (lengthOf (now (bytes .entry))) (contentsBy (placesThere (lists (now (list .entry)) (now (spreads .entry))) (now (bytes .entry)) (placeOf segment)) (now (bytes .entry)))) (cellsBy (firstFault (formRules (now (bytes .entry)))) (now (bytes .entry))) (now (cells .entry)) r (now (cells .exit)) ⌝ }
+    ensures { λ r. ⌜ ReadsFormed (placesThere (lists (now (list .entry)) (now (spreads .entry))) (now (bytes .entry)) (placeOf segment)) (now (bytes .entry)) (now (cells .entry)) r (now (cells .exit)) ⌝ }
 {
+    if head::is_heartbeat(named) {
+        return heartbeat(bytes);
+    }
     match head::judge_form(bytes, named) {
         Head::Good => contents(list, spreads, segment, bytes, named, cells),
         Head::Bad(fault) => bad(fault, bytes),

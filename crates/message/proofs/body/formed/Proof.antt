@@ -1,23 +1,25 @@
--- The rest of the head, and then the contents.
-use mathlib.Core.Path.{_≡_, refl, sym, _∙_}
-use Rattle.head.specs.declared.head.Head.{Head}
-use Rattle.head.specs.Head.{formRules}
-use Rattle.head.specs.FaultsLaws.{head-told}
-use Rattle.head.specs.Rules.{firstFault}
+-- A heartbeat by itself; of any other the rest of the head, and then the contents.
+use mathlib.Core.Path.{ap, sym, _∙_}
+use Rattle.head.specs.Tests.{isHeartbeat}
+use Rattle.message.specs.MessageLaws.{good-form, bad-form}
 use borrow.Author.Needs.{needs}
 use Rattle.message.proofs.body.formed.Statement.{statement}
 use Rattle.message.proofs.body.formed.Tie as tie
 
--- what is known once the head is judged
-form-is : (c : tie.After-judge-form) {h : Head} → c .judge-form .result ≡ h → firstFault (formRules (c .before .before .before .before .args .bytes .now)) ≡ h
-form-is c e = sym (head-told (c .judge-form .result) _ (c .judge-form .ensures)) ∙ e
+heartbeat-requires : tie.Need-heartbeat-requires
+heartbeat-requires c κs =
+    let start = c .before .before .before .before .before in
+    (start .pre .0, ap isHeartbeat (sym (start .pre .1)) ∙ sym (c .before .is-heartbeat .ensures) ∙ c .if1 .taken)
 
 returns : tie.Need-returns
-returns c = rw (form-is (c .before .before .before .before) (c .before .before .enum-told .given .1)) (c .contents .ensures)
+returns c = c .heartbeat .ensures _ _
 
 returns-2 : tie.Need-returns-2
-returns-2 c = rw (form-is (c .before .before .before .before) (c .before .before .fault .given .1)) (record { told = c .bad .ensures; stored = refl })
+returns-2 c = good-form _ _ _ _ (c .before .before .before .before .judge-form .ensures) (c .before .before .enum-told .given .1) (c .contents .ensures)
+
+returns-3 : tie.Need-returns-3
+returns-3 c = bad-form _ _ _ _ (c .before .before .before .before .judge-form .ensures) (c .before .before .fault .given .1) (c .bad .ensures)
 
 pub formed-spec : {M : Type 1} → statement M
 formed-spec =
-    tie.close (tie.spec (λ c κs. search needs) (search needs) (λ c κs. search needs) (search needs) (search needs) returns returns-2)
+    tie.close (tie.spec (search needs) heartbeat-requires returns (λ c κs. search needs) (search needs) (λ c κs. search needs) (search needs) (search needs) returns-2 returns-3)

@@ -1,12 +1,12 @@
 -- Laws of the checksum: a text's sum one byte and eight bytes at a time, and the reserved bytes.
 use Prim.Native.Nat.{ℕ, zero, suc, _+_, _-_, _*_, _^_, _≤_, _<_}
-use mathlib.Core.Path.{_≡_, refl, sym}
+use mathlib.Core.Path.{_≡_, refl, ap, sym, _∙_}
 use mathlib.Core.Logic.{_⊎_, inl, inr}
 use mathlib.Core.List.{List, [], _∷_, _++_}
 use native.Mathlib.Omega.{arith}
 use native.Mathlib.Numerals.{add-one}
 use native.Mathlib.Nat.{pow-suc}
-use lib.ListN.{length, getD, take, drop, length-drop}
+use lib.ListN.{length, getD, take, drop, length-drop, take-append-drop}
 use lib.Seq.{drop-cons, getD-drop, take-add}
 use lib.Pow.{pow-add}
 use borrow.Author.Tests.{ne-eqb}
@@ -26,6 +26,9 @@ sum-on text i acc h = rw (drop-cons text i 0 h)
 pub sum-joined : (front rest : List ℕ) (acc : ℕ) → sumFrom acc (front ++ rest) ≡ sumFrom (sumFrom acc front) rest
 sum-joined [] rest acc = refl
 sum-joined (b ∷ bs) rest acc = sum-joined bs rest (byteStep acc b)
+
+pub sum-cut : (text : List ℕ) (n : ℕ) → sumFrom (sumOf (take n text)) (drop n text) ≡ sumOf text
+sum-cut text n = sym (sum-joined (take n text) (drop n text) 0) ∙ ap sumOf (take-append-drop n text)
 
 byte-bits : (w : ℕ) → 256 ^ w ≡ 2 ^ (8 * w)
 byte-bits zero = refl

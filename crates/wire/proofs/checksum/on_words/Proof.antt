@@ -1,14 +1,15 @@
 -- The loop's invariant: the four words stand for the sum of the whole words passed.
-use Prim.Native.Nat.{ℕ, _≤_, _<_, _+_, _-_, _*_, _/_, _%_}
+use Prim.Native.Nat.{ℕ, _≤_, _<_, _+_, _-_, _%_}
 use mathlib.Core.Path.{_≡_, refl, ap, sym, _∙_}
 use native.Mathlib.Omega.{arith}
 use lib.ListN.{length, getD, take, drop}
+use lib.Seq.{take-all}
 use Rattle.accumulator.specs.Words.{afterFour}
 use Rattle.wire.specs.Checksum.{sumOf}
 use Rattle.wire.specs.ChecksumLaws.{sum-eight}
 use Rattle.wire.specs.Number.{numberAt}
-use Rattle.wire.proofs.checksum.front.Statement.{statement}
-use Rattle.wire.proofs.checksum.front.Tie as tie
+use Rattle.wire.proofs.checksum.on_words.Statement.{statement}
+use Rattle.wire.proofs.checksum.on_words.Tie as tie
 
 abbrev Inv-loop : tie.InvT-loop
 Inv-loop text words₀ i₀ words i = (i ≤ length text) × (i % 8 ≡ 0) × (afterFour 64 words ≡ sumOf (take i text))
@@ -65,11 +66,10 @@ settled-requires c κs = tt
 returns : tie.Need-returns Inv-loop μ-loop
 returns c =
     let text = c .before .before .before .before .before .args .text .now in
-    let whole : c .before .before .loop .i ≡ length text / 8 * 8 = omega (arith, c .before .loop-test .left) in
-    c .settled .ensures ∙ c .before .before .loop .inv .2 ∙ ap (λ (n : ℕ). sumOf (take n text)) whole
+    c .settled .ensures ∙ c .before .before .loop .inv .2 ∙ ap sumOf (take-all (c .before .before .loop .i) text (omega (arith, c .before .loop-test .left)))
 
-pub front-spec : {M : Type 1} → statement M
-front-spec =
+pub on-words-spec : {M : Type 1} → statement M
+on-words-spec =
     tie.close
     (tie.spec
     Inv-loop

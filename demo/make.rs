@@ -76,7 +76,8 @@ fn heartbeat(code: &[u8; 2]) -> Ask {
 }
 
 // A day's beginning on a bad line: number 4 of D comes late and 6 to 8 never, T starts at 3, and one batch is damaged. The dollar's roll
-// is quoted about zero, gold's far below it; they come in batches of their own, since the program `gaps` knows no spreads.
+// is quoted about zero, gold's far below it; they come in batches of their own, since the program `gaps` knows no spreads. Then the market
+// status that T began with comes late, its trailer empty as it should be, and number 1 by half: an empty trailer that should not be.
 fn batches() -> Vec<Vec<Ask>> {
     let euro = (price(90, 2_525), price(90, 2_550), price(0, 25));
     let dollar = (price(83, 5_000), price(83, 5_025), price(0, 25));
@@ -133,6 +134,11 @@ fn main() {
             batch[100] ^= 1;
         }
         feed.extend(batch);
+    }
+    // Two that the box passes over, and so has no writer for.
+    let open_interest = [&GOLD[..], b"      4210N"].concat();
+    for message in [feed::unsealed(*b"TO", 2, b"N"), feed::unsealed(*b"TI", 1, &open_interest)] {
+        feed.extend(feed::batch(&[message]));
     }
     fs::write(folder.join("feed"), feed).unwrap();
 }

@@ -73,7 +73,8 @@ enum {
                                 of a call without a batch: the letter asked for is not listed, or the code is not one to be written */
     QUOTEBOX_TRAILER = 7,    /* message: its last byte is not 13 */
     QUOTEBOX_LENGTH = 8,     /* message: a known code with none of its lengths */
-    QUOTEBOX_CHECKSUM = 9,   /* message: its checksum is wrong */
+    QUOTEBOX_CHECKSUM = 9,   /* message: its checksum is not the true one; a heartbeat's is not zero; that of a market
+                                status or an end of feed is neither */
     QUOTEBOX_NUMBERING = 10, /* message: its sequence number is 0 where it may not be, or a heartbeat's is not 0;
                                 at start: a listed segment's start number is 0 or missing */
     QUOTEBOX_FIELD = 11,     /* message, row: a number's text, market type, status or written key is malformed */

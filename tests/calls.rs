@@ -8,6 +8,7 @@ mod program;
 mod random;
 mod reference;
 mod spreads;
+mod sums;
 
 use asks::{Ask, Bench, LARGEST_LIST};
 use feed::Book;
@@ -151,7 +152,7 @@ fn paper(options: &Options, held: &mut Held) {
     reference_cases(held);
     let list = Book::of(vec![(b'D', vec![CASE_KEY])]).bytes();
     let cases = batch_cases().into_iter().chain(gap_cases()).map(|(name, asked, lines)| (name.to_string(), list.clone(), asked, lines));
-    for (name, list, asked, lines) in cases.chain(spreads::cases()) {
+    for (name, list, asked, lines) in cases.chain(spreads::cases()).chain(sums::cases()) {
         let mut bench = Bench::new(Some(&list));
         let by_reference: Vec<String> = asked.iter().filter_map(|ask| bench.line(ask)).collect();
         held.hold(by_reference == lines, || format!("reference: {name}: {by_reference:?}"));

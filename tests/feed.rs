@@ -432,12 +432,18 @@ fn a_field(r: &mut Random, row: Row, width: usize) -> Vec<u8> {
 
 // ---- messages
 
-pub fn sealed(code: [u8; 2], number: u32, data: &[u8]) -> Vec<u8> {
+// With nothing in the trailer: so heartbeats are, and so a message is that was sent by half.
+pub fn unsealed(code: [u8; 2], number: u32, data: &[u8]) -> Vec<u8> {
     let mut message = code.to_vec();
     message.extend((data.len() as u16 + 11).to_be_bytes());
     message.extend(number.to_be_bytes());
     message.extend(data);
     message.extend([0, 0, 13]);
+    message
+}
+
+pub fn sealed(code: [u8; 2], number: u32, data: &[u8]) -> Vec<u8> {
+    let mut message = unsealed(code, number, data);
     if code[1] != b'H' {
         seal(&mut message);
     }
@@ -458,16 +464,16 @@ pub fn an_update(r: &mut Random, form: &Form, letter: u8, number: u32, key: &[u8
     sealed([letter, form.code], number, &data)
 }
 
-fn passed_over(r: &mut Random, letter: u8, number: u32) -> Vec<u8> {
-    let code = r.pick(b"ABCDEFGIJKLMOQRSTUVWXYZ");
+// The second bytes of what is passed over: market status and end of feed, which may carry zero (000 and 003, 4.2 and 4.11), and the rest.
+pub const UNSUMMED: &[u8] = b"CEO";
+pub const SUMMED: &[u8] = b"ABDFGIJKLMQRSTUVWXYZ";
+
+fn passed_over(r: &mut Random, letter: u8, number: u32, seconds: &[u8]) -> Vec<u8> {
+    let code = r.pick(seconds);
     let length = if r.one_in(6) { r.pick(&[LENGTHS, SPREAD_LENGTHS].concat()) as u64 - 11 } else { r.below(60) };
     let data: Vec<u8> = (0..length).map(|_| r.next() as u8).collect();
-    let mut message = sealed([letter, code], number, &data);
-    if r.one_in(3) {
-        let end = message.len() - 3;
-        message[end..end + 2].fill(0);
-    }
-    message
+    let zero = UNSUMMED.contains(&code) && r.one_in(2);
+    (if zero { unsealed } else { sealed })([letter, code], number, &data)
 }
 
 // A sound message. A heartbeat looks at no number; pairs have updates where there are any.
@@ -475,7 +481,8 @@ pub fn a_message(r: &mut Random, book: &Book, letter: u8, number: u32) -> Vec<u8
     let level = 1 + r.below(5) as usize / 3;
     match r.below(10) {
         0 => sealed([letter, b'H'], 0, &[]),
-        1 | 2 => passed_over(r, letter, number),
+        1 => passed_over(r, letter, number, UNSUMMED),
+        2 => passed_over(r, letter, number, SUMMED),
         3..=5 if !book.listed_pairs(letter).is_empty() => {
             let pair = book.a_pair(r, letter);
             an_update(r, reference::of_pair(level), letter, number, &pair)
@@ -593,6 +600,8 @@ pub fn damage(r: &mut Random, rule: u8, book: &Book, letter: u8, number: u32, me
             match r.below(6) {
                 0 => *message = sealed([letter, b'H'], 0, &[]),
                 1 => *message = a_lowered_update(r, book, letter, number),
+                2 => *message = passed_over(r, letter, number, SUMMED),
+                3 => *message = passed_over(r, letter, number, UNSUMMED),
                 _ => {}
             }
             damage_sum(r, message);

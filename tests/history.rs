@@ -554,6 +554,9 @@ fn note_taken(batch: &[u8], row: &mut [u32], seen: &mut Seen) {
     for message in all.iter().filter(|m| m[1] != b'H') {
         let (number, before) = (u32::from_be_bytes(message[4..8].try_into().unwrap()), row[1]);
         let taken = matches!(reference::take_number(row, number), reference::Taking::Taken);
+        if feed::UNSUMMED.contains(&message[1]) {
+            met(if message[message.len() - 3..message.len() - 1] == [0, 0] { "market status or end of feed with zero" } else { "market status or end of feed with its sum" });
+        }
         if let Some(form) = form_of(message).filter(|form| form.is_pair()) {
             met(match (taken, number > before) {
                 (false, _) => "a pair's update old",
@@ -576,11 +579,18 @@ fn note_refused(number: u8, message: usize, batch: &[u8], seen: &mut Seen) {
         None => return,
     };
     let (code, length) = (refused[1] as char, refused.len());
+    let zero = refused[length - 3..length - 1] == [0, 0];
     if code == 'P' {
         met(format!("{number} for a pair's message"));
-        if number == 9 && refused[length - 3..length - 1] == [0, 0] {
+        if number == 9 && zero {
             met("9 for a pair's message with zero for its sum".into());
         }
+    }
+    if number == 9 && feed::SUMMED.contains(&refused[1]) {
+        met(format!("9 for what is passed over, {}", if zero { "zero" } else { "wrong" }));
+    }
+    if number == 9 && feed::UNSUMMED.contains(&refused[1]) {
+        met("9 for market status or end of feed".into());
     }
     if number == 8 {
         met(format!("8 for {code} of {length} bytes"));
@@ -657,6 +667,11 @@ pub fn wanted() -> Vec<String> {
         "a pair's update late",
         "a pair's update old",
         "9 for a pair's message with zero for its sum",
+        "9 for what is passed over, zero",
+        "9 for what is passed over, wrong",
+        "9 for market status or end of feed",
+        "market status or end of feed with zero",
+        "market status or end of feed with its sum",
         "15 for the pairs' records alone",
     ] {
         all.push(what.into());

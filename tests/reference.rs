@@ -659,8 +659,8 @@ fn checked(sum: Sum, lists: &Lists, segment: Option<(usize, u8)>, message: &[u8]
     let zero = trailer == [0, 0];
     let right = match code {
         b'H' => zero,
-        b'N' | b'P' => trailer == sum(summed),
-        _ => zero || trailer == sum(summed),
+        b'C' | b'E' | b'O' => zero || trailer == sum(summed),
+        _ => trailer == sum(summed),
     };
     if !right {
         return Err((9, 0));

@@ -3,7 +3,7 @@ use Prim.Native.Nat.{ℕ}
 use Prim.Native.String.{String}
 use mathlib.Core.Path.{_≡_, refl}
 use mathlib.Core.List.{List, [], _∷_, _++_, map}
-use lib.ListN.{replicate}
+use lib.ListN.{replicate, getD}
 use Rattle.laws.specs.Texts.{codes}
 use Rattle.accumulator.specs.Accumulator.{bitStep, byteStep}
 use Rattle.scan.specs.Read.{readAs, step, walk}
@@ -13,7 +13,7 @@ use Rattle.pairs.specs.Lists.{lists}
 use Rattle.lookup.specs.Lookup.{segmentOf, lookup}
 use Rattle.layout.specs.Read.{readRow}
 use Rattle.forms.specs.Sizes.{keyBytes, pairBytes}
-use Rattle.forms.specs.Forms.{namedRows, rowsOf, formsOf, formOf, sumRule}
+use Rattle.forms.specs.Forms.{namedRows, rowsOf, meaningOf, formOf}
 use Rattle.head.specs.Fields.{letterOf, secondOf, lengthOf, numberOf, dataOf, sumSent, endByte, formIn, sumIn, rightSum}
 use Rattle.head.specs.Rules.{headOf}
 use Rattle.head.specs.Tests.{framed, coded, trailed, summed}
@@ -71,7 +71,7 @@ messages =
     given D D (short 0x68 0 (0 ∷ 0 ∷ []) 13) ∷ given D D (short 0x48 0 (0 ∷ 0 ∷ []) 12) ∷
     given D D (D ∷ 0x48 ∷ 0 ∷ 12 ∷ 0 ∷ 0 ∷ 0 ∷ 0 ∷ 0 ∷ 0 ∷ 0 ∷ 13 ∷ []) ∷ given D D (short 0x48 0 (3 ∷ 91 ∷ []) 13) ∷
     given D D (short 0x48 1 (0 ∷ 0 ∷ []) 13) ∷
-    -- passed over: with sum zero, right, high byte first; with number 0
+    -- end of feed: with sum zero, right, high byte first; with number 0
     given D D (short 0x45 1 (0 ∷ 0 ∷ []) 13) ∷ given D D (short 0x45 1 (40 ∷ 161 ∷ []) 13) ∷
     given D D (short 0x45 1 (161 ∷ 40 ∷ []) 13) ∷ given D D (short 0x45 0 (0 ∷ 0 ∷ []) 13) ∷
     -- an update of level 1, and of level 2; of 248 bytes; with sum zero
@@ -93,8 +93,23 @@ answers =
     []
 
 pub messages-answered : map answered messages ≡ answers
-unfolding bitStep byteStep step walk readAs segmentsOf letterAt countAt offsetAt keyFrom halvedIn segmentOf lookup readRow namedRows rowsOf formsOf formOf sumRule letterOf secondOf lengthOf numberOf dataOf sumSent endByte formIn sumIn rightSum framed coded trailed summed headOf messageKey keyPlace contentsBy messageOf
+unfolding bitStep byteStep step walk readAs segmentsOf letterAt countAt offsetAt keyFrom halvedIn segmentOf lookup readRow namedRows rowsOf meaningOf formOf letterOf secondOf lengthOf numberOf dataOf sumSent endByte formIn sumIn rightSum framed coded trailed summed headOf messageKey keyPlace contentsBy messageOf
 messages-answered = refl
+
+-- ---- zero for the sum
+
+-- M-101: a message of 11 bytes with number 1 and zero for its sum, for each code of a letter: A to Z
+abbrev pub zeroSummed : ℕ → List (List ℕ)
+zeroSummed letter = map (λ second. letter ∷ second ∷ 0 ∷ 11 ∷ 0 ∷ 0 ∷ 0 ∷ 1 ∷ 0 ∷ 0 ∷ 13 ∷ []) (codes "ABCDEFGHIJKLMNOPQRSTUVWXYZ")
+
+-- M-101: C, E and O are good; H has no such number, N and P no such length; 9 for every other
+abbrev pub zeroAnswers : List ℕ
+zeroAnswers =
+    9 ∷ 9 ∷ 0 ∷ 9 ∷ 0 ∷ 9 ∷ 9 ∷ 10 ∷ 9 ∷ 9 ∷ 9 ∷ 9 ∷ 9 ∷ 8 ∷ 0 ∷ 8 ∷ 9 ∷ 9 ∷ 9 ∷ 9 ∷ 9 ∷ 9 ∷ 9 ∷ 9 ∷ 9 ∷ 9 ∷ []
+
+pub zeros-answered : map (λ letter. map (λ bytes. getD (answered (given letter letter bytes)) 0 0) (zeroSummed letter)) (D ∷ T ∷ []) ≡ zeroAnswers ∷ zeroAnswers ∷ []
+unfolding bitStep byteStep step walk readAs segmentsOf letterAt countAt offsetAt keyFrom halvedIn segmentOf lookup readRow namedRows rowsOf meaningOf formOf letterOf secondOf lengthOf numberOf dataOf sumSent endByte formIn sumIn rightSum framed coded trailed summed headOf messageKey keyPlace contentsBy messageOf
+zeros-answered = refl
 
 -- ---- pairs
 
@@ -127,5 +142,5 @@ pairAnswers =
     (0 ∷ 7 ∷ 1 ∷ 0 ∷ []) ∷ (0 ∷ 7 ∷ 2 ∷ 0 ∷ []) ∷ (8 ∷ []) ∷ (9 ∷ []) ∷ (0 ∷ 7 ∷ 1 ∷ 0 ∷ []) ∷ (11 ∷ 10 ∷ []) ∷ (12 ∷ 10 ∷ []) ∷ (13 ∷ []) ∷ (11 ∷ 6 ∷ []) ∷ []
 
 pub pairs-answered : map (λ bytes. whatNumbers (messageOf (lists (listOf D) pairList) D bytes .what)) pairMessages ≡ pairAnswers
-unfolding bitStep byteStep step walk readAs segmentsOf letterAt countAt offsetAt keyFrom halvedIn segmentOf lookup readRow namedRows rowsOf formsOf formOf sumRule letterOf secondOf lengthOf numberOf dataOf sumSent endByte formIn sumIn rightSum framed coded trailed summed headOf messageKey keyPlace contentsBy messageOf
+unfolding bitStep byteStep step walk readAs segmentsOf letterAt countAt offsetAt keyFrom halvedIn segmentOf lookup readRow namedRows rowsOf meaningOf formOf letterOf secondOf lengthOf numberOf dataOf sumSent endByte formIn sumIn rightSum framed coded trailed summed headOf messageKey keyPlace contentsBy messageOf
 pairs-answered = refl

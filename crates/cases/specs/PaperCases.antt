@@ -29,7 +29,7 @@ use Rattle.pairs.specs.SpreadTests.{pairsListed, spreadHeaderSound, spreadsSoun
 use Rattle.forms.specs.declared.forms.Item.the-variants.{Contract, Pair}
 use Rattle.sequence.specs.Row.{gapsOf}
 use Rattle.sequence.specs.RowLaid.{laid, soundGapRow}
-use Rattle.forms.specs.Forms.{namedRows, rowsOf, formsOf, formOf, sumRule, writtenForm}
+use Rattle.forms.specs.Forms.{namedRows, rowsOf, meaningOf, formOf, writtenForm}
 use Rattle.head.specs.Fields.{letterOf, secondOf, lengthOf, numberOf, sumSent, endByte, formIn, sumIn, rightSum, dataOf as dataIn}
 use Rattle.head.specs.Rules.{headOf}
 use Rattle.head.specs.Tests.{framed, coded, trailed, summed}
@@ -254,7 +254,7 @@ unfoldable pub sayings : List Case → List (List ℕ)
 sayings = map (λ (c : Case). c .says)
 
 pub P1-to-P14 : answered cases ≡ sayings cases
-unfolding noSpreads pairsListed spreadHeaderSound spreadsSound cases answered sayings bitStep byteStep step walk readAs segmentsOf letterAt zeroAt countAt offsetAt contractsBefore segmentOf entrySound headerSoundBy gapsOf laid soundGapRow formsOf formOf sumRule writtenForm letterOf secondOf lengthOf numberOf dataIn sumSent endByte formIn sumIn rightSum framed coded trailed summed headOf messageKey keyPlace contentsBy messageOf flagOf sizeOf countOf messageActs messagesAct batchActs gapsOfLetter listRules runsPut writeOffRules lentWrittenOff rowsStarted recordsCleared segmentRules writeRules lengthWritten dataWritten rowText quoteOf valuesOf textOf size sizeIn startRules eachStarts keyFrom keySound bodySound soundBy rowsOf namedRows
+unfolding noSpreads pairsListed spreadHeaderSound spreadsSound cases answered sayings bitStep byteStep step walk readAs segmentsOf letterAt zeroAt countAt offsetAt contractsBefore segmentOf entrySound headerSoundBy gapsOf laid soundGapRow meaningOf formOf writtenForm letterOf secondOf lengthOf numberOf dataIn sumSent endByte formIn sumIn rightSum framed coded trailed summed headOf messageKey keyPlace contentsBy messageOf flagOf sizeOf countOf messageActs messagesAct batchActs gapsOfLetter listRules runsPut writeOffRules lentWrittenOff rowsStarted recordsCleared segmentRules writeRules lengthWritten dataWritten rowText quoteOf valuesOf textOf size sizeIn startRules eachStarts keyFrom keySound bodySound soundBy rowsOf namedRows
 P1-to-P14 = refl
 
 -- ---- the table of refusals, where P1 to P14 are silent
@@ -317,5 +317,5 @@ refusals =
     ∷ []
 
 pub refusals-told : answered refusals ≡ sayings refusals
-unfolding noSpreads pairsListed spreadHeaderSound spreadsSound refusals answered sayings bitStep byteStep step walk readAs segmentsOf letterAt zeroAt countAt offsetAt keyFrom contractsBefore segmentOf lookup halvedIn entrySound headerSoundBy keySound bodySound soundBy gapsOf laid soundGapRow formsOf formOf sumRule writtenForm letterOf secondOf lengthOf numberOf dataIn sumSent endByte formIn sumIn rightSum framed coded trailed summed headOf messageKey keyPlace contentsBy messageOf flagOf sizeOf countOf messageActs messagesAct batchActs gapsOfLetter listRules runsPut writeOffRules recordRules startRules eachStarts rowsStarted recordsCleared segmentRules messageBytes readRow rowsOf namedRows
+unfolding noSpreads pairsListed spreadHeaderSound spreadsSound refusals answered sayings bitStep byteStep step walk readAs segmentsOf letterAt zeroAt countAt offsetAt keyFrom contractsBefore segmentOf lookup halvedIn entrySound headerSoundBy keySound bodySound soundBy gapsOf laid soundGapRow meaningOf formOf writtenForm letterOf secondOf lengthOf numberOf dataIn sumSent endByte formIn sumIn rightSum framed coded trailed summed headOf messageKey keyPlace contentsBy messageOf flagOf sizeOf countOf messageActs messagesAct batchActs gapsOfLetter listRules runsPut writeOffRules recordRules startRules eachStarts rowsStarted recordsCleared segmentRules messageBytes readRow rowsOf namedRows
 refusals-told = refl

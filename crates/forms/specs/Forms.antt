@@ -1,6 +1,6 @@
 -- The forms of messages as data: the table of codes, and the rows of each form. 01 "The message": 000 sections 4.4 and 4.5 for
 -- D, 003 sections 4.5 and 4.6 for T; M-100: 000 sections 4.6 and 4.7 for D, 003 sections 4.3 and 4.4 for T. A new form is a list
--- of named rows, its subject, its sum and its lines of the table.
+-- of named rows, its subject and its place in the table.
 use Prim.Native.Nat.{ℕ, zero, suc}
 use mathlib.Core.Bool.{Bool, true, false, cond, _&&_}
 use mathlib.Core.List.{List, [], _∷_, _++_, map}
@@ -107,14 +107,6 @@ abbrev pub keyBytesOf : Item → ℕ
 keyBytesOf Contract = keyBytes
 keyBytesOf Pair = pairBytes
 
--- 01 "The checksum", M-100: heartbeats carry zero, an update its sum
-abbrev pub sumOf : Form → Sum
-sumOf Heartbeat = Zero
-sumOf LevelOne = Right
-sumOf LevelTwo = Right
-sumOf PairOne = Right
-sumOf PairTwo = Right
-
 -- 01 "What may be asked", M-100: the form whose rows a record of that level keeps
 abbrev pub recordForm : Item → Level → Form
 recordForm Contract One = LevelOne
@@ -129,31 +121,49 @@ formAbout (Of item level) = recordForm item level
 
 -- ---- the table
 
--- 01 "The message": a line of the table: a segment's letter, a second byte, and a form that the code may have
-pub record Entry : Type 0 where
+-- a word of our own: what the table says of a code: what its sum may be, and the forms that it may have
+pub record Meaning : Type 0 where
+  pub sum : Sum
+  pub forms : List Form
+
+-- 01 "The message": a line of the table: a code, which is a segment's letter and a second byte, and what it means
+pub record Line : Type 0 where
   pub letter : ℕ
   pub second : ℕ
-  pub form : Form
+  pub meaning : Meaning
 
 -- a word of our own: a line of the table, written on one line
-abbrev pub entry : ℕ → ℕ → Form → Entry
-entry letter second form = record { letter = letter; second = second; form = form }
+abbrev pub line : ℕ → ℕ → Sum → List Form → Line
+line letter second sum forms = record { letter = letter; second = second; meaning = record { sum = sum; forms = forms } }
 
--- 01 "The message": DH and TH are heartbeats, DN and TN updates of either level; M-100: DP and TP are updates of a pair
-abbrev pub table : List Entry
-table =
-    entry 0x44 0x48 Heartbeat ∷ entry 0x44 0x4E LevelOne ∷ entry 0x44 0x4E LevelTwo ∷ entry 0x44 0x50 PairOne ∷ entry 0x44 0x50 PairTwo
-    ∷ entry 0x54 0x48 Heartbeat ∷ entry 0x54 0x4E LevelOne ∷ entry 0x54 0x4E LevelTwo ∷ entry 0x54 0x50 PairOne ∷ entry 0x54 0x50 PairTwo ∷ []
+-- 01 "The message", M-100, M-101: the codes of D and of T, by second byte. H is a heartbeat, which carries zero; N an update of
+-- either level and P one of a pair, which carry their sum; O, C and E, market status and end of feed, are passed over, and their
+-- sections (000 and 003, 4.2 and 4.11) say that the sum isn't calculated
+abbrev pub codesOf : ℕ → List Line
+codesOf letter =
+    line letter 0x48 Zero (Heartbeat ∷ []) ∷ line letter 0x4E Right (LevelOne ∷ LevelTwo ∷ []) ∷ line letter 0x50 Right (PairOne ∷ PairTwo ∷ [])
+    ∷ line letter 0x4F RightOrZero [] ∷ line letter 0x43 RightOrZero [] ∷ line letter 0x45 RightOrZero [] ∷ []
 
--- 01 "The message": the forms that a code may have
-abbrev pub formsIn : List Entry → ℕ → ℕ → List Form
-formsIn [] letter second = []
-formsIn (line ∷ rest) letter second =
-    cond (eqb letter (line .letter) && eqb second (line .second)) (line .form ∷ []) [] ++ formsIn rest letter second
+-- 01 "The message": the table of codes
+abbrev pub table : List Line
+table = codesOf 0x44 ++ codesOf 0x54
 
--- 01 "The message": the forms that a code of the table has; none for every other code
-unfoldable pub formsOf : ℕ → ℕ → List Form
-formsOf letter second = formsIn table letter second
+-- 01 "The message", M-101: every other code has no form, and carries its true sum
+abbrev pub meaningIn : List Line → ℕ → ℕ → Meaning
+meaningIn [] letter second = record { sum = Right; forms = [] }
+meaningIn (code ∷ rest) letter second = cond (eqb letter (code .letter) && eqb second (code .second)) (code .meaning) (meaningIn rest letter second)
+
+-- 01 "The message": what the table says of a code
+unfoldable pub meaningOf : ℕ → ℕ → Meaning
+meaningOf letter second = meaningIn table letter second
+
+-- 01 "The message": the forms that a code may have; none where it is passed over
+abbrev pub formsOf : ℕ → ℕ → List Form
+formsOf letter second = meaningOf letter second .forms
+
+-- 01 "The checksum", M-101: the code alone decides what its sum may be
+abbrev pub sumRule : ℕ → ℕ → Sum
+sumRule letter second = meaningOf letter second .sum
 
 -- 01 "The message": the length tells a code's forms apart: the sum of the data widths plus 11
 abbrev pub ofLength : List Form → ℕ → Named
@@ -168,15 +178,6 @@ namedBy (form ∷ rest) length = ofLength (form ∷ rest) length
 -- 01 "The message": what a code and a length name
 unfoldable pub formOf : ℕ → ℕ → ℕ → Named
 formOf letter second length = namedBy (formsOf letter second) length
-
--- 01 "The message": the checksum of what is passed over is right or zero
-abbrev pub sumBy : List Form → Sum
-sumBy [] = RightOrZero
-sumBy (form ∷ rest) = sumOf form
-
--- 01 "The checksum" and "The message": the code alone decides what its sum may be
-unfoldable pub sumRule : ℕ → ℕ → Sum
-sumRule letter second = sumBy (formsOf letter second)
 
 -- a word of our own: whether two levels are the same
 abbrev pub sameLevel : Level → Level → Bool

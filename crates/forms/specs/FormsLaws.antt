@@ -1,7 +1,7 @@
 -- The forms, computed, and the papers' numbers.
 use Prim.Native.Nat.{ℕ, _+_, _*_, _≤_, max}
-use mathlib.Core.Bool.{Bool, true, false, cond}
-use mathlib.Core.List.{List, [], _∷_, _++_, map, List·Memᴰ, List·Memᴰ·head, List·Memᴰ·tail}
+use mathlib.Core.Bool.{Bool, true, false, cond, _&&_}
+use mathlib.Core.List.{List, [], _∷_, _++_, map, List·Memᴰ, List·Memᴰ·head, List·Memᴰ·tail, List·Memᴰ·not-nil}
 use mathlib.Core.Path.{_≡_, refl, ap, sym, _∙_}
 use native.Mathlib.Omega.{arith}
 use borrow.Author.Tests.{eqb-true}
@@ -19,15 +19,13 @@ use Rattle.forms.specs.declared.forms.Item.{Item}
 use Rattle.forms.specs.declared.forms.Item.the-variants.{Contract, Pair}
 use Rattle.forms.specs.declared.forms.Named.{Named}
 use Rattle.forms.specs.declared.forms.Named.the-variants as is
-use Rattle.forms.specs.declared.forms.Family.{Family}
-use Rattle.forms.specs.declared.forms.Family.the-variants as family
 use Rattle.forms.specs.declared.forms.Chosen.the-variants as chosen
 use Rattle.forms.specs.Sizes.{mostRows, mostData, keyRowCount, keyBytes, pairRowCount, pairBytes}
 use Rattle.forms.specs.Names.{Name, NamedRow, named, instrument, symbol, expiry, strike, optionType, secondInstrument, secondSymbol, secondExpiry, secondStrike, secondOptionType, marketType, buyPrice, buyQuantity, sellPrice, sellQuantity, lastPrice, tradedQuantity, status, openingPrice, highPrice, lowPrice, closePrice, averagePrice, allBuyers, allSellers, turnover}
-use Rattle.forms.specs.declared.forms.Sum.the-variants.{Zero, Right}
+use Rattle.forms.specs.declared.forms.Sum.{Sum}
+use Rattle.forms.specs.declared.forms.Sum.the-variants.{Zero, Right, RightOrZero}
 use Rattle.forms.specs.Rows.{widthOf, dataLength, messageLength, offsetOf, keyInFront, padded}
-use Rattle.forms.specs.Forms.{keyRows, pairKeyRows, sideTotals, contractRows, pairRows, namedRows, rowsOf, subjectOf, keyRowsOf, keyBytesOf, sumOf, recordForm, formAbout, isAsked, table, formsIn, formsOf, ofLength, namedBy, formOf, sumBy, sumRule, writtenBy, writtenForm}
-use Rattle.forms.specs.Inner.{familyForms, sumNamed}
+use Rattle.forms.specs.Forms.{keyRows, pairKeyRows, sideTotals, contractRows, pairRows, namedRows, rowsOf, subjectOf, keyRowsOf, keyBytesOf, recordForm, formAbout, isAsked, Meaning, Line, codesOf, table, meaningIn, meaningOf, formsOf, ofLength, namedBy, formOf, sumRule, writtenBy, writtenForm}
 
 -- ---- the sizes
 
@@ -103,10 +101,6 @@ pub nothing-rows : (form : Form) → subjectOf form ≡ Nothing → rowsOf form 
 unfolding rowsOf namedRows
 nothing-rows form e = rw (← subject-about form, e)
 
--- and carries zero for its sum
-pub nothing-zero : (form : Form) → subjectOf form ≡ Nothing → sumOf form ≡ Zero
-nothing-zero form e = rw (← subject-about form, e)
-
 -- ---- a code's forms by their lengths
 
 -- a form that a length names is one of the code's, and has that length
@@ -135,10 +129,16 @@ asked-written Contract Two = refl
 asked-written Pair One = refl
 asked-written Pair Two = refl
 
--- every line of the table is the form of its code and length
-pub table-told : map (λ line. formOf (line .letter) (line .second) (messageLength (rowsOf (line .form)))) table ≡ map (λ line. is.Form (line .form)) table
-unfolding rowsOf namedRows formOf formsOf
+-- no line of the table stands behind another of its code
+pub table-told : map (λ code. meaningOf (code .letter) (code .second)) table ≡ map (λ code. code .meaning) table
+unfolding meaningOf
 table-told = refl
+
+-- and each of its forms is that of its code and length
+pub forms-told : map (λ code. map (λ form. formOf (code .letter) (code .second) (messageLength (rowsOf form))) (code .meaning .forms)) table
+    ≡ map (λ code. map is.Form (code .meaning .forms)) table
+unfolding rowsOf namedRows formOf meaningOf
+forms-told = refl
 
 -- ---- a row is of its name's kind
 
@@ -182,35 +182,7 @@ kinds = refl
 
 -- ---- the writer
 
--- the forms of a code are those of a family
-abbrev IsFamily : ℕ → ℕ → Type 0
-IsFamily letter second = (family : Family) × (formsOf letter second ≡ familyForms family)
-
-second-is : (second : ℕ) → IsFamily 0x44 second
-unfolding formsOf
-second-is second = go (eqb second 0x48) (eqb second 0x4E) (eqb second 0x50) refl refl refl
-  where
-    go : (h n p : Bool) → eqb second 0x48 ≡ h → eqb second 0x4E ≡ n → eqb second 0x50 ≡ p → IsFamily 0x44 second
-    go true n p e f g = rw (eqb-true second 0x48 e) (family.Heartbeat, refl)
-    go false true p e f g = rw (eqb-true second 0x4E f) (family.Contract, refl)
-    go false false true e f g = rw (eqb-true second 0x50 g) (family.Pair, refl)
-    go false false false e f g = (family.Outside, simp (e, f, g))
-
-family-is : (letter second : ℕ) → IsFamily letter second
-unfolding formsOf
-family-is letter second = go (eqb letter 0x44) (eqb letter 0x54) refl refl (second-is second)
-  where
-    go : (d t : Bool) → eqb letter 0x44 ≡ d → eqb letter 0x54 ≡ t → IsFamily 0x44 second → IsFamily letter second
-    go true t e f here = rw (eqb-true letter 0x44 e) here
-    go false true e f here = rw (eqb-true letter 0x54 f) here
-    go false false e f here = (family.Outside, simp (e, f))
-
--- what is told of a message that is written in a form
-pub record Told (letter second : ℕ) (form : Form) : Type 0 where
-  pub named-so : formOf letter second (messageLength (rowsOf form)) ≡ is.Form form
-  pub summed-so : sumRule letter second ≡ sumOf form
-
--- the form that is written is one of the family's, whatever is asked for
+-- the form that is written is one of the code's, whatever is asked for
 pub one-of-them : (forms : List Form) (item : Item) (level : Level) (form : Form) → writtenBy forms item level ≡ chosen.Form form → List·Memᴰ form forms
 one-of-them [] item level form e = absurd (let z : _≡_ {A = ℕ} 0 1 = cc in omega arith)
 one-of-them (first ∷ rest) item level form e = go (isAsked (subjectOf first) item level) e (one-of-them rest item level form)
@@ -220,23 +192,70 @@ one-of-them (first ∷ rest) item level form e = go (isAsked (subjectOf first) i
     go true e later = let same : form ≡ first = cc in List·Memᴰ·head same
     go false e later = List·Memᴰ·tail (later e)
 
--- the family's lengths and sum are the form's
-family-told : (family : Family) (form : Form) → List·Memᴰ form (familyForms family)
-    → (namedBy (familyForms family) (messageLength (rowsOf form)) ≡ is.Form form) × (sumBy (familyForms family) ≡ sumOf form)
-unfolding rowsOf namedRows
-family-told family.Heartbeat form (List·Memᴰ·head same) = rw same (refl, refl)
-family-told family.Contract form (List·Memᴰ·head same) = rw same (refl, refl)
-family-told family.Contract form (List·Memᴰ·tail (List·Memᴰ·head same)) = rw same (refl, refl)
-family-told family.Pair form (List·Memᴰ·head same) = rw same (refl, refl)
-family-told family.Pair form (List·Memᴰ·tail (List·Memᴰ·head same)) = rw same (refl, refl)
+-- ---- what the table says of a code
 
--- its code and length name the form again
-pub written-told : (letter second : ℕ) (item : Item) (level : Level) (form : Form) → writtenForm letter second item level ≡ chosen.Form form → Told letter second form
-unfolding formOf sumRule writtenForm
-written-told letter second item level form e =
-    let f = family-is letter second in
-    let t = family-told (f .0) form (one-of-them (familyForms (f .0)) item level form (rw (f .1) at e)) in
-    record { named-so = rw (f .1) (t .0); summed-so = rw (f .1) (t .1) }
+-- 01 "The checksum": "Heartbeats carry zero"; M-101: an update its true sum
+abbrev sumAbout : Subject → Sum
+sumAbout Nothing = Zero
+sumAbout (Of item level) = Right
+
+-- the length of each of a code's forms names it, and the code's sum is the form's
+abbrev Told : Meaning → Type 0
+Told means =
+    (form : Form) → List·Memᴰ form (means .forms)
+    → (namedBy (means .forms) (messageLength (rowsOf form)) ≡ is.Form form) × (means .sum ≡ sumAbout (subjectOf form))
+
+told-heartbeat : Told (record { sum = Zero; forms = Heartbeat ∷ [] })
+unfolding rowsOf namedRows
+told-heartbeat form (List·Memᴰ·head same) = rw same (refl, refl)
+
+told-update : (item : Item) → Told (record { sum = Right; forms = recordForm item One ∷ recordForm item Two ∷ [] })
+unfolding rowsOf namedRows
+told-update Contract form (List·Memᴰ·head same) = rw same (refl, refl)
+told-update Contract form (List·Memᴰ·tail (List·Memᴰ·head same)) = rw same (refl, refl)
+told-update Pair form (List·Memᴰ·head same) = rw same (refl, refl)
+told-update Pair form (List·Memᴰ·tail (List·Memᴰ·head same)) = rw same (refl, refl)
+
+told-no-form : (sum : Sum) → Told (record { sum = sum; forms = [] })
+told-no-form sum form m = absurd (List·Memᴰ·not-nil m)
+
+-- what holds of each line, and of a code that has none
+abbrev Each : (Meaning → Type 0) → List Line → Type 0
+Each P [] = P (meaningIn [] 0 0)
+Each P (code ∷ rest) = P (code .meaning) × Each P rest
+
+-- holds of every code
+each-code : (P : Meaning → Type 0) (lines : List Line) → Each P lines → (letter second : ℕ) → P (meaningIn lines letter second)
+each-code P [] h letter second = h
+each-code P (code ∷ rest) h letter second = go (eqb letter (code .letter) && eqb second (code .second)) (each-code P rest (h .1) letter second)
+  where
+    go : (t : Bool) → P (meaningIn rest letter second) → P (cond t (code .meaning) (meaningIn rest letter second))
+    go true later = h .0
+    go false later = later
+
+codes-told : (letter : ℕ) (rest : List Line) → Each Told rest → Each Told (codesOf letter ++ rest)
+codes-told letter rest h =
+    let passed-over = told-no-form RightOrZero in
+    (told-heartbeat, (told-update Contract, (told-update Pair, (passed-over, (passed-over, (passed-over, h))))))
+
+code-told : (letter second : ℕ) → Told (meaningOf letter second)
+unfolding meaningOf
+code-told letter second = each-code Told table (codes-told 0x44 (codesOf 0x54) (codes-told 0x54 [] (told-no-form Right))) letter second
+
+-- the code and the length of what is written name its form again
+pub written-told : (letter second : ℕ) (item : Item) (level : Level) (form : Form) → writtenForm letter second item level ≡ chosen.Form form
+    → formOf letter second (messageLength (rowsOf form)) ≡ is.Form form
+unfolding formOf writtenForm
+written-told letter second item level form e = code-told letter second form (one-of-them (formsOf letter second) item level form e) .0
+
+-- a code that may name a form has that form's sum
+pub sum-told : (letter second n : ℕ) (form : Form) → formOf letter second n ≡ is.Form form → sumRule letter second ≡ sumAbout (subjectOf form)
+unfolding formOf
+sum-told letter second n form e = code-told letter second form (told-form (formsOf letter second) n form e .0) .1
+
+-- so what tells of nothing carries zero
+pub nothing-zero : (letter second n : ℕ) (form : Form) → formOf letter second n ≡ is.Form form → subjectOf form ≡ Nothing → sumRule letter second ≡ Zero
+nothing-zero letter second n form e nothing = sum-told letter second n form e ∙ ap sumAbout nothing
 
 -- ---- the papers' numbers
 
@@ -281,24 +300,3 @@ counts = refl
 status-rows : getD (rowsOf LevelOne) 12 (row.Key 0) ∷ getD (rowsOf LevelTwo) 28 (row.Key 0) ∷ [] ≡ row.Status ∷ row.Status ∷ []
 unfolding rowsOf namedRows
 status-rows = refl
-
--- once a code's length is one of its own, the form alone tells what the sum may be
-pub sum-by-form : (letter second n : ℕ) → (formOf letter second n ≡ is.NoLength → ⊥) → sumRule letter second ≡ sumNamed (formOf letter second n)
-unfolding formOf sumRule
-sum-by-form letter second n some = let f = family-is letter second in rw (f .1) (go (f .0) (rw (f .1) at some))
-  where
-    one : (t : Bool) → (cond t (is.Form Heartbeat) is.NoLength ≡ is.NoLength → ⊥) → Zero ≡ sumNamed (cond t (is.Form Heartbeat) is.NoLength)
-    one true h = refl
-    one false h = absurd (h refl)
-
-    either : (a b : Form) → sumOf a ≡ sumOf b → (s t : Bool) → (cond s (is.Form a) (cond t (is.Form b) is.NoLength) ≡ is.NoLength → ⊥)
-        → sumOf a ≡ sumNamed (cond s (is.Form a) (cond t (is.Form b) is.NoLength))
-    either a b same true t h = refl
-    either a b same false true h = same
-    either a b same false false h = absurd (h refl)
-
-    go : (family : Family) → (namedBy (familyForms family) n ≡ is.NoLength → ⊥) → sumBy (familyForms family) ≡ sumNamed (namedBy (familyForms family) n)
-    go family.Heartbeat h = one (eqb n (messageLength (rowsOf Heartbeat))) h
-    go family.Contract h = either LevelOne LevelTwo refl (eqb n (messageLength (rowsOf LevelOne))) (eqb n (messageLength (rowsOf LevelTwo))) h
-    go family.Pair h = either PairOne PairTwo refl (eqb n (messageLength (rowsOf PairOne))) (eqb n (messageLength (rowsOf PairTwo))) h
-    go family.Outside h = refl

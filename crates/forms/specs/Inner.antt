@@ -1,24 +1,15 @@
 -- Answers of inner functions, which no promise reaches.
-use mathlib.Core.List.{List, [], _∷_}
+use mathlib.Core.List.{[], _∷_}
 use Rattle.forms.specs.declared.forms.Family.{Family}
 use Rattle.forms.specs.declared.forms.Family.the-variants as family
-use Rattle.forms.specs.declared.forms.Form.{Form}
 use Rattle.forms.specs.declared.forms.Form.the-variants.{Heartbeat, LevelOne, LevelTwo, PairOne, PairTwo}
-use Rattle.forms.specs.declared.forms.Named.{Named}
-use Rattle.forms.specs.declared.forms.Named.the-variants as is
-use Rattle.forms.specs.declared.forms.Sum.{Sum}
-use Rattle.forms.specs.declared.forms.Sum.the-variants.{RightOrZero}
-use Rattle.forms.specs.Forms.{sumOf}
+use Rattle.forms.specs.declared.forms.Sum.the-variants.{Zero, Right, RightOrZero}
+use Rattle.forms.specs.Forms.{Meaning}
 
--- a word of our own: the forms of a family of codes
-abbrev pub familyForms : Family → List Form
-familyForms family.Heartbeat = Heartbeat ∷ []
-familyForms family.Contract = LevelOne ∷ LevelTwo ∷ []
-familyForms family.Pair = PairOne ∷ PairTwo ∷ []
-familyForms family.Outside = []
-
--- a word of our own: what the sum may be by what the message is named; of what has none of its code's lengths it is not asked
-abbrev pub sumNamed : Named → Sum
-sumNamed (is.Form form) = sumOf form
-sumNamed is.NoLength = RightOrZero
-sumNamed is.PassedOver = RightOrZero
+-- a word of our own: what the codes of a family mean
+abbrev pub familyMeaning : Family → Meaning
+familyMeaning family.Heartbeat = record { sum = Zero; forms = Heartbeat ∷ [] }
+familyMeaning family.Contract = record { sum = Right; forms = LevelOne ∷ LevelTwo ∷ [] }
+familyMeaning family.Pair = record { sum = Right; forms = PairOne ∷ PairTwo ∷ [] }
+familyMeaning family.Unsummed = record { sum = RightOrZero; forms = [] }
+familyMeaning family.Outside = record { sum = Right; forms = [] }

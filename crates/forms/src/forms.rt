@@ -2,8 +2,8 @@
 ghost use mathlib.Core.Path.{_≡_};
 ghost use Rattle.forms.specs.Answers.{Tells, subjectNumbers, namedNumbers, formNamed, chosenNumbers, formChosen};
 ghost use Rattle.forms.specs.Rows.{dataLength};
-ghost use Rattle.forms.specs.Forms.{rowsOf, subjectOf, keyRowsOf, keyBytesOf, recordForm, formsOf, formOf, sumOf, sumRule, writtenBy, writtenForm};
-ghost use Rattle.forms.specs.Inner.{familyForms, sumNamed};
+ghost use Rattle.forms.specs.Forms.{rowsOf, subjectOf, keyRowsOf, keyBytesOf, recordForm, meaningOf, formOf, sumRule, writtenBy, writtenForm};
+ghost use Rattle.forms.specs.Inner.{familyMeaning};
 use crate::rows::Level;
 
 // What the longest form has, a contract key, and the two keys of a pair.
@@ -73,11 +73,14 @@ pub enum Named {
     PassedOver,
 }
 
-// The codes of the table that have the same forms.
+// The codes that mean the same: they have the same forms and the same rule for their sum.
 enum Family {
     Heartbeat,
     Contract,
     Pair,
+    // Passed over, with a sum that the papers say isn't calculated.
+    Unsummed,
+    // Passed over, with its true sum.
     Outside,
 }
 
@@ -148,18 +151,22 @@ pub fn record_form(item: Item, level: Level) -> Form
 
 // D and T have the same codes.
 fn family_of_second(second: u8) -> Family
-    ensures { λ r. ⌜ familyForms r ≡ formsOf 0x44 second ⌝ }
+    ensures { λ r. ⌜ familyMeaning r ≡ meaningOf 0x44 second ⌝ }
 {
     match second {
         b'H' => Family::Heartbeat,
         b'N' => Family::Contract,
         b'P' => Family::Pair,
+        // Market status.
+        b'O' | b'C' => Family::Unsummed,
+        // End of feed.
+        b'E' => Family::Unsummed,
         _ => Family::Outside,
     }
 }
 
 fn family_of(letter: u8, second: u8) -> Family
-    ensures { λ r. ⌜ familyForms r ≡ formsOf letter second ⌝ }
+    ensures { λ r. ⌜ familyMeaning r ≡ meaningOf letter second ⌝ }
 {
     match letter {
         b'D' => family_of_second(second),
@@ -187,6 +194,7 @@ pub fn form_of(letter: u8, second: u8, length: usize) -> Named
             PAIR_TWO_LENGTH => Named::Form(Form::PairTwo),
             _ => Named::NoLength,
         },
+        Family::Unsummed => Named::PassedOver,
         Family::Outside => Named::PassedOver,
     }
 }
@@ -199,37 +207,14 @@ pub fn sum_rule(letter: u8, second: u8) -> Sum
         Family::Heartbeat => Sum::Zero,
         Family::Contract => Sum::Right,
         Family::Pair => Sum::Right,
-        Family::Outside => Sum::RightOrZero,
-    }
-}
-
-// Heartbeats carry zero, an update its sum.
-fn sum_of(form: Form) -> Sum
-    ensures { λ r. ⌜ r ≡ sumOf form ⌝ }
-{
-    match form {
-        Form::Heartbeat => Sum::Zero,
-        Form::LevelOne => Sum::Right,
-        Form::LevelTwo => Sum::Right,
-        Form::PairOne => Sum::Right,
-        Form::PairTwo => Sum::Right,
-    }
-}
-
-// The same rule, once the form is known. What has none of its code's lengths is refused before its sum is looked at.
-pub fn sum_named(named: Named) -> Sum
-    ensures { λ r. ⌜ r ≡ sumNamed named ⌝ }
-{
-    match named {
-        Named::Form(form) => sum_of(form),
-        Named::NoLength => Sum::RightOrZero,
-        Named::PassedOver => Sum::RightOrZero,
+        Family::Unsummed => Sum::RightOrZero,
+        Family::Outside => Sum::Right,
     }
 }
 
 // The form of a family that tells of what is asked for. A heartbeat tells of nothing; it is written beside contracts.
 fn form_asked(family: Family, item: Item, level: Level) -> Chosen
-    ensures { λ r. ⌜ Tells chosenNumbers formChosen (writtenBy (familyForms family) item level) r ⌝ }
+    ensures { λ r. ⌜ Tells chosenNumbers formChosen (writtenBy (familyMeaning family .forms) item level) r ⌝ }
 {
     match family {
         Family::Heartbeat => match item {
@@ -244,6 +229,7 @@ fn form_asked(family: Family, item: Item, level: Level) -> Chosen
             Item::Contract => Chosen::NoForm,
             Item::Pair => Chosen::Form(record_form(Item::Pair, level)),
         },
+        Family::Unsummed => Chosen::NoForm,
         Family::Outside => Chosen::NoForm,
     }
 }

@@ -24,8 +24,7 @@ use Rattle.forms.specs.declared.forms.Sum.the-variants.{Zero, Right, RightOrZer
 use Rattle.forms.specs.Sizes.{bareLength}
 use Rattle.forms.specs.Rows.{messageLength}
 use Rattle.forms.specs.Forms.{rowsOf, subjectOf, formsOf, ofLength, namedBy, formOf}
-use Rattle.forms.specs.FormsLaws.{told-form, sum-by-form, nothing-zero}
-use Rattle.forms.specs.Inner.{sumNamed}
+use Rattle.forms.specs.FormsLaws.{told-form, nothing-zero}
 use Rattle.head.specs.declared.head.Fault.{Fault}
 use Rattle.head.specs.declared.head.Head.{Head}
 use Rattle.head.specs.declared.head.Head.the-variants.{Good, Bad}
@@ -183,12 +182,6 @@ module _ (letter : ℕ) (segment : Option ℕ) (bytes : List ℕ) where
   pub bad-frame : (fault : Fault) → frameHere ≡ Bad fault → headOf letter segment bytes ≡ Bad fault
   bad-frame fault e = in-turn (Bad fault) e
 
--- once 8 holds, the form tells what the sum may be
-pub sum-of-form : (bytes : List ℕ) (named : Named) → named ≡ formIn bytes → takesLength named ≡ true → sumIn bytes ≡ sumNamed named
-unfolding sumIn formIn
-sum-of-form bytes named e t =
-    rw e (sum-by-form (letterOf bytes) (secondOf bytes) (lengthOf bytes) (λ none. false≢true (ap takesLength (sym (e ∙ none)) ∙ t)))
-
 -- what is named a heartbeat is a form that tells of nothing
 pub heartbeat-form : (named : Named) → isHeartbeat named ≡ true → (form : Form) × (named ≡ is.Form form) × (subjectOf form ≡ Nothing)
 heartbeat-form (is.Form form) e = (form, refl, nothing (subjectOf form) e)
@@ -205,10 +198,10 @@ module _ (bytes : List ℕ) (e : isHeartbeat (formIn bytes) ≡ true) where
   heartbeat-length = rw (heartbeat-form (formIn bytes) e .1)
 
   pub heartbeat-sum : summed bytes ≡ sameBytes (sumSent bytes) zeroSum
-  unfolding summed
+  unfolding summed sumIn formIn
   heartbeat-sum =
       let (form, named, nothing) = heartbeat-form (formIn bytes) e in
-      rw (sum-of-form bytes (is.Form form) (sym named) refl, nothing-zero form nothing)
+      rw (nothing-zero (letterOf bytes) (secondOf bytes) (lengthOf bytes) form named nothing)
 
   pub heartbeat-number : (number : ℕ) → takesNumber (formIn bytes) number ≡ eqb number 0
   heartbeat-number number =

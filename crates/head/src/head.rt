@@ -108,12 +108,12 @@ fn takes_length(named: Named) -> bool
     }
 }
 
-// The sum is worked out only where zero doesn't settle it.
-fn summed(bytes: &[u8], whole: usize, named: Named) -> bool
-    requires { ⌜ Framed (now bytes) × (whole ≡ lengthOf (now bytes)) × (named ≡ formIn (now bytes)) × (takesLength named ≡ true) ⌝ }
+// By the rule of its code. The sum is worked out only where zero doesn't settle it.
+fn summed(bytes: &[u8], whole: usize) -> bool
+    requires { ⌜ Framed (now bytes) × (whole ≡ lengthOf (now bytes)) ⌝ }
     ensures { λ r. ⌜ r ≡ summed (now (bytes .entry)) ⌝ }
 {
-    match layout::sum_named(named) {
+    match layout::sum_rule(fields::letter_of(bytes), fields::second_of(bytes)) {
         Sum::Zero => carries(bytes, whole, 0, 0),
         Sum::Right => carries_right(bytes, whole),
         Sum::RightOrZero => {
@@ -182,7 +182,7 @@ pub fn judge_form(bytes: &[u8], named: Named) -> Head
     if !takes_length(named) {
         return Head::Bad(Fault::Length);
     }
-    if !summed(bytes, fields::length_of(bytes), named) {
+    if !summed(bytes, fields::length_of(bytes)) {
         return Head::Bad(Fault::Checksum);
     }
     if !takes_number(named, fields::number_of(bytes)) {

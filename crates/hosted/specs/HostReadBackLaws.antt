@@ -18,7 +18,7 @@ use Rattle.forms.specs.declared.forms.Item.the-variants.{Contract, Pair}
 use Rattle.forms.specs.declared.forms.Subject.the-variants.{Of}
 use Rattle.forms.specs.declared.forms.Named.the-variants as is
 use Rattle.forms.specs.declared.rows.Level.{Level}
-use Rattle.forms.specs.Forms.{rowsOf, recordForm, formsOf, keyBytesOf}
+use Rattle.forms.specs.Forms.{rowsOf, recordForm, meaningOf, keyBytesOf}
 use Rattle.forms.specs.FormsLaws.{about-subject}
 use Rattle.layout.specs.declared.read.Verdict.the-variants as verdict
 use Rattle.layout.specs.Cells.{zerosBehind}
@@ -96,7 +96,7 @@ older-number item lent level letter key number some-number o = go (o .read .reco
 -- ---- what is written
 
 update-form : (item : Item) (code : List ℕ) (level : Level) → IsUpdate item code → formWritten item (codeOf code) level ≡ chosen.Form (recordForm item level)
-unfolding formsOf
+unfolding meaningOf
 update-form Contract code level update =
     ⊎-elim (λ (e : code ≡ 68 ∷ 78 ∷ []). rw e (level-chosen 68 78 Contract level refl)) (λ (e : code ≡ 84 ∷ 78 ∷ []). rw e (level-chosen 84 78 Contract level refl)) update
 update-form Pair code level update =

@@ -11,7 +11,7 @@ use Rattle.forms.specs.declared.forms.Form.the-variants.{Heartbeat}
 use Rattle.forms.specs.declared.forms.Item.the-variants.{Contract}
 use Rattle.forms.specs.declared.forms.Named.the-variants as is
 use Rattle.forms.specs.declared.forms.Sum.the-variants.{Zero}
-use Rattle.forms.specs.Forms.{formsOf, sumRule, writtenForm}
+use Rattle.forms.specs.Forms.{meaningOf, sumRule, writtenForm}
 use Rattle.forms.specs.FormsLaws.{nothing-rows, nothing-zero, written-told}
 use Rattle.head.specs.GoodHead.{LetterListed}
 use Rattle.head.specs.HeadLaws.{listed-exact, number-exact}
@@ -36,7 +36,7 @@ use Rattle.written.specs.WrittenUpdateLaws.{number-fits, message-there, 
 
 -- 01 "The message": DH and TH
 pub heartbeats-chosen : (level : Level) → WritesHeartbeat (record { 0 = 68; 1 = 72 }) level × WritesHeartbeat (record { 0 = 84; 1 = 72 }) level
-unfolding writtenForm formsOf
+unfolding writtenForm meaningOf
 heartbeats-chosen level = ((Heartbeat, refl, refl), (Heartbeat, refl, refl))
 
 module _ (code : Code) (level : Level) (number : ℕ) (key : List ℕ) (values : Form → List ℕ) (out out′ : List ℕ) (n : ℕ)
@@ -53,7 +53,7 @@ module _ (code : Code) (level : Level) (number : ℕ) (key : List ℕ) (values :
     pub heartbeat-bytes : take n out′ ≡ code .0 ∷ code .1 ∷ 0 ∷ 11 ∷ 0 ∷ 0 ∷ 0 ∷ 0 ∷ 0 ∷ 0 ∷ 13 ∷ []
     unfolding messageBytes
     heartbeat-bytes =
-        let sum : sumRule (code .0) (code .1) ≡ Zero = written-told (code .0) (code .1) Contract level form (beat .1) .summed-so ∙ nothing-zero form (beat .2) in
+        let sum : sumRule (code .0) (code .1) ≡ Zero = nothing-zero (code .0) (code .1) _ form (written-told (code .0) (code .1) Contract level form (beat .1)) (beat .2) in
         message-there Contract code level number key values out out′ n form (beat .1) wrote ∙ rw (heartbeat-zero, nothing-rows form (beat .2), sum)
 
     abbrev batch : List ℕ

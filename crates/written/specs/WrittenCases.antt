@@ -18,7 +18,7 @@ use Rattle.forms.specs.declared.forms.Item.{Item}
 use Rattle.forms.specs.declared.forms.Item.the-variants.{Contract, Pair}
 use Rattle.forms.specs.declared.forms.Chosen.{Chosen}
 use Rattle.forms.specs.declared.forms.Chosen.the-variants as chosen
-use Rattle.forms.specs.Forms.{namedRows, rowsOf, formsOf, sumRule, writtenForm}
+use Rattle.forms.specs.Forms.{namedRows, rowsOf, meaningOf, writtenForm}
 use Rattle.forms.specs.Sizes.{mostRows, keyBytes, pairBytes}
 use Rattle.compose.specs.Write.{rowText}
 use Rattle.writer.specs.declared.writing.Code.{Code}
@@ -79,12 +79,12 @@ pub answers : map answerTo (
     ≡ (6 ∷ 0 ∷ 0 ∷ 0 ∷ []) ∷ (6 ∷ 0 ∷ 0 ∷ 0 ∷ []) ∷ (6 ∷ 0 ∷ 0 ∷ 0 ∷ []) ∷ (10 ∷ 0 ∷ 0 ∷ 0 ∷ []) ∷ (10 ∷ 0 ∷ 0 ∷ 0 ∷ [])
     ∷ (11 ∷ 0 ∷ 1 ∷ 0 ∷ []) ∷ (15 ∷ 0 ∷ 0 ∷ 505 ∷ [])
     ∷ (0 ∷ 505 ∷ []) ∷ (0 ∷ 249 ∷ []) ∷ (0 ∷ 11 ∷ []) ∷ []
-unfolding writeRules lengthWritten dataWritten writtenForm formsOf rowsOf namedRows rowText quoteOf valuesOf textOf size sizeIn
+unfolding writeRules lengthWritten dataWritten writtenForm meaningOf rowsOf namedRows rowText quoteOf valuesOf textOf size sizeIn
 answers = refl
 
 -- M-100: the writer of pairs asked for a contract's code, a heartbeat's, and one outside the table
 pub pair-codes : map answerTo (askedPair 68 78 One ∷ askedPair 84 78 Two ∷ askedPair 84 72 One ∷ askedPair 65 80 Two ∷ []) ≡ replicate 4 (6 ∷ 0 ∷ 0 ∷ 0 ∷ [])
-unfolding writeRules lengthWritten dataWritten writtenForm formsOf rowsOf namedRows rowText spreadQuoteOf spreadValuesOf textOf size sizeIn
+unfolding writeRules lengthWritten dataWritten writtenForm meaningOf rowsOf namedRows rowText spreadQuoteOf spreadValuesOf textOf size sizeIn
 pair-codes = refl
 
 -- M-100: an update of a pair without a number, with a byte 31 in its second key, with a last traded price over the largest on either
@@ -101,5 +101,5 @@ pair-answers = refl
 
 -- P5's heartbeat
 pub heartbeat : messageBytes (record { 0 = 68; 1 = 72 }) 0 [] ≡ 68 ∷ 72 ∷ 0 ∷ 11 ∷ 0 ∷ 0 ∷ 0 ∷ 0 ∷ 0 ∷ 0 ∷ 13 ∷ []
-unfolding messageBytes sumRule formsOf
+unfolding messageBytes meaningOf
 heartbeat = refl

@@ -1,10 +1,10 @@
 -- The form that is written stands with its code in the table, so that code and length name it again.
 use Prim.Native.Nat.{ℕ}
-use mathlib.Core.Path.{_≡_, refl, ap}
+use mathlib.Core.Path.{_≡_, refl}
 use mathlib.Core.Bool.{Bool, true, false, _&&_, cond, false≢true}
 use mathlib.Core.Logic.{_↔_}
-use mathlib.Core.List.{List, [], _∷_, _++_, map, List·Memᴰ, List·Memᴰ·head, List·Memᴰ·tail}
-use borrow.Author.Tests.{eqb-true, eq-eqb}
+use mathlib.Core.List.{List, [], _∷_, map, List·Memᴰ, List·Memᴰ·head, List·Memᴰ·tail}
+use borrow.Author.Tests.{eqb-true}
 use lib.Dec.{eqb}
 use Rattle.laws.specs.Choice.{clash}
 use Rattle.laws.specs.Tests.{both}
@@ -15,8 +15,8 @@ use Rattle.forms.specs.declared.forms.Item.{Item}
 use Rattle.forms.specs.declared.forms.Item.the-variants.{Contract}
 use Rattle.forms.specs.declared.forms.Named.the-variants as is
 use Rattle.forms.specs.declared.forms.Chosen.the-variants as chosen
-use Rattle.forms.specs.Forms.{rowsOf, subjectOf, recordForm, Entry, entry, table, formsIn, formsOf, formOf, isAsked, writtenBy, writtenForm}
-use Rattle.forms.specs.FormsLaws.{one-of-them, asked-written, written-told}
+use Rattle.forms.specs.Forms.{rowsOf, subjectOf, recordForm, Line, table, meaningIn, meaningOf, formsOf, formOf, isAsked, writtenBy, writtenForm}
+use Rattle.forms.specs.FormsLaws.{table-told, one-of-them, asked-written, written-told}
 use Rattle.forms.specs.Rows.{messageLength}
 use Rattle.head.specs.Tests.{isCapital}
 use Rattle.writer.specs.declared.writing.Code.{Code}
@@ -58,53 +58,60 @@ module _ (item : Item) (level : Level) where
 
 -- ---- the table
 
+-- 01 "The message": a line of the table with the code and the form
+pub record HasLine (lines : List Line) (letter second : ℕ) (form : Form) : Type 0 where
+  pub line : Line
+  pub there : List·Memᴰ line lines
+  pub its-letter : letter ≡ line .letter
+  pub its-second : second ≡ line .second
+  pub its-form : List·Memᴰ form (line .meaning .forms)
+
 -- a form of a code stands with it in the table
-line-there : (lines : List Entry) (letter second : ℕ) (form : Form) → List·Memᴰ form (formsIn lines letter second) → List·Memᴰ (entry letter second form) lines
+line-there : (lines : List Line) (letter second : ℕ) (form : Form) → List·Memᴰ form (meaningIn lines letter second .forms) → HasLine lines letter second form
 line-there (line ∷ lines) letter second form m = go (eqb letter (line .letter) && eqb second (line .second)) refl m (line-there lines letter second form)
   where
-    go : (t : Bool) → eqb letter (line .letter) && eqb second (line .second) ≡ t → List·Memᴰ form (cond t (line .form ∷ []) [] ++ formsIn lines letter second)
-        → (List·Memᴰ form (formsIn lines letter second) → List·Memᴰ (entry letter second form) lines) → List·Memᴰ (entry letter second form) (line ∷ lines)
-    go true t (List·Memᴰ·head same) later =
+    go : (t : Bool) → eqb letter (line .letter) && eqb second (line .second) ≡ t → List·Memᴰ form (cond t (line .meaning) (meaningIn lines letter second) .forms)
+        → (List·Memᴰ form (meaningIn lines letter second .forms) → HasLine lines letter second form) → HasLine (line ∷ lines) letter second form
+    go true t m later =
         let codes = both (eqb letter (line .letter)) (eqb second (line .second)) t in
-        let first = eqb-true letter (line .letter) (codes .0) in
-        let next = eqb-true second (line .second) (codes .1) in
-        List·Memᴰ·head (λ i. entry (first i) (next i) (same i))
-    go true t (List·Memᴰ·tail m) later = List·Memᴰ·tail (later m)
-    go false t m later = List·Memᴰ·tail (later m)
-
-in-its-forms : (lines : List Entry) (letter second : ℕ) (form : Form) → List·Memᴰ (entry letter second form) lines → List·Memᴰ form (formsIn lines letter second)
-in-its-forms (line ∷ lines) letter second form (List·Memᴰ·head same) =
-    let first = eq-eqb letter (line .letter) (ap (λ (e : Entry). e .letter) same) in
-    let next = eq-eqb second (line .second) (ap (λ (e : Entry). e .second) same) in
-    rw (first, next) (List·Memᴰ·head (ap (λ (e : Entry). e .form) same))
-in-its-forms (line ∷ lines) letter second form (List·Memᴰ·tail m) = go (eqb letter (line .letter) && eqb second (line .second)) (in-its-forms lines letter second form m)
-  where
-    go : (t : Bool) → List·Memᴰ form (formsIn lines letter second) → List·Memᴰ form (cond t (line .form ∷ []) [] ++ formsIn lines letter second)
-    go true later = List·Memᴰ·tail later
-    go false later = later
-
--- 01, the table's row 6, M-100: the code is in the table for what is asked exactly where a line of it has the code, and a form that
--- tells of that
-pub table-exact : (item : Item) (code : Code) (level : Level)
-    → inTable (formWritten item code level) ≡ true ↔ (form : Form) × List·Memᴰ (entry (code .0) (code .1) form) table × (isAsked (subjectOf form) item level ≡ true)
-unfolding writtenForm formsOf
-table-exact item code level = (
-  (λ e. let f = found-among item level (formsOf (code .0) (code .1)) e in (f .0, line-there table (code .0) (code .1) (f .0) (f .1), f .2)),
-  (λ f. among-found item level (formsOf (code .0) (code .1)) (f .0) (in-its-forms table (code .0) (code .1) (f .0) (f .1)) (f .2)),
-)
+        record {
+          line = line;
+          there = List·Memᴰ·head refl;
+          its-letter = eqb-true letter (line .letter) (codes .0);
+          its-second = eqb-true second (line .second) (codes .1);
+          its-form = m;
+        }
+    go false t m later = let h = later m in record { line = h .line; there = List·Memᴰ·tail (h .there); its-letter = h .its-letter; its-second = h .its-second; its-form = h .its-form }
 
 -- what two words say alike of every line, they say alike of one
 alike : {A B : Type 0} (f g : A → B) (lines : List A) {line : A} → map f lines ≡ map g lines → List·Memᴰ line lines → f line ≡ g line
 alike f g (first ∷ lines) e (List·Memᴰ·head same) = let here : f first ≡ g first = cc in rw same here
 alike f g (first ∷ lines) e (List·Memᴰ·tail m) = alike f g lines (cc) m
 
-capitals : map (λ (line : Entry). isCapital (line .second)) table ≡ map (λ (line : Entry). true) table
+in-its-forms : (letter second : ℕ) (form : Form) → HasLine table letter second form → List·Memᴰ form (formsOf letter second)
+in-its-forms letter second form h =
+    let said : meaningOf (h .line .letter) (h .line .second) ≡ h .line .meaning
+    = alike (λ (line : Line). meaningOf (line .letter) (line .second)) (λ (line : Line). line .meaning) table table-told (h .there)
+    in
+    rw (formsOf, h .its-letter, h .its-second, said) (h .its-form)
+
+-- 01, the table's row 6, M-100: the code is in the table for what is asked exactly where a line of it has the code, and a form that
+-- tells of that
+pub table-exact : (item : Item) (code : Code) (level : Level)
+    → inTable (formWritten item code level) ≡ true ↔ (form : Form) × HasLine table (code .0) (code .1) form × (isAsked (subjectOf form) item level ≡ true)
+unfolding writtenForm meaningOf
+table-exact item code level = (
+  (λ e. let f = found-among item level (formsOf (code .0) (code .1)) e in (f .0, line-there table (code .0) (code .1) (f .0) (f .1), f .2)),
+  (λ f. among-found item level (formsOf (code .0) (code .1)) (f .0) (in-its-forms (code .0) (code .1) (f .0) (f .1)) (f .2)),
+)
+
+capitals : map (λ (line : Line). isCapital (line .second)) table ≡ map (λ (line : Line). true) table
 capitals = refl
 
 module _ (letter second : ℕ) (item : Item) (level : Level) (form : Form) (e : writtenForm letter second item level ≡ chosen.Form form) where
-  there : List·Memᴰ (entry letter second form) table
-  unfolding writtenForm formsOf
-  there = line-there table letter second form (one-of-them (formsOf letter second) item level form e)
+  has-line : HasLine table letter second form
+  unfolding writtenForm meaningOf
+  has-line = line-there table letter second form (one-of-them (formsOf letter second) item level form e)
 
   -- M-100: what is written tells of what was asked for
   pub asked-so : isAsked (subjectOf form) item level ≡ true
@@ -113,11 +120,12 @@ module _ (letter second : ℕ) (item : Item) (level : Level) (form : Form) (e : 
 
   -- 01 "The message": the length tells a code's forms apart
   pub form-told : formOf letter second (messageLength (rowsOf form)) ≡ is.Form form
-  form-told = written-told letter second item level form e .named-so
+  form-told = written-told letter second item level form e
 
   -- 01 "The message": the second byte is A to Z
   pub second-capital : isCapital second ≡ true
-  second-capital = alike (λ (line : Entry). isCapital (line .second)) (λ (line : Entry). true) table capitals there
+  second-capital =
+      rw (has-line .its-second) (alike (λ (line : Line). isCapital (line .second)) (λ (line : Line). true) table capitals (has-line .there))
 
 -- 01 "The message", M-100: where a code has the two forms of a contract, or of a pair, the update of the level that is asked for is
 -- written
@@ -129,5 +137,5 @@ level-chosen letter second item level e = rw e (asked-written item level)
 -- 01 "The message": DN and TN are updates of contracts
 pub update-chosen : (level : Level)
     → (writtenForm 68 78 Contract level ≡ chosen.Form (recordForm Contract level)) × (writtenForm 84 78 Contract level ≡ chosen.Form (recordForm Contract level))
-unfolding formsOf
+unfolding meaningOf
 update-chosen level = (level-chosen 68 78 Contract level refl, level-chosen 84 78 Contract level refl)

@@ -1,20 +1,20 @@
 -- D, T, and every other letter.
 use borrow.Author.Tests.{ne-eqb}
-use Rattle.forms.specs.Forms.{formsOf}
+use Rattle.forms.specs.Forms.{meaningOf}
 use borrow.Author.Needs.{needs}
 use Rattle.forms.proofs.forms.family_of.Statement.{statement}
 use Rattle.forms.proofs.forms.family_of.Tie as tie
 
 returns : tie.Need-returns
-unfolding formsOf
+unfolding meaningOf
 returns c = rw (c .before .match .keys1) (c .family-of-second .ensures)
 
 returns-2 : tie.Need-returns-2
-unfolding formsOf
+unfolding meaningOf
 returns-2 c = rw (c .before .match .keys2) (c .family-of-second2 .ensures)
 
 returns-3 : tie.Need-returns-3
-unfolding formsOf
+unfolding meaningOf
 returns-3 c = simp (ne-eqb _ _ (c .match .rest .0 .1), ne-eqb _ _ (c .match .rest .1))
 
 pub family-of-spec : {M : Type 1} → statement M

@@ -1,24 +1,42 @@
--- H, N, P, and every other byte.
+-- H, N, P, O and C, E, and every other byte.
+use mathlib.Core.Logic.{inl, inr}
 use borrow.Author.Tests.{ne-eqb}
-use Rattle.forms.specs.Forms.{formsOf}
+use Rattle.forms.specs.Forms.{meaningOf}
 use Rattle.forms.proofs.forms.family_of_second.Statement.{statement}
 use Rattle.forms.proofs.forms.family_of_second.Tie as tie
 
 returns : tie.Need-returns
-unfolding formsOf
+unfolding meaningOf
 returns c = rw (c .match .keys1)
 
 returns-2 : tie.Need-returns-2
-unfolding formsOf
+unfolding meaningOf
 returns-2 c = rw (c .match .keys2)
 
 returns-3 : tie.Need-returns-3
-unfolding formsOf
+unfolding meaningOf
 returns-3 c = rw (c .match .keys3)
 
 returns-4 : tie.Need-returns-4
-unfolding formsOf
-returns-4 c = simp (ne-eqb _ _ (c .match .rest .0 .0 .1), ne-eqb _ _ (c .match .rest .0 .1), ne-eqb _ _ (c .match .rest .1))
+unfolding meaningOf
+returns-4 c = elim (c .match .keys4) [ inl e ↦ rw e | inr e ↦ rw e ]
+
+returns-5 : tie.Need-returns-5
+unfolding meaningOf
+returns-5 c = rw (c .match .keys5)
+
+returns-6 : tie.Need-returns-6
+unfolding meaningOf
+returns-6 c =
+    let others = c .match .rest in
+    simp (
+      ne-eqb _ _ (others .0 .0 .0 .0 .1),
+      ne-eqb _ _ (others .0 .0 .0 .1),
+      ne-eqb _ _ (others .0 .0 .1),
+      ne-eqb _ _ (λ e. others .0 .1 (inr e)),
+      ne-eqb _ _ (λ e. others .0 .1 (inl e)),
+      ne-eqb _ _ (others .1),
+    )
 
 pub family-of-second-spec : {M : Type 1} → statement M
-family-of-second-spec = tie.close (tie.spec returns returns-2 returns-3 returns-4)
+family-of-second-spec = tie.close (tie.spec returns returns-2 returns-3 returns-4 returns-5 returns-6)

@@ -19,5 +19,5 @@ pub form-asked-spec : {M : Type 1} → statement M
 form-asked-spec =
     tie.close
     (tie.spec (search needs) (search needs) (search needs) (search needs) (search needs) (λ c κs. search needs) (search needs) (search needs)
-    (search needs) (search needs) (λ c κs. search needs) (search needs)
-    returns (λ c. search needs) returns-3 (λ c. search needs) (λ c. search needs) returns-6 (λ c. search needs))
+    (search needs) (search needs) (λ c κs. search needs) (search needs) (search needs)
+    returns (λ c. search needs) returns-3 (λ c. search needs) (λ c. search needs) returns-6 (λ c. search needs) (λ c. search needs))

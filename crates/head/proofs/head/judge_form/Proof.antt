@@ -27,9 +27,7 @@ number-is c t e =
 
 summed-requires : tie.Need-summed-requires
 summed-requires c κs =
-    let d = c .before in
-    let s = d .before .before .before in
-    (framed-exact _ .0 (s .pre .0), c .length-of .ensures, s .pre .1, sym (d .before .takes-length .ensures) ∙ not-false _ (d .if1 .left))
+    (framed-exact _ .0 (c .before .before .before .before .pre .0), c .length-of .ensures)
 
 returns : tie.Need-returns
 returns c = rw (length-is (c .before) false (not-true _ (c .if1 .taken)))

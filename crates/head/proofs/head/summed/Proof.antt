@@ -3,14 +3,14 @@ use mathlib.Core.Path.{_≡_, sym, _∙_}
 use Rattle.forms.specs.declared.forms.Sum.{Sum}
 use Rattle.head.specs.Fields.{sumIn}
 use Rattle.head.specs.Tests.{summed}
-use Rattle.head.specs.HeadLaws.{sum-of-form}
 use borrow.Author.Needs.{needs}
 use Rattle.head.proofs.head.summed.Statement.{statement}
 use Rattle.head.proofs.head.summed.Tie as tie
 
--- the rule of the code is that of the form
-rule-is : (c : tie.After-sum-named) {sum : Sum} → c .sum-named .result ≡ sum → sumIn (c .before .before .args .bytes .now) ≡ sum
-rule-is c e = let s = c .before .before in sum-of-form (s .args .bytes .now) (s .args .named) (s .pre .2) (s .pre .3) ∙ sym (c .sum-named .ensures) ∙ e
+-- what the table says of the message's code
+rule-is : (c : tie.After-sum-rule) {sum : Sum} → c .sum-rule .result ≡ sum → sumIn (c .before .before .before .before .args .bytes .now) ≡ sum
+unfolding sumIn
+rule-is c e = rw (← c .before .before .letter-of .ensures, ← c .before .second-of .ensures) (sym (c .sum-rule .ensures) ∙ e)
 
 returns : tie.Need-returns
 unfolding summed
@@ -30,4 +30,4 @@ returns-4 c = rw (rule-is (c .before .before .before .before .before) (c .before
 
 pub summed-spec : {M : Type 1} → statement M
 summed-spec =
-    tie.close (tie.spec (search needs) (search needs) (search needs) (search needs) (search needs) (search needs) (search needs) returns (search needs) returns-2 returns-3 returns-4)
+    tie.close (tie.spec (search needs) (search needs) (search needs) (search needs) (search needs) (search needs) (search needs) (search needs) (search needs) returns (search needs) returns-2 returns-3 returns-4)

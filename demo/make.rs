@@ -1,4 +1,5 @@
-// Makes the feed of the demonstration with the box's own writers, asked through the program `calls`.
+// Makes the feed of the demonstration with the box's own writers, asked through the program `calls`; what the box only passes over is laid
+// out here.
 //   make FOLDER PROGRAM...      writes FOLDER/contracts, FOLDER/spreads and FOLDER/feed
 #[path = "../tests/asks.rs"]
 mod asks;

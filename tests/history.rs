@@ -543,6 +543,10 @@ fn form_of(message: &[u8]) -> Option<&'static Form> {
     reference::form_of(message[1], message.len())
 }
 
+fn carries_zero(message: &[u8]) -> bool {
+    message[message.len() - 3..message.len() - 1] == [0, 0]
+}
+
 // How pairs' messages of an accepted batch stand to what came before them, by the gap row of before.
 fn note_taken(batch: &[u8], row: &mut [u32], seen: &mut Seen) {
     let all = messages(batch);
@@ -555,7 +559,7 @@ fn note_taken(batch: &[u8], row: &mut [u32], seen: &mut Seen) {
         let (number, before) = (u32::from_be_bytes(message[4..8].try_into().unwrap()), row[1]);
         let taken = matches!(reference::take_number(row, number), reference::Taking::Taken);
         if feed::UNSUMMED.contains(&message[1]) {
-            met(if message[message.len() - 3..message.len() - 1] == [0, 0] { "market status or end of feed with zero" } else { "market status or end of feed with its sum" });
+            met(if carries_zero(message) { "market status or end of feed with zero" } else { "market status or end of feed with its sum" });
         }
         if let Some(form) = form_of(message).filter(|form| form.is_pair()) {
             met(match (taken, number > before) {
@@ -579,7 +583,7 @@ fn note_refused(number: u8, message: usize, batch: &[u8], seen: &mut Seen) {
         None => return,
     };
     let (code, length) = (refused[1] as char, refused.len());
-    let zero = refused[length - 3..length - 1] == [0, 0];
+    let zero = carries_zero(refused);
     if code == 'P' {
         met(format!("{number} for a pair's message"));
         if number == 9 && zero {

@@ -657,6 +657,7 @@ fn checked(sum: Sum, lists: &Lists, segment: Option<(usize, u8)>, message: &[u8]
     };
     let (summed, trailer) = (&message[..length - 3], [message[length - 3], message[length - 2]]);
     let zero = trailer == [0, 0];
+    // Zero where the code's section says that the sum isn't calculated: 000 and 003, 3.1 (H), 4.2 (O and C) and 4.11 (E).
     let right = match code {
         b'H' => zero,
         b'C' | b'E' | b'O' => zero || trailer == sum(summed),

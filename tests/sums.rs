@@ -75,7 +75,7 @@ fn one_code(code: [u8; 2], list: &[u8], pairs: &[u8]) -> Case {
 
 // Zero is taken where it is the true sum: here of a code that no section prints.
 fn true_zero(letter: u8, list: &[u8], pairs: &[u8]) -> Case {
-    let code = [letter, b'B'];
+    let code = [letter, b'X'];
     let fits = |end: &u16| reference::sum_by_bits(&carrying(code, 1, &[b"N", &end.to_be_bytes()[..]].concat(), |sum| sum)[..11]) == NOTHING;
     let end = (0..=u16::MAX).find(fits).expect("two bytes lead to every sum");
     let data = [b"N", &end.to_be_bytes()[..]].concat();

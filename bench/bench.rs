@@ -29,6 +29,24 @@ enum Box {
     Independent(Sum),
 }
 
+// So many bytes before the library's functions, from the start of a cache line on; `bench/run` says why.
+std::arch::global_asm!(
+    ".pushsection .text.shift, \"ax\", @progbits",
+    ".p2align 6",
+    ".globl bench_shift",
+    "bench_shift:",
+    concat!(".skip ", env!("SHIFT")),
+    "ret",
+    ".popsection"
+);
+
+extern "C" {
+    fn bench_shift();
+}
+
+#[used]
+static SHIFT: unsafe extern "C" fn() = bench_shift;
+
 const BOXES: [Box; 3] = [Box::Ours, Box::Independent(reference::sum_by_bytes), Box::Independent(reference::sum_by_sixteens)];
 
 // The same value, of which the compiler knows nothing. std's own is newer than the oldest rustc that we compile with, Debian 12's.
@@ -42,16 +60,12 @@ struct Memory {
     records: Vec<u64>,
 }
 
-fn told(result: Result<reference::Counts, reference::Refusal>) -> Answered {
-    result.map_or_else(|refusal| refusal.told(), |counts| counts.told())
-}
-
 impl Box {
     fn judge(self, lists: Lists, memory: &mut Memory, batch: &[u8]) -> Answered {
         let (rows, records) = (&memory.rows, &memory.records);
         match self {
             Box::Ours => lists.judge(rows, records, batch),
-            Box::Independent(sum) => told(reference::judge(sum, lists.list, lists.spreads, rows, records, batch)),
+            Box::Independent(sum) => reference::told(reference::judge(sum, lists.list, lists.spreads, rows, records, batch)),
         }
     }
 
@@ -59,7 +73,7 @@ impl Box {
         let (rows, records) = (&mut memory.rows, &mut memory.records);
         match self {
             Box::Ours => lists.take(rows, records, batch),
-            Box::Independent(sum) => told(reference::take(sum, lists.list, lists.spreads, rows, records, batch)),
+            Box::Independent(sum) => reference::told(reference::take(sum, lists.list, lists.spreads, rows, records, batch)),
         }
     }
 }

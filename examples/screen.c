@@ -1,5 +1,5 @@
-/* A small host: starts a box, takes a file of batches, one behind the other, and prints five prices a side of each listed contract and
- * of each listed spread. Without a file of spreads there are none.
+/* A small host: starts a box, takes a file of batches, one behind the other, and prints how many keys their lookups compared, what is
+ * missing, and five prices a side of each listed contract and of each listed spread. Without a file of spreads there are none.
  *   screen CONTRACTS BATCHES [SPREADS] */
 #include "quotebox.h"
 
@@ -82,8 +82,9 @@ static uint32_t start(struct box *box) {
     return refused;
 }
 
-/* Each batch says how long it is; what is left at the end is handed over as it is, and refused. */
+/* Each batch says how long it is; what is left at the end is handed over as it is, and refused. A refused batch's lookups count too. */
 static void take_all(struct box *box, struct bytes batches) {
+    uint64_t compared = 0, most = 0;
     size_t at = 0;
     for (size_t batch = 0; at < batches.length; batch++) {
         size_t left = batches.length - at;
@@ -93,8 +94,11 @@ static void take_all(struct box *box, struct bytes batches) {
         uint32_t refused = quotebox_take(box->list.at, box->list.length, box->spreads.at, box->spreads.length, box->rows,
                                          box->rows_length, box->records, box->records_length, batches.at + at, length, answer);
         if (refused != 0) printf("batch %zu refused %" PRIu32 " message %" PRIu64 "\n", batch, refused, answer[0]);
+        compared += answer[3];
+        if (most < answer[3]) most = answer[3];
         at += length;
     }
+    printf("%" PRIu64 " keys compared, at most %" PRIu64 " in a batch\n", compared, most);
 }
 
 /* A decimal without needless zeros. */

@@ -1,5 +1,5 @@
-//! A small host: starts a box, takes a file of batches, one behind the other, and prints five prices a side of each listed contract
-//! and of each listed spread. Without a file of spreads there are none.
+//! A small host: starts a box, takes a file of batches, one behind the other, and prints how many keys their lookups compared, what is
+//! missing, and five prices a side of each listed contract and of each listed spread. Without a file of spreads there are none.
 //!   screen CONTRACTS BATCHES [SPREADS]
 use std::process::exit;
 
@@ -171,11 +171,12 @@ fn start(list: Vec<u8>, spreads: Vec<u8>) -> QuoteBox {
     quotes
 }
 
-/// Each batch says how long it is; what is left at the end is handed over as it is, and refused.
+/// Each batch says how long it is; what is left at the end is handed over as it is, and refused. A refused batch's lookups count too.
 fn take_all(quotes: &mut QuoteBox, batches: &[u8]) {
     const FRONT: usize = 5;
     let mut left = batches;
     let mut batch = 0;
+    let (mut compared, mut most) = (0, 0);
     while !left.is_empty() {
         let says = if left.len() < FRONT { left.len() } else { FRONT + u16_at(left, 1) };
         let length = says.min(left.len());
@@ -183,9 +184,12 @@ fn take_all(quotes: &mut QuoteBox, batches: &[u8]) {
         if refused != 0 {
             println!("batch {batch} refused {refused} message {}", answer[0]);
         }
+        compared += answer[3];
+        most = most.max(answer[3]);
         left = &left[length..];
         batch += 1;
     }
+    println!("{compared} keys compared, at most {most} in a batch");
 }
 
 /// A price as a decimal without needless zeros; blank for none.

@@ -20,7 +20,7 @@
  *   refused    answer[0] the message, counted from 0 (0 where the refusal has none)
  *              answer[1] the row of the message's data, counted from 0 (QUOTEBOX_FIELD, QUOTEBOX_RANGE)
  *              answer[2] the cells wanted (QUOTEBOX_MEMORY)
- *              answer[3] 0
+ *              answer[3] the keys compared (quotebox_judge, quotebox_take; 0 of every other function)
  *
  * A refused call leaves everything lent as it was, `answer` apart. No call writes past its answer.
  *
@@ -108,8 +108,16 @@ uint32_t quotebox_start(const uint8_t *list, size_t list_length, const uint8_t *
 /* Every call below but the writers first refuses QUOTEBOX_LIST (for list, then for spreads), QUOTEBOX_MEMORY (for rows, then for
  * records) and QUOTEBOX_STATE, in this order; what it says under "Refused" comes after these. */
 
+/* What finding a batch's contracts and spreads costs stands in answer[3] of the next two, accepted or refused: the keys compared, over all
+ * lookups of the batch. Each update is looked up once, old ones too, when its rows have passed: a contract's among its segment's contracts, a
+ * spread's among its segment's pairs. Of n keys left the one with (n - 1) / 2 below it, rounded down, is compared; a match ends the lookup, and
+ * else it goes on in the half where the key belongs. So a lookup compares at most as many keys as its segment's number of them has binary
+ * digits: 13 among 4,096 contracts, 11 among 1,024 pairs, 0 where there are none. Heartbeats and messages that are passed over have no lookup.
+ * Refused, it is the lookups until then: with the refused message's own for QUOTEBOX_CONTRACT and QUOTEBOX_GAPS, all of them where bytes are
+ * left over after the last message (QUOTEBOX_COUNT), and 0 where the batch is refused before its first message. */
+
 /* Judges an unpacked batch and changes nothing: returns and answers what quotebox_take would.
- * Accepted: messages taken, messages old, heartbeats.
+ * Accepted: messages taken, messages old, heartbeats, keys compared.
  * Refused: QUOTEBOX_SIZE to QUOTEBOX_GAPS. */
 uint32_t quotebox_judge(const uint8_t *list, size_t list_length, const uint8_t *spreads, size_t spreads_length, const uint32_t *rows,
                         size_t rows_length, const uint64_t *records, size_t records_length, const uint8_t *batch,
@@ -117,7 +125,7 @@ uint32_t quotebox_judge(const uint8_t *list, size_t list_length, const uint8_t *
 
 /* Takes an unpacked batch whole, or refuses it and changes nothing.
  * rows, records: written where it is accepted.
- * Accepted: messages taken, messages old, heartbeats.
+ * Accepted: messages taken, messages old, heartbeats, keys compared.
  * Refused: QUOTEBOX_SIZE to QUOTEBOX_GAPS. */
 uint32_t quotebox_take(const uint8_t *list, size_t list_length, const uint8_t *spreads, size_t spreads_length, uint32_t *rows,
                        size_t rows_length, uint64_t *records, size_t records_length, const uint8_t *batch, size_t batch_length,

@@ -78,6 +78,17 @@ impl Ask {
             Ask::Lend { .. } | Ask::List(_) | Ask::Poke { .. } | Ask::Spreads(_) => "",
         }
     }
+
+    pub fn is_batch(&self) -> bool {
+        matches!(self, Ask::Judge(_) | Ask::Take(_))
+    }
+}
+
+// A case's name, its contract list, what is asked and the lines that answer it.
+pub type Case = (String, Vec<u8>, Vec<Ask>, Vec<String>);
+
+pub fn lines(all: &[&str]) -> Vec<String> {
+    all.iter().map(|line| line.to_string()).collect()
 }
 
 // What an accepted call answers.
@@ -114,7 +125,7 @@ impl Said {
     fn words(&self) -> String {
         match self {
             Said::Started => "ok".into(),
-            Said::Judged(Counts { taken, old, heartbeats }) => format!("ok {taken} {old} {heartbeats}"),
+            Said::Judged(Counts { taken, old, heartbeats, compared }) => format!("ok {taken} {old} {heartbeats} {compared}"),
             Said::Listed { highest, runs } => {
                 let each: String = runs.iter().map(|(first, last)| format!(" {first}-{last}")).collect();
                 format!("ok {highest} {}{each}", runs.len())
@@ -125,6 +136,13 @@ impl Said {
             Said::Written(message) => format!("ok {} {}", message.len(), hex(message)),
         }
     }
+}
+
+// The same of a refusal; that of a batch ends with the keys compared, as an accepted batch's line does.
+fn refused(ask: &Ask, refusal: &Refusal) -> String {
+    let Refusal { number, message, row, cells, compared } = refusal;
+    let numbers = format!("refused {number} {message} {row} {cells}");
+    if ask.is_batch() { format!("{numbers} {compared}") } else { numbers }
 }
 
 // The test bench's memory and what of it is lent.
@@ -155,7 +173,7 @@ impl Bench {
     pub fn line(&mut self, ask: &Ask) -> Option<String> {
         let words = match self.answer(ask) {
             Ok(said) => said?.words(),
-            Err(Refusal { number, message, row, cells }) => format!("refused {number} {message} {row} {cells}"),
+            Err(refusal) => refused(ask, &refusal),
         };
         Some(format!("{} {words}", ask.name()))
     }

@@ -3,14 +3,16 @@
 // N times the usual number of histories; --keep leaves the last history's `contracts` and `input` in FOLDER.
 mod asks;
 mod feed;
+mod halving;
 mod history;
+mod lookups;
 mod program;
 mod random;
 mod reference;
 mod spreads;
 mod sums;
 
-use asks::{Ask, Bench, LARGEST_LIST};
+use asks::{lines, Ask, Bench, LARGEST_LIST};
 use feed::Book;
 use history::{History, Seen};
 use program::{Contracts, Held, Options};
@@ -60,21 +62,17 @@ fn numbered(letter: u8, numbers: impl IntoIterator<Item = u32>) -> Ask {
 
 type Case = (&'static str, Vec<Ask>, Vec<String>);
 
-fn lines(all: &[&str]) -> Vec<String> {
-    all.iter().map(|line| line.to_string()).collect()
-}
-
 // P5 to P10.
 fn batch_cases() -> Vec<Case> {
     let start = || Ask::Start(vec![1]);
     let exchanged = [&HEARTBEAT[..1], &[0, 1, 0, 11], &HEARTBEAT[5..]].concat();
     let record = || Ask::Record { letter: b'D', level: 1, key: CASE_KEY };
     let read = |buy: &str| format!("record ok 1 78 {buy} - - - - - 32 - - - - - -");
-    let (too_large, malformed) = ("take refused 12 0 6 0", "take refused 11 0 6 0");
+    let (too_large, malformed) = ("take refused 12 0 6 0 0", "take refused 11 0 6 0 0");
     vec![
-        ("P5, P6", vec![start(), Ask::Take(HEARTBEAT.to_vec()), Ask::Take(exchanged)], lines(&["start ok", "take ok 0 0 1", "take refused 1 0 0 0"])),
-        ("P7", vec![start(), price_case("100.25"), record()], lines(&["start ok", "take ok 1 0 0", &read("1002500000")])),
-        ("P8", vec![start(), price_case("99999999999.99999"), record()], lines(&["start ok", "take ok 1 0 0", &read("999999999999999900")])),
+        ("P5, P6", vec![start(), Ask::Take(HEARTBEAT.to_vec()), Ask::Take(exchanged)], lines(&["start ok", "take ok 0 0 1 0", "take refused 1 0 0 0 0"])),
+        ("P7", vec![start(), price_case("100.25"), record()], lines(&["start ok", "take ok 1 0 0 1", &read("1002500000")])),
+        ("P8", vec![start(), price_case("99999999999.99999"), record()], lines(&["start ok", "take ok 1 0 0 1", &read("999999999999999900")])),
         (
             "P9, P10",
             vec![start(), price_case("100000000000"), price_case("1.00000000"), price_case("100."), price_case("-1"), record()],
@@ -95,18 +93,27 @@ fn gap_cases() -> Vec<Case> {
         (
             "P11, P12",
             vec![start(), take(&[1, 2, 5, 9, 4]), gaps(), take(&[7]), gaps(), Ask::Off { letter: b'D' }, take(&[3]), gaps()],
-            lines(&["start ok", "take ok 5 0 0", "gaps ok 9 2 3-3 6-8", "take ok 1 0 0", "gaps ok 9 3 3-3 6-6 8-8", "off ok 3 3", "take ok 0 1 0", "gaps ok 9 2 6-6 8-8"]),
+            lines(&[
+                "start ok",
+                "take ok 5 0 0 0",
+                "gaps ok 9 2 3-3 6-8",
+                "take ok 1 0 0 0",
+                "gaps ok 9 3 3-3 6-6 8-8",
+                "off ok 3 3",
+                "take ok 0 1 0 0",
+                "gaps ok 9 2 6-6 8-8",
+            ]),
         ),
         (
             "P13",
             vec![start(), numbered(b'D', (2..=128).step_by(2)), gaps(), take(&[130]), take(&[129]), take(&[127]), gaps()],
             lines(&[
                 "start ok",
-                "take ok 64 0 0",
+                "take ok 64 0 0 0",
                 &format!("gaps ok 128 64{}", odd(127)),
-                "take refused 14 0 0 0",
-                "take ok 1 0 0",
-                "take ok 1 0 0",
+                "take refused 14 0 0 0 0",
+                "take ok 1 0 0 0",
+                "take ok 1 0 0 0",
                 &format!("gaps ok 129 63{}", odd(125)),
             ]),
         ),
@@ -130,6 +137,7 @@ fn lengths(held: &mut Held) {
 // The cases that only the reference's own functions can be asked: sums, and texts as such.
 fn reference_cases(held: &mut Held) {
     lengths(held);
+    lookups::rule(held);
     let sums: [(&[u8], [u8; 2]); 4] = [(b"123456789", [0xC3, 0x31]), (b"", [0, 0]), (b"\x01", [0x21, 0x10]), (b"\x32", [0x10, 0x16])];
     for (text, sent) in sums {
         for sum in [reference::sum_by_bits, reference::sum_by_bytes, reference::sum_by_sixteens] {
@@ -152,7 +160,7 @@ fn paper(options: &Options, held: &mut Held) {
     reference_cases(held);
     let list = Book::of(vec![(b'D', vec![CASE_KEY])]).bytes();
     let cases = batch_cases().into_iter().chain(gap_cases()).map(|(name, asked, lines)| (name.to_string(), list.clone(), asked, lines));
-    for (name, list, asked, lines) in cases.chain(spreads::cases()).chain(sums::cases()) {
+    for (name, list, asked, lines) in cases.chain(spreads::cases()).chain(sums::cases()).chain(lookups::cases()) {
         let mut bench = Bench::new(Some(&list));
         let by_reference: Vec<String> = asked.iter().filter_map(|ask| bench.line(ask)).collect();
         held.hold(by_reference == lines, || format!("reference: {name}: {by_reference:?}"));

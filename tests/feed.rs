@@ -464,6 +464,15 @@ pub fn an_update(r: &mut Random, form: &Form, letter: u8, number: u32, key: &[u8
     sealed([letter, form.code], number, &data)
 }
 
+// One whose rows behind the key are blank.
+pub fn a_blank_update(form: &Form, letter: u8, number: u32, key: &[u8]) -> Vec<u8> {
+    let mut data = key.to_vec();
+    for &(row, width) in form.told() {
+        data.extend(vec![if row == Row::MarketType { b'N' } else { b' ' }; width]);
+    }
+    sealed([letter, form.code], number, &data)
+}
+
 // The second bytes of what is passed over: market status and end of feed, which may carry zero (000 and 003, 4.2 and 4.11), and the rest.
 pub const UNSUMMED: &[u8] = b"CEO";
 pub const SUMMED: &[u8] = b"ABDFGIJKLMQRSTUVWXYZ";

@@ -82,7 +82,7 @@ impl History {
     }
 
     pub fn batches(&self) -> usize {
-        self.asked.iter().filter(|ask| matches!(ask, Ask::Judge(_) | Ask::Take(_))).count()
+        self.asked.iter().filter(|ask| ask.is_batch()).count()
     }
 
     // Where a line comes from.
@@ -601,7 +601,17 @@ fn note_refused(number: u8, message: usize, batch: &[u8], seen: &mut Seen) {
     }
 }
 
+// Whether the lookups of a batch compared any key: the last number of its line.
+fn note_compared(line: &str, seen: &mut Seen) {
+    let batch = refusal_of(line).map_or("a batch accepted".into(), |(number, _)| format!("{number}"));
+    let compared = if line.ends_with(" 0") { "no key" } else { "keys" };
+    *seen.entry(format!("{batch} with {compared} compared")).or_default() += 1;
+}
+
 fn note(ask: &Ask, line: &str, seen: &mut Seen) {
+    if ask.is_batch() {
+        note_compared(line, seen);
+    }
     let mut met = |what: String| *seen.entry(what).or_default() += 1;
     match (refusal_of(line), ask) {
         (None, Ask::Write { level, .. }) => met(format!("a message of level {level} written")),
@@ -636,6 +646,7 @@ pub fn wanted() -> Vec<String> {
     for number in 5..=14 {
         all.extend(PLACES.iter().map(|place| format!("{number} at {place} message")));
     }
+    all.extend((4..=14).flat_map(|number| ["no key", "keys"].map(|compared| format!("{number} with {compared} compared"))));
     for name in ["judge", "take"] {
         all.extend([1, 2, 3, 4, 15, 16, 18].map(|number| format!("{name} refused {number}")));
     }
@@ -665,6 +676,8 @@ pub fn wanted() -> Vec<String> {
         "the highest number of all",
         "a hole joined to the run that ends at highest",
         "a batch taken",
+        "a batch accepted with no key compared",
+        "a batch accepted with keys compared",
         "contracts and pairs in one batch",
         "a pair's update in turn",
         "a pair's update behind a hole",

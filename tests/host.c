@@ -34,10 +34,15 @@ static void held(const char *what, int holds) {
     }
 }
 
-/* The number that a call returned, and the first three of its answer; the fourth is always 0. */
-static void told(const char *what, uint32_t number, uint32_t wanted, uint64_t first, uint64_t second, uint64_t third) {
-    held(what, number == wanted && answer[0] == first && answer[1] == second && answer[2] == third && answer[3] == 0);
+/* The number that a call with a batch returned, and its answer, the keys compared last. */
+static void judged(const char *what, uint32_t number, uint32_t wanted, uint64_t first, uint64_t second, uint64_t third, uint64_t compared) {
+    held(what, number == wanted && answer[0] == first && answer[1] == second && answer[2] == third && answer[3] == compared);
     memset(answer, 0xee, sizeof answer);
+}
+
+/* The same of a call that compares none, or has no batch: the fourth is 0. */
+static void told(const char *what, uint32_t number, uint32_t wanted, uint64_t first, uint64_t second, uint64_t third) {
+    judged(what, number, wanted, first, second, third, 0);
 }
 
 static void no_spreads(void) {
@@ -127,9 +132,32 @@ static void take(uint8_t batch[FRONT + LEVEL1]) {
     batch[100] ^= 1;
     told("judge: damaged", quotebox_judge(BOX, batch, length, answer), QUOTEBOX_CHECKSUM, 0, 0, 0);
     batch[100] ^= 1;
-    told("judge", quotebox_judge(BOX, batch, length, answer), 0, 1, 0, 0);
-    told("take", quotebox_take(BOX, batch, length, answer), 0, 1, 0, 0);
-    told("take: old", quotebox_take(BOX, batch, length, answer), 0, 0, 1, 0);
+    judged("judge", quotebox_judge(BOX, batch, length, answer), 0, 1, 0, 0, 1);
+    judged("take", quotebox_take(BOX, batch, length, answer), 0, 1, 0, 0, 1);
+    judged("take: old", quotebox_take(BOX, batch, length, answer), 0, 0, 1, 0, 1);
+}
+
+/* An old update of any contract, its rows blank: the near contract is compared first, and with what sorts behind it the far one too. */
+static void look_up(const char *what, const uint8_t of[QUOTEBOX_KEY], uint32_t wanted, uint64_t old, uint64_t compared) {
+    uint8_t batch[FRONT + LEVEL1] = {1, 0, LEVEL1, 0, 1};
+    uint64_t values[QUOTEBOX_VALUES];
+    for (int i = 0; i < QUOTEBOX_VALUES; i++) values[i] = QUOTEBOX_NONE;
+    values[QUOTEBOX_MARKET_TYPE] = 'N';
+    values[QUOTEBOX1_STATUS] = ' ';
+    told("lookup: its message", quotebox_write_level1((const uint8_t *)"TN", 4, of, values, batch + FRONT, LEVEL1, answer), 0, LEVEL1, 0, 0);
+    judged(what, quotebox_judge(BOX, batch, sizeof batch, answer), wanted, 0, old, 0, compared);
+    judged(what, quotebox_take(BOX, batch, sizeof batch, answer), wanted, 0, old, 0, compared);
+}
+
+static void lookups(void) {
+    uint8_t unlisted[QUOTEBOX_KEY];
+    look_up("lookup: the near contract", key, 0, 1, 1);
+    look_up("lookup: the far contract", far_key, 0, 1, 2);
+    memcpy(unlisted, key, QUOTEBOX_KEY);
+    unlisted[0] = 'A';
+    look_up("lookup: before both", unlisted, QUOTEBOX_CONTRACT, 0, 1);
+    unlisted[0] = 'X';
+    look_up("lookup: behind both", unlisted, QUOTEBOX_CONTRACT, 0, 2);
 }
 
 static void read(void) {
@@ -185,7 +213,7 @@ static void spread(void) {
     write_spread(batch);
     told("spread: no record", quotebox_read_spread1(BOX, 'T', pair, values, answer), 0, 0, 0, 0);
     held("spread: nothing written where there is none", values[QUOTEBOX_NUMBER] == 7);
-    told("spread: taken", quotebox_take(BOX, batch, sizeof batch, answer), 0, 1, 0, 0);
+    judged("spread: taken", quotebox_take(BOX, batch, sizeof batch, answer), 0, 1, 0, 0, 1);
     told("spread: letter", quotebox_read_spread1(BOX, 'D', pair, values, answer), QUOTEBOX_CODE, 0, 0, 0);
     pair[0] = 'X';
     told("spread: pair", quotebox_read_spread2(BOX, 'T', pair, values, answer), QUOTEBOX_CONTRACT, 0, 0, 0);
@@ -225,6 +253,7 @@ int main(void) {
     start();
     write_update(batch);
     take(batch);
+    lookups();
     read();
     spread();
     gaps();

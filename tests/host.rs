@@ -3,6 +3,7 @@
 //   host [--seed N] [--times N]
 mod asks;
 mod feed;
+mod halving;
 mod history;
 mod library;
 mod program;
@@ -11,11 +12,12 @@ mod reference;
 
 use asks::{Ask, Bench, Said};
 use feed::Book;
+use halving::{Place, MOST_CONTRACTS, MOST_PAIRS};
 use history::{History, Seen};
 use library::{Answer, Lists, Values};
 use program::{Held, Options};
 use random::Random;
-use reference::{Refusal, GAP_ROW, LEVEL1_CELLS, MINUS, NONE, PRICE, RECORD, SPREAD_LEVEL1_CELLS, SPREAD_RECORD};
+use reference::{Form, Refusal, GAP_ROW, LEVEL1_CELLS, MINUS, NONE, PRICE, RECORD, SPREAD_LEVEL1_CELLS, SPREAD_RECORD};
 use std::fmt::Debug;
 
 const UNTOUCHED: u64 = 0x5AFE_5AFE_5AFE_5AFE;
@@ -240,6 +242,78 @@ fn most_pairs(held: &mut Held) {
     }
 }
 
+// ---- lookups in segments of every size
+
+// The largest segments that there are: for a smaller one the first of their contracts, or of their pairs.
+struct Largest {
+    contracts: Vec<feed::Key>,
+    pairs: Vec<feed::Pair>,
+    rows: Vec<u32>, // as a start at 1 leaves them
+    records: Vec<u64>,
+}
+
+impl Largest {
+    fn new() -> Largest {
+        let (contracts, pairs) = (halving::listed(MOST_CONTRACTS, halving::contract), halving::listed(MOST_PAIRS, halving::pair));
+        let mut rows = vec![0; GAP_ROW];
+        rows[0] = 1;
+        Largest { contracts, pairs, rows, records: vec![0; RECORD * MOST_CONTRACTS + SPREAD_RECORD * MOST_PAIRS] }
+    }
+
+    fn lists(&self, contracts: usize, pairs: usize) -> (Vec<u8>, Vec<u8>) {
+        (feed::file(&[(b'T', self.contracts[..contracts].to_vec())]), feed::file(&[(b'T', self.pairs[..pairs].to_vec())]))
+    }
+
+    // Each place is judged in a batch of its own: the library and the reference answer what the rule on numbers says.
+    fn hold(&self, held: &mut Held, form: &Form, keys: usize, places: impl IntoIterator<Item = Place>) {
+        let (list, spreads) = if form.is_pair() { self.lists(1, keys) } else { self.lists(keys, 0) };
+        let lists = Lists { list: &list, spreads: &spreads };
+        for place in places {
+            let batch = feed::batch(&[halving::update(form, b'T', 1, place.number())]);
+            let got = lists.judge(&self.rows, &self.records, &batch);
+            let by_reference = reference::told(reference::judge(reference::sum_by_sixteens, &list, &spreads, &self.rows, &self.records, &batch));
+            let compared = halving::compared(keys, place);
+            let right = if place.listed { (0, [1, 0, 0, compared]) } else { (13, [0, 0, 0, compared]) };
+            let otherwise = || format!("host: {place:?} of {keys} keys of {} bytes: {got:?}, by the reference {by_reference:?}", form.key);
+            held.hold(got == right && by_reference == right && compared <= halving::binary_digits(keys), otherwise);
+        }
+    }
+}
+
+// Every size; at every place where a segment is small, or as large as its number of binary digits changes.
+fn lookups(held: &mut Held) {
+    let largest = Largest::new();
+    for (form, sizes) in [(reference::of_contract(1), 1..=MOST_CONTRACTS), (reference::of_pair(1), 0..=MOST_PAIRS)] {
+        for keys in halving::sizes(*sizes.end()).filter(|keys| sizes.contains(keys)) {
+            largest.hold(held, form, keys, halving::everywhere(keys));
+        }
+        for keys in sizes {
+            largest.hold(held, form, keys, halving::here_and_there(keys));
+        }
+    }
+    worst_batches(held, &largest);
+}
+
+// As many updates of the last contract as a batch has room for, at 13 keys each, or of the last pair, at 11; and both, so that no batch has more.
+fn worst_batches(held: &mut Held, largest: &Largest) {
+    let (list, spreads) = largest.lists(MOST_CONTRACTS, MOST_PAIRS);
+    let (rows, records) = (largest.rows.clone(), largest.records.clone());
+    let (lent_rows, lent_records) = (rows.len(), records.len());
+    let mut bench = Bench { list, spreads, rows, records, lent_rows, lent_records };
+    hold(held, &mut bench, &Ask::Start(vec![1]), || "a start with the largest segments".into());
+    let last = |form, keys: usize| move |sequence| halving::update(form, b'T', sequence, Place { below: keys - 1, listed: true }.number());
+    let (contract, pair) = (last(reference::of_contract(1), MOST_CONTRACTS), last(reference::of_pair(1), MOST_PAIRS));
+    for (contracts, pairs, compared) in [(131, 0, 1_703), (0, 144, 1_584), (127, 5, 1_706)] {
+        let messages: Vec<Vec<u8>> = (1..=contracts).map(contract).chain((contracts + 1..=contracts + pairs).map(pair)).collect();
+        let batch = feed::batch(&messages);
+        let lists = Lists { list: &bench.list, spreads: &bench.spreads };
+        let (number, answer) = lists.judge(&bench.rows, &bench.records, &batch);
+        let otherwise = || format!("host: {contracts} updates of the last contract, {pairs} of the last pair: {number} {answer:?}");
+        held.hold(number == 0 && answer[3] == compared, otherwise);
+        hold(held, &mut bench, &Ask::Take(batch), || format!("{contracts} updates of the last contract, {pairs} of the last pair"));
+    }
+}
+
 // Some of the cells, or all, with numbers about those that the feed has come to.
 fn damage_records(r: &mut Random, bench: &mut Bench) {
     let one_in = r.pick(&[1, 4, 40]);
@@ -280,6 +354,7 @@ fn main() {
     let mut held = Held { passed: 0, failed: 0 };
     damaged_records(&mut held);
     most_pairs(&mut held);
+    lookups(&mut held);
     histories(&options, &mut held);
     held.end();
 }

@@ -3,13 +3,14 @@
 //   parts PROGRAM... [--seed N] [--times N] [--keep FOLDER]
 // PROGRAM is run once; it answers a line for each thing that it is asked (crate `parts`).
 mod feed;
+mod halving;
 mod program;
 mod random;
 mod reference;
 
 use program::{Contracts, Held, Options};
 use random::Random;
-use reference::{layout, Kind, KEY, MARKET_TYPE_ROW, MOST_CELLS, NONE, PRICE, QUANTITY, TURNOVER};
+use reference::{layout, Kind, Sought, KEY, MARKET_TYPE_ROW, MOST_CELLS, NONE, PRICE, QUANTITY, TURNOVER};
 use std::collections::BTreeSet;
 
 #[derive(Clone, Copy)]
@@ -214,6 +215,18 @@ fn numbers_in_text(asked: &mut Asked, r: &mut Random, numbers: usize) {
 
 // ---- the contract list
 
+// The line of a key that is looked up in a listed segment.
+fn looked_up(segment: usize, sought: Sought) -> String {
+    let place = sought.place.map_or("nowhere".into(), |place| format!("place {place}"));
+    format!("segment {segment} {place} compared {}", sought.compared)
+}
+
+// Found where it stands, as keys that ascend have it; counted by halving.
+fn among<const N: usize>(segment: usize, keys: &[[u8; N]], key: &[u8; N]) -> String {
+    let place = keys.iter().position(|listed| listed == key);
+    looked_up(segment, Sought { place, ..reference::find::<N>(&keys.concat(), key) })
+}
+
 fn lists(asked: &mut Asked, r: &mut Random, count: usize) {
     for _ in 0..count {
         let book = feed::a_book(r, 9);
@@ -230,14 +243,34 @@ fn lists(asked: &mut Asked, r: &mut Random, count: usize) {
             }
             let line = match book.segments.iter().position(|s| s.0 == letter) {
                 None => "nowhere".into(),
-                Some(i) => match book.segments[i].1.iter().position(|k| *k == key) {
-                    None => format!("segment {i} nowhere"),
-                    Some(k) => format!("segment {i} place {k}"),
-                },
+                Some(i) => among(i, &book.segments[i].1, &key),
             };
             asked.ask(b'K', &[&[letter], &key[..], &sound].concat(), line, "keys");
         }
+        let shuffled = feed::shuffled_list(r, &sound);
+        let segment = reference::header(&shuffled).unwrap().segments()[0];
+        let key = book.a_key(r, segment.letter);
+        let sought = reference::find::<KEY>(&shuffled[segment.offset..segment.offset + KEY * segment.count], &key);
+        asked.ask(b'K', &[&[segment.letter], &key[..], &shuffled].concat(), looked_up(0, sought), "keys in any order");
     }
+}
+
+// Segments as large as a question can hold with a letter, a key and a list's contents; counted by the rule on numbers.
+fn segments<const N: usize>(asked: &mut Asked, kind: u8, sizes: impl Iterator<Item = usize>, numbered: fn(usize) -> [u8; N]) {
+    const QUESTION: usize = 65_535;
+    for keys in sizes.take_while(|keys| 1 + N + 10 + N * keys <= QUESTION) {
+        let list = feed::file(&[(b'T', halving::listed(keys, numbered))]);
+        for place in halving::here_and_there(keys) {
+            let sought = Sought { place: place.listed.then_some(place.below), compared: halving::compared(keys, place) };
+            let question = [b"T", &numbered(place.number())[..], &list].concat();
+            asked.ask(kind, &question, looked_up(0, sought), "segments of every size");
+        }
+    }
+}
+
+fn lookups(asked: &mut Asked) {
+    segments(asked, b'K', halving::sizes(halving::MOST_CONTRACTS).skip(1), halving::contract);
+    segments(asked, b'V', halving::sizes(halving::MOST_PAIRS), halving::pair);
 }
 
 // ---- the spread list, beside a sound contract list
@@ -258,8 +291,7 @@ fn spreads(asked: &mut Asked, r: &mut Random, count: usize) {
         asked.ask(b'Z', &list, format!("size {} sum {} {}", empty.len(), sent[0], sent[1]), "no spreads");
         for (i, (letter, listed)) in pairs.iter().enumerate() {
             let pair = feed::pair(&book.a_key(r, *letter), &book.a_key(r, *letter));
-            let place = listed.iter().position(|p| *p == pair).map_or("nowhere".into(), |k| format!("place {k}"));
-            asked.ask(b'V', &[&[*letter], &pair[..], &feed::file(&pairs)].concat(), format!("segment {i} {place}"), "pairs");
+            asked.ask(b'V', &[&[*letter], &pair[..], &feed::file(&pairs)].concat(), among(i, listed, &pair), "pairs");
         }
     }
 }
@@ -429,6 +461,7 @@ fn all_asked(seed: u64, times: usize) -> Asked {
     numbers_in_text(&mut asked, &mut r, 100_000 * times);
     lists(&mut asked, &mut r, 1_000 * times);
     spreads(&mut asked, &mut r, 1_000 * times);
+    lookups(&mut asked);
     sequences(&mut asked, &mut r, 100 * times);
     rows_back(&mut asked, &mut r, 2_000 * times);
     rows(&mut asked, &mut r, 2_000 * times);

@@ -137,7 +137,7 @@ impl Held {
                 let mut wrong = expected.to_vec();
                 match change {
                     0 => wrong[at].push('0'),
-                    1 => wrong.insert(at, "take ok 0 0 0".into()),
+                    1 => wrong.insert(at, "take ok 0 0 0 0".into()),
                     _ => {
                         wrong.remove(at);
                     }

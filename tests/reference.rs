@@ -1,5 +1,5 @@
-// The box by document 01 and request M-100, written from the papers and from nothing else of this project: what each call answers
-// and leaves in lent memory. The tests hold the compiled programs against it, and the benchmark the compiled library's time against its own.
+// The box by document 01 and requests M-100 to M-102, written from the papers and from nothing else of this project: what each call
+// answers and leaves in lent memory. The tests hold the compiled programs against it, and the benchmark the compiled library's time against its own.
 #![allow(dead_code)] // each test uses a part
 
 use std::cmp::Ordering;
@@ -23,11 +23,12 @@ pub struct Refusal {
     pub message: usize,
     pub row: usize,
     pub cells: usize,
+    pub compared: u64, // keys, by the lookups of a batch until it was refused; 0 where there is no batch
 }
 
 impl Refusal {
     pub fn plain(number: u8) -> Refusal {
-        Refusal { number, message: 0, row: 0, cells: 0 }
+        Refusal { number, message: 0, row: 0, cells: 0, compared: 0 }
     }
 
     pub fn memory(cells: usize) -> Refusal {
@@ -36,7 +37,7 @@ impl Refusal {
 
     // What a host is told: the number returned, and the four of the answer.
     pub fn told(&self) -> (u32, [u64; 4]) {
-        (self.number as u32, [self.message as u64, self.row as u64, self.cells as u64, 0])
+        (self.number as u32, [self.message as u64, self.row as u64, self.cells as u64, self.compared])
     }
 }
 
@@ -483,14 +484,22 @@ pub fn pairs_sound(list: &[u8], header: &Header, spreads: &[u8], spread_header: 
     })
 }
 
+// Where a key stands, and how many keys were compared until that was known.
+#[derive(Clone, Copy, Debug, PartialEq)]
+pub struct Sought {
+    pub place: Option<usize>,
+    pub compared: u64,
+}
+
 // By halving, whatever the bodies hold: of n keys left the one with (n - 1) / 2 below it is compared.
-pub fn find<const N: usize>(keys: &[u8], key: &[u8]) -> Option<usize> {
-    let (mut low, mut left) = (0, keys.len() / N);
+pub fn find<const N: usize>(keys: &[u8], key: &[u8]) -> Sought {
+    let (mut low, mut left, mut compared) = (0, keys.len() / N, 0);
     while left > 0 {
         let below = (left - 1) / 2;
         let at = low + below;
+        compared += 1;
         match key.cmp(&keys[N * at..N * (at + 1)]) {
-            Ordering::Equal => return Some(at),
+            Ordering::Equal => return Sought { place: Some(at), compared },
             Ordering::Less => left = below,
             Ordering::Greater => {
                 low = at + 1;
@@ -498,7 +507,7 @@ pub fn find<const N: usize>(keys: &[u8], key: &[u8]) -> Option<usize> {
             }
         }
     }
-    None
+    Sought { place: None, compared }
 }
 
 // Both lists, their headers sound.
@@ -528,8 +537,8 @@ impl Lists<'_> {
         RECORD * self.contracts.keys() + SPREAD_RECORD * self.pairs.keys()
     }
 
-    // The place of a contract or pair in its segment.
-    fn find(&self, segment: usize, form: &Form, key: &[u8]) -> Option<usize> {
+    // A contract or pair in its segment. A pair is looked up whole, its halves are not.
+    fn find(&self, segment: usize, form: &Form, key: &[u8]) -> Sought {
         if form.is_pair() {
             find::<PAIR>(body(self.spreads, &self.pairs.segments()[segment], PAIR), key)
         } else {
@@ -640,8 +649,12 @@ fn framed(rest: &[u8]) -> Result<&[u8], (u8, usize)> {
     if length < 11 || length > rest.len() { Err((5, 0)) } else { Ok(&rest[..length]) }
 }
 
-// Refusals 6 to 13, in order, of a framed message in a batch of one segment; an update leaves its cells.
-fn checked(sum: Sum, lists: &Lists, segment: Option<(usize, u8)>, message: &[u8], cells: &mut [u64; MOST_CELLS]) -> Result<Told, (u8, usize)> {
+// Refusals 6 to 13, in order, of a framed message in a batch of one segment; an update leaves its cells, and adds the keys that its lookup
+// compared, found or not.
+#[rustfmt::skip]
+fn checked(
+    sum: Sum, lists: &Lists, segment: Option<(usize, u8)>, message: &[u8], cells: &mut [u64; MOST_CELLS], compared: &mut u64,
+) -> Result<Told, (u8, usize)> {
     let (code, length) = (message[1], message.len());
     let segment = match segment {
         Some((place, letter)) if letter == message[0] && code.is_ascii_uppercase() => place,
@@ -676,7 +689,9 @@ fn checked(sum: Sum, lists: &Lists, segment: Option<(usize, u8)>, message: &[u8]
     };
     let data = &message[8..length - 3];
     read_cells(form, data, cells)?;
-    let place = lists.find(segment, form, &data[..form.key]).ok_or((13, 0))?;
+    let sought = lists.find(segment, form, &data[..form.key]);
+    *compared += sought.compared;
+    let place = sought.place.ok_or((13, 0))?;
     Ok(Told::Update { form, place })
 }
 
@@ -687,13 +702,19 @@ pub struct Counts {
     pub taken: u64,
     pub old: u64,
     pub heartbeats: u64,
+    pub compared: u64, // keys, by all lookups of the batch
 }
 
 impl Counts {
     // What a host is told of an accepted batch.
     pub fn told(&self) -> (u32, [u64; 4]) {
-        (0, [self.taken, self.old, self.heartbeats, 0])
+        (0, [self.taken, self.old, self.heartbeats, self.compared])
     }
+}
+
+// The same of any batch.
+pub fn told(judged: Result<Counts, Refusal>) -> (u32, [u64; 4]) {
+    judged.map_or_else(|refusal| refusal.told(), |counts| counts.told())
 }
 
 // An update taken: where its record begins, its number and rows.
@@ -784,17 +805,17 @@ fn outcome(sum: Sum, lists: &Lists, rows: &[u32], batch: &[u8], keep: bool) -> R
     out.row.copy_from_slice(&rows[GAP_ROW * out.segment..GAP_ROW * (out.segment + 1)]);
     let mut cells = [0; MOST_CELLS];
     for index in 0..count {
-        let refused = |(number, row)| Refusal { number, message: index, row, cells: 0 };
-        let message = framed(rest).map_err(refused)?;
+        let refused = |(number, row), compared| Refusal { number, message: index, row, cells: 0, compared };
+        let message = framed(rest).map_err(|why| refused(why, out.counts.compared))?;
         rest = &rest[message.len()..];
-        let told = checked(sum, lists, segment, message, &mut cells).map_err(refused)?;
+        let told = checked(sum, lists, segment, message, &mut cells, &mut out.counts.compared).map_err(|why| refused(why, out.counts.compared))?;
         if let Told::Heartbeat = told {
             out.counts.heartbeats += 1;
             continue;
         }
         let number = four(message, 4);
         match take_number(&mut out.row, number) {
-            Taking::Full => return Err(refused((14, 0))),
+            Taking::Full => return Err(refused((14, 0), out.counts.compared)),
             Taking::Old => out.counts.old += 1,
             Taking::Taken => {
                 out.counts.taken += 1;
@@ -805,7 +826,7 @@ fn outcome(sum: Sum, lists: &Lists, rows: &[u32], batch: &[u8], keep: bool) -> R
             }
         }
     }
-    if rest.is_empty() { Ok(out) } else { Err(Refusal::plain(4)) }
+    if rest.is_empty() { Ok(out) } else { Err(Refusal { compared: out.counts.compared, ..Refusal::plain(4) }) }
 }
 
 pub fn judge(sum: Sum, list: &[u8], spreads: &[u8], rows: &[u32], records: &[u64], batch: &[u8]) -> Result<Counts, Refusal> {
@@ -851,7 +872,7 @@ pub fn write_off(list: &[u8], spreads: &[u8], rows: &mut [u32], records: &[u64],
 // The update's number and its rows behind the key, or no record.
 fn read_form(lists: Lists, form: &Form, records: &[u64], letter: u8, key: &[u8]) -> Result<Option<Vec<u64>>, Refusal> {
     let segment = lists.contracts.place(letter).ok_or(Refusal::plain(6))?;
-    let place = lists.find(segment, form, key).ok_or(Refusal::plain(13))?;
+    let place = lists.find(segment, form, key).place.ok_or(Refusal::plain(13))?;
     let at = lists.record(segment, form, place);
     let cells = &records[at + 1..at + 1 + form.told().len()];
     Ok(if records[at] == 0 { None } else { Some([&[records[at]], &readings(form, cells)[..]].concat()) })

@@ -1,6 +1,6 @@
 // Request M-100 worked by hand: messages of pairs laid out by the papers' widths, the lists as bytes, and the lines that the calls
 // answer, written out. Nothing here is computed by the reference but the checksums.
-use crate::asks::Ask;
+use crate::asks::{lines, Ask, Case};
 use crate::feed::{self, Key, Pair};
 use crate::reference::{MINUS, NONE};
 
@@ -8,15 +8,8 @@ const NEAR: Key = *b"FUTCURUSDINR    27-MAR-2026          XX";
 const FAR: Key = *b"FUTCURUSDINR    28-APR-2026          XX";
 const GOLD: Key = *b"FUTCOMGOLD      05-APR-2026          XX";
 
-// A case's name, its contract list, what is asked and the lines that answer it.
-pub type Case = (String, Vec<u8>, Vec<Ask>, Vec<String>);
-
 fn pair(first: &Key, second: &Key) -> Pair {
     feed::pair(first, second)
-}
-
-fn lines(all: &[&str]) -> Vec<String> {
-    all.iter().map(|line| line.to_string()).collect()
 }
 
 // ---- lists: D with two contracts, T with one; pairs in both
@@ -117,9 +110,10 @@ const TEXTS: [(&str, Result<&str, u8>); 33] = [
     ("-1.00000000.", Err(11)),
 ];
 
-// Each text in each row, in which it has the sign of a price or, in a quantity, may have none.
+// Each text in each row, in which it has the sign of a price or, in a quantity, may have none. D's pair is its second of two and T's its
+// only one; a row that is refused comes before the lookup.
 fn signs(letter: u8, level: usize) -> Case {
-    let of = if letter == b'D' { pair(&FAR, &NEAR) } else { pair(&GOLD, &GOLD) };
+    let (of, compared) = if letter == b'D' { (pair(&FAR, &NEAR), 2) } else { (pair(&GOLD, &GOLD), 1) };
     let mut asked = vec![Ask::Spreads(pairs()), Ask::Start(vec![1, 1])];
     let mut said = lines(&["start ok"]);
     let mut number = 1;
@@ -129,10 +123,10 @@ fn signs(letter: u8, level: usize) -> Case {
         for &(text, meaning) in texts {
             asked.push(take(&[message(letter, level, number, &of, &[(row, text)])]));
             match if width == 12 { Err(11) } else { meaning } {
-                Err(refusal) => said.push(format!("take refused {refusal} 0 {row} 0")),
+                Err(refusal) => said.push(format!("take refused {refusal} 0 {row} 0 0")),
                 Ok(units) => {
                     asked.push(read(letter, level, of));
-                    said.extend(["take ok 1 0 0".into(), record(level, number, &[(row, units)])]);
+                    said.extend([format!("take ok 1 0 0 {compared}"), record(level, number, &[(row, units)])]);
                     number += 1;
                 }
             }
@@ -246,7 +240,7 @@ fn memory() -> Case {
         short("start", 258),
         "start ok".into(),
         short("spread", 258),
-        short("take", 258),
+        format!("{} 0", short("take", 258)),
         short("off", 264),
         "off refused 17 0 0 0".into(),
         short("off", 144),
@@ -286,7 +280,7 @@ fn records() -> Vec<Case> {
             ]),
             vec![
                 "start ok".into(),
-                "take ok 3 0 0".into(),
+                "take ok 3 0 0 4".into(), // the first pair, the first contract, the second pair
                 record(1, 1, &[(10, "-125000000"), (11, "7"), (18, "-130000000")]),
                 "spread none".into(),
                 "spread none".into(),
@@ -311,8 +305,8 @@ fn records() -> Vec<Case> {
             ]),
             vec![
                 "start ok".into(),
-                "take ok 1 0 0".into(),
-                "take ok 2 1 0".into(),
+                "take ok 1 0 0 1".into(),
+                "take ok 2 1 0 3".into(),
                 record(2, 5, &[(30, "-50000000")]),
                 record(1, 2, &[(14, "-20000000")]),
                 "gaps ok 5 2 1-1 4-4".into(),
@@ -344,22 +338,23 @@ fn refusals() -> Case {
     let mut said = lines(&["start ok"]);
     for length in [11, 226, 228, 249, 482, 484, 505] {
         asked.push(judged(with_length(good.clone(), length)));
-        said.push("judge refused 8 0 0 0".into());
+        said.push("judge refused 8 0 0 0 0".into());
     }
     let unlisted = [pair(&NEAR, &NEAR), gold, pair(&FAR, &GOLD)];
+    // With the keys compared: what sorts behind D's first pair is compared with its second too.
     let others = [
-        (end, 7),
-        (zero, 9),
-        (wrong, 9),
-        (message(b'D', 2, 0, &out, &[]), 10),
-        (message(b'D', 1, 1, &unlisted[0], &[]), 13),
-        (message(b'D', 2, 1, &unlisted[1], &[]), 13),
-        (message(b'D', 2, 1, &unlisted[2], &[]), 13),
-        (message(b'T', 1, 1, &out, &[]), 13),
+        (end, 7, 0),
+        (zero, 9, 0),
+        (wrong, 9, 0),
+        (message(b'D', 2, 0, &out, &[]), 10, 0),
+        (message(b'D', 1, 1, &unlisted[0], &[]), 13, 1),
+        (message(b'D', 2, 1, &unlisted[1], &[]), 13, 1),
+        (message(b'D', 2, 1, &unlisted[2], &[]), 13, 2),
+        (message(b'T', 1, 1, &out, &[]), 13, 1),
     ];
-    for (message, number) in others {
+    for (message, number, compared) in others {
         asked.push(judged(message));
-        said.push(format!("judge refused {number} 0 0 0"));
+        said.push(format!("judge refused {number} 0 0 0 {compared}"));
     }
     // Rows come before the pair, and a row before the next.
     asked.push(judged(message(b'D', 1, 1, &unlisted[0], &[(13, "x"), (12, "-100000000000")])));
@@ -370,14 +365,14 @@ fn refusals() -> Case {
         judged(message(b'T', 1, 1, &gold, &[])),
         judged(message(b'T', 2, 1, &gold, &[])),
     ]);
-    said.extend(lines(&["judge refused 12 0 12 0", "judge refused 11 0 17 0"]));
-    said.extend(vec!["judge ok 1 0 0".to_string(); 4]);
+    said.extend(lines(&["judge refused 12 0 12 0 0", "judge refused 11 0 17 0 0"]));
+    said.extend(vec!["judge ok 1 0 0 1".to_string(); 4]);
     asked.extend([read(b'F', 1, out), read(b'T', 1, out), read(b'D', 2, gold), Ask::Spreads(NO_PAIRS.to_vec()), judged(good), read(b'D', 1, out)]);
     said.extend(lines(&[
         "spread refused 6 0 0 0",
         "spread refused 13 0 0 0",
         "spread refused 13 0 0 0",
-        "judge refused 13 0 0 0",
+        "judge refused 13 0 0 0 0",
         "spread refused 13 0 0 0",
     ]));
     ("refusals of pairs".into(), contracts(), asked, said)

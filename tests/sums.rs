@@ -1,9 +1,8 @@
 // Request M-101 worked by hand: what the trailer of each code may carry, and the lines that the calls answer, written out. Nothing here is
 // computed by the reference but the true sums.
-use crate::asks::Ask;
+use crate::asks::{Ask, Case};
 use crate::feed::{self, Book, Key};
 use crate::reference;
-use crate::spreads::Case;
 
 const NEAR: Key = *b"FUTCURUSDINR    27-MAR-2026          XX";
 const NOTHING: [u8; 2] = [0, 0];
@@ -50,14 +49,19 @@ fn one_code(code: [u8; 2], list: &[u8], pairs: &[u8]) -> Case {
     let ((zero, right), beats) = (may_carry(&code), code[1] == b'H');
     let (mut asked, mut said) = (vec![Ask::Spreads(pairs.to_vec()), Ask::Start(vec![1, 1])], vec!["start ok".to_string()]);
     let number = |n: u32| if beats { 0 } else { n };
+    // One contract and one pair stand in a segment, so that an update's lookup compares one key; no other message has a lookup.
+    let compared = matches!(code[1], b'N' | b'P') as u64;
     for data in datas(code[1]) {
         let message = carrying(code, number(1), &data, |sum| sum);
         let sum = reference::sum_by_bits(&message[..message.len() - 3]);
         for sent in trailers(sum) {
             asked.push(Ask::Judge(feed::batch(&[carrying(code, number(1), &data, |_| sent)])));
             let taken = (sent == NOTHING && zero) || (sent == sum && right);
-            let answer = if taken && beats { "ok 0 0 1" } else if taken { "ok 1 0 0" } else { "refused 9 0 0 0" };
-            said.push(format!("judge {answer}"));
+            said.push(match (taken, beats) {
+                (false, _) => "judge refused 9 0 0 0 0".into(),
+                (true, true) => "judge ok 0 0 1 0".into(),
+                (true, false) => format!("judge ok 1 0 0 {compared}"),
+            });
         }
     }
     // Behind one with its true sum, one with nothing in its trailer: both are taken, or neither.
@@ -65,9 +69,9 @@ fn one_code(code: [u8; 2], list: &[u8], pairs: &[u8]) -> Case {
     asked.push(Ask::Take(feed::batch(&[carrying(code, number(1), data, |sum| sum), carrying(code, number(2), data, |_| NOTHING)])));
     asked.push(Ask::Gaps { letter: code[0], cells: 0 });
     let (answer, highest) = match (zero, right) {
-        (true, true) => ("ok 2 0 0", 2),
-        (true, false) => ("refused 9 0 0 0", 0),
-        _ => ("refused 9 1 0 0", 0),
+        (true, true) => ("ok 2 0 0 0".into(), 2),
+        (true, false) => ("refused 9 0 0 0 0".into(), 0),
+        _ => (format!("refused 9 1 0 0 {compared}"), 0),
     };
     said.extend([format!("take {answer}"), format!("gaps ok {highest} 0")]);
     (format!("the sum of {}{}", code[0] as char, code[1] as char), list.to_vec(), asked, said)
@@ -81,7 +85,7 @@ fn true_zero(letter: u8, list: &[u8], pairs: &[u8]) -> Case {
     let data = [b"N", &end.to_be_bytes()[..]].concat();
     let mut asked = vec![Ask::Spreads(pairs.to_vec()), Ask::Start(vec![1, 1])];
     asked.extend([NOTHING, [0, 1], [1, 0]].map(|sent| Ask::Judge(feed::batch(&[carrying(code, 1, &data, |_| sent)]))));
-    let said = ["start ok", "judge ok 1 0 0", "judge refused 9 0 0 0", "judge refused 9 0 0 0"];
+    let said = ["start ok", "judge ok 1 0 0 0", "judge refused 9 0 0 0 0", "judge refused 9 0 0 0 0"];
     (format!("a true sum of zero in {}", letter as char), list.to_vec(), asked, said.map(String::from).to_vec())
 }
 

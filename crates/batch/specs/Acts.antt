@@ -10,6 +10,8 @@ use Rattle.state.specs.declared.refusal.Refusal.{Refusal}
 use Rattle.state.specs.Memory.{Lent, lends, gapRowOfLetter}
 use Rattle.state.specs.MemoryRows.{withGapRowOfLetter}
 use Rattle.state.specs.State.{stateRules}
+use Rattle.pairs.specs.Lists.{Lists}
+use Rattle.turns.specs.Compared.{comparedIn, reachedBy, countedNumbers}
 use Rattle.turns.specs.Turns.{Box, Acted, acted, refused, messagesAct}
 use Rattle.batch.specs.Batch.{batchData, batchLetter, batchRules, countOf}
 
@@ -28,10 +30,18 @@ batchActs lent batch =
     unlessBroken (firstBroken (stateRules lent ++ batchRules batch))
     (messagesAct (countOf batch) (lent .lists) (batchLetter batch) 0 (boxOf lent (batchLetter batch)) (batchData batch))
 
--- 01 "What may be asked": the answer of what a batch does
-abbrev pub answerOf : Acted → Judged
-answerOf (acted box) = Accepted (box .taken) (box .old) (box .heartbeats)
-answerOf (refused refusal) = Refused refusal
+-- M-102: how many keys the lookups of a batch compare, by what it did: all of its messages', or those that came so far
+abbrev pub batchCompared : Lists → List ℕ → Acted → ℕ
+batchCompared lists batch acts = comparedIn (reachedBy (countOf batch) acts) lists (batchLetter batch) (batchData batch)
+
+-- 01 "What may be asked", M-102: the numbers of what a batch does, and of the keys compared
+abbrev pub batchNumbers : Lent → List ℕ → List ℕ
+batchNumbers lent batch = countedNumbers (batchActs lent batch) (batchCompared (lent .lists) batch (batchActs lent batch))
+
+-- 01 "What may be asked", M-102: the answer of what a batch does, with so many keys compared
+abbrev pub answerOf : ℕ → Acted → Judged
+answerOf compared (acted box) = Accepted (box .taken) (box .old) (box .heartbeats) compared
+answerOf compared (refused refusal) = Refused refusal compared
 
 -- 01 "What may be asked": what a batch leaves: "A refusal leaves all lent memory as before"
 abbrev pub lentAfter : Lent → ℕ → Acted → Lent

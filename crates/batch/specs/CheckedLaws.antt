@@ -14,19 +14,19 @@ use Rattle.state.specs.declared.refusal.Refusal.{Refusal}
 use Rattle.state.specs.declared.state.Checked.{Checked}
 use Rattle.state.specs.declared.state.Checked.the-variants as checks
 use Rattle.state.specs.Memory.{Lent}
-use Rattle.turns.specs.Turns.{refused, actedNumbers}
+use Rattle.turns.specs.Turns.{refused}
 use Rattle.batch.specs.Batch.{batchRules, batchLetter, countOf, batchData}
-use Rattle.batch.specs.Acts.{batchActs, lentAfter}
-use Rattle.batch.specs.BatchLaws.{rule-refuses, messages-decide}
+use Rattle.batch.specs.Acts.{batchActs, batchNumbers, lentAfter}
+use Rattle.batch.specs.BatchLaws.{rule-refuses, messages-decide, front-numbers}
 use Rattle.batch.specs.Good.{GoodFront}
 use Rattle.state.specs.GoodState.{GoodState}
 use Rattle.batch.specs.GoodLaws.{front-exact, rows-ready}
-use Rattle.state.specs.Answers.{checkedNumbers, checkedBy}
+use Rattle.state.specs.Answers.{judgedNumbers, checkedNumbers, checkedBy}
 use Rattle.state.specs.AnswersLaws.{checkedRefusal, checked-told}
 use Rattle.state.specs.State.{stateRules}
 use Rattle.turns.specs.MessagesLaws.{rest-is}
 use Rattle.batch.specs.Promises.{JudgedBatch, TookBatch}
-use Rattle.batch.specs.Scratch.{DataReady, dataActs, JudgedData, TookData}
+use Rattle.batch.specs.Scratch.{DataReady, dataActs, dataNumbers, JudgedData, TookData}
 use Rattle.state.specs.StateLaws.{state-exact}
 
 module _ (lent : Lent) (batch : List ℕ) (checked : Checked) (is : checkedNumbers checked ≡ checkedBy (firstBroken (stateRules lent ++ batchRules batch))) where
@@ -37,13 +37,17 @@ module _ (lent : Lent) (batch : List ℕ) (checked : Checked) (is : checkedNumbe
     refuses : batchActs lent batch ≡ refused refusal
     refuses = rule-refuses lent batch refusal (first ∙ ap checkedRefusal e)
 
-    pub refused-judged : JudgedBatch lent batch (Refused refusal)
-    refused-judged = record { answers = sym (ap actedNumbers refuses) }
+    -- before the first lookup
+    none-compared : judgedNumbers (Refused refusal 0) ≡ batchNumbers lent batch
+    none-compared = sym (front-numbers lent batch refusal (first ∙ ap checkedRefusal e))
 
-    pub refused-took : TookBatch lent batch (Refused refusal) lent
+    pub refused-judged : JudgedBatch lent batch (Refused refusal 0)
+    refused-judged = record { answers = none-compared }
+
+    pub refused-took : TookBatch lent batch (Refused refusal 0) lent
     refused-took =
         record {
-          answers = sym (ap actedNumbers refuses);
+          answers = none-compared;
           left = sym (ap (lentAfter lent (batchLetter batch)) refuses);
         }
 
@@ -85,13 +89,16 @@ module _ (lent : Lent) (batch : List ℕ) (checked : Checked) (is : checkedNumbe
       same : dataActs lent bytes count ≡ batchActs lent batch
       same = rw (count-is, bytes-are) (sym (messages-decide lent batch (held .0) (held .1)))
 
+      same-numbers : dataNumbers lent bytes count ≡ batchNumbers lent batch
+      same-numbers = rw (same, count-is, bytes-are)
+
       module _ (answer : Judged) where
         pub judged-batch : JudgedData (lent .lists) (lent .rows) bytes count answer → JudgedBatch lent batch answer
-        judged-batch j = record { answers = j .answers (lent .records) ∙ ap actedNumbers same }
+        judged-batch j = record { answers = j .answers (lent .records) ∙ same-numbers }
 
         pub took-batch : (lent′ : Lent) → TookData lent bytes count answer lent′ → TookBatch lent batch answer lent′
         took-batch lent′ t =
             record {
-              answers = t .answers ∙ ap actedNumbers same;
+              answers = t .answers ∙ same-numbers;
               left = t .left ∙ ap₂ (lentAfter lent) (ap letterOf bytes-are) same;
             }

@@ -32,7 +32,8 @@ use Rattle.batch.specs.BatchLaws.{good-state, good-front, messages-accep
 use Rattle.batch.specs.Good.{gapsAfter}
 use Rattle.state.specs.GoodState.{GoodState}
 use Rattle.state.specs.RowsLaws.{length-with, behind-kept, sound-with}
-use Rattle.turns.specs.MessagesLaws.{not-both, messages-next, messages-refused, messages-end, messages-over}
+use Rattle.turns.specs.ComparedLaws.{not-both}
+use Rattle.turns.specs.MessagesLaws.{messages-next, messages-refused, messages-end, messages-over}
 use Rattle.batch.specs.ScratchLaws.{none-accepted}
 use Rattle.batch.specs.StepLaws.{messagesIn, KeptBehind, all-kept, Went, Fell, good-goes}
 

@@ -12,7 +12,8 @@ use Rattle.head.specs.Fields.{letterOf}
 use Rattle.sequence.specs.RowLaid.{soundGapRow}
 use Rattle.state.specs.declared.answers.Judged.{Judged}
 use Rattle.state.specs.Answers.{judgedNumbers}
-use Rattle.turns.specs.Turns.{Acted, messagesAct, actedNumbers}
+use Rattle.turns.specs.Compared.{comparedIn, reachedBy, countedNumbers}
+use Rattle.turns.specs.Turns.{Acted, messagesAct}
 use Rattle.batch.specs.Acts.{boxOf, lentAfter}
 use Rattle.state.specs.Memory.{Lent, lends, gapRowCells, gapRowsWanted, gapRowOf}
 use Rattle.state.specs.MemoryRows.{gapRowsSound}
@@ -42,11 +43,16 @@ pub record DataReady (lists : Lists) (rows : List ℕ) (count : ℕ) : Type 0 wh
 abbrev pub dataActs : Lent → List ℕ → ℕ → Acted
 dataActs lent bytes count = messagesAct count (lent .lists) (letterOf bytes) 0 (boxOf lent (letterOf bytes)) bytes
 
+-- a word of our own: the numbers of that, and of the keys compared
+abbrev pub dataNumbers : Lent → List ℕ → ℕ → List ℕ
+dataNumbers lent bytes count =
+    countedNumbers (dataActs lent bytes count) (comparedIn (reachedBy count (dataActs lent bytes count)) (lent .lists) (letterOf bytes) bytes)
+
 -- a word of our own: they are judged, whatever the records are
 pub record JudgedData (lists : Lists) (rows bytes : List ℕ) (count : ℕ) (answer : Judged) : Type 0 where
-  pub answers : (records : List ℕ) → judgedNumbers answer ≡ actedNumbers (dataActs (lends lists rows records) bytes count)
+  pub answers : (records : List ℕ) → judgedNumbers answer ≡ dataNumbers (lends lists rows records) bytes count
 
 -- a word of our own: they are taken
 pub record TookData (lent : Lent) (bytes : List ℕ) (count : ℕ) (answer : Judged) (lent′ : Lent) : Type 0 where
-  pub answers : judgedNumbers answer ≡ actedNumbers (dataActs lent bytes count)
+  pub answers : judgedNumbers answer ≡ dataNumbers lent bytes count
   pub left : lent′ ≡ lentAfter lent (letterOf bytes) (dataActs lent bytes count)

@@ -32,14 +32,16 @@ use Rattle.state.specs.declared.refusal.Refusal.{Refusal}
 use Rattle.turns.specs.Acts.{boxAt, InFront, Ready, Left, JudgedMessages, none as noCounts}
 use Rattle.turns.specs.ActsLaws.{acts-as}
 use Rattle.state.specs.Answers.{judgedNumbers}
-use Rattle.turns.specs.Turns.{Box, acted, refused, messageActs, messagesAct, actedNumbers}
+use Rattle.turns.specs.Compared.{comparedIn, reachedBy, countedNumbers}
+use Rattle.turns.specs.Turns.{Box, Acted, acted, refused, messageActs, messagesAct}
 use Rattle.batch.specs.Acts.{boxOf, lentAfter}
 use Rattle.state.specs.Memory.{lends, gapRowIn, gapRowOf}
 use Rattle.state.specs.MemoryRows.{withGapRowOfLetter}
-use Rattle.turns.specs.MessagesLaws.{messages-refused, not-both}
+use Rattle.turns.specs.ComparedLaws.{not-both}
+use Rattle.turns.specs.MessagesLaws.{messages-refused}
 use Rattle.state.specs.Refusals.{ofFault}
 use Rattle.batch.specs.BatchLaws.{accepted-box, refused-is}
-use Rattle.batch.specs.Scratch.{RowsReady, RowReady, ScratchRow, dataActs, JudgedData, TookData}
+use Rattle.batch.specs.Scratch.{RowsReady, RowReady, ScratchRow, dataActs, dataNumbers, JudgedData, TookData}
 use Rattle.stores.specs.Stores.{made, Room}
 
 module _ (lists : Lists) (letter : ℕ) (unlisted : segmentOf (lists .contracts) letter ≡ none) where
@@ -103,24 +105,29 @@ module _ (lists : Lists) (rows : List ℕ) (letter : ℕ) where
 
     module _ (cells : ℕ) (turn : InTurn) (row′ stores′ : List ℕ) (j : JudgedMessages lists letter row cells bytes count turn row′ stores′) where
       pub scratch-judged : JudgedData lists rows bytes count (turn .answer)
-      scratch-judged = record { answers = λ records. j .answers records ∙ ap actedNumbers (scratch-acts records) }
+      scratch-judged =
+          record {
+            answers = λ records.
+                j .answers records
+                ∙ ap₂ (λ (a : Acted) (l : ℕ). countedNumbers a (comparedIn (reachedBy count a) lists l bytes)) (scratch-acts records) e;
+          }
 
       module _ (records : List ℕ) where
-        answered : {answer : Judged} → turn .answer ≡ answer → judgedNumbers answer ≡ actedNumbers (dataActs (lends lists rows records) bytes count)
+        answered : {answer : Judged} → turn .answer ≡ answer → judgedNumbers answer ≡ dataNumbers (lends lists rows records) bytes count
         answered f = ap judgedNumbers (sym f) ∙ scratch-judged .answers records
 
         -- a refusal leaves everything
-        pub scratch-refused : (refusal : Refusal) → turn .answer ≡ Refused refusal → TookData (lends lists rows records) bytes count (turn .answer) (lends lists rows records)
+        pub scratch-refused : (refusal : Refusal) {compared : ℕ} → turn .answer ≡ Refused refusal compared → TookData (lends lists rows records) bytes count (turn .answer) (lends lists rows records)
         scratch-refused refusal f =
-            let r = refused-is (dataActs (lends lists rows records) bytes count) refusal (answered f) in
+            let r = refused-is (dataActs (lends lists rows records) bytes count) _ refusal _ (answered f) in
             record {
               answers = scratch-judged .answers records;
               left = ap (lentAfter (lends lists rows records) (letterOf bytes)) (sym (r .1));
             }
 
-        module _ {taken old heartbeats : ℕ} (f : turn .answer ≡ Accepted taken old heartbeats) where
+        module _ {taken old heartbeats compared : ℕ} (f : turn .answer ≡ Accepted taken old heartbeats compared) where
           pub scratch-left : (box : Box) × (dataActs (lends lists rows records) bytes count ≡ acted box) × Left lists (Room cells (length bytes)) records box (turn .kept) row′ stores′
-          scratch-left = let d = accepted-box (dataActs (lends lists rows records) bytes count) (answered f) in (d .0, d .1, j .leaves records (d .0) (scratch-acts records ∙ d .1))
+          scratch-left = let d = accepted-box (dataActs (lends lists rows records) bytes count) _ (answered f) in (d .0, d .1, j .leaves records (d .0) (scratch-acts records ∙ d .1))
 
           -- the row put back and the stores made are what the messages do
           pub scratch-taken : Room cells (length bytes)

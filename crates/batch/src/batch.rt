@@ -122,7 +122,7 @@ pub fn judge(list: &[u8], spreads: &[u8], rows: &[u32], records: &[u64], batch: 
     ensures { λ r. ⌜ JudgedBatch (lends (lists (now (list .entry)) (now (spreads .entry))) (now (rows .entry)) (now (records .entry))) (now (batch .entry)) r ⌝ }
 {
     match check_all(list, spreads, rows, records, batch) {
-        Checked::Refused(refusal) => Judged::Refused(refusal),
+        Checked::Refused(refusal) => Judged::Refused(refusal, 0),
         Checked::Good => {
             let count = wire::u16_at(batch, 3) as usize;
             judge_data(list, spreads, rows, &batch[FRONT..], count)
@@ -161,7 +161,7 @@ fn take_on(
     );
     let answer = turn.answer;
     let kept = turn.kept;
-    if let Judged::Accepted(_, _, _) = answer {
+    if let Judged::Accepted(_, _, _, _) = answer {
         scratch::put_row_in(rows, segment, &row);
         stores::make_all(records, stores, kept);
     }
@@ -207,7 +207,7 @@ pub fn take(
     ensures { λ r. ⌜ TookBatch (lends (lists (now (list .entry)) (now (spreads .entry))) (now (rows .entry)) (now (records .entry))) (now (batch .entry)) r (lends (lists (now (list .entry)) (now (spreads .entry))) (now (rows .exit)) (now (records .exit))) ⌝ }
 {
     match check_all(list, spreads, rows, records, batch) {
-        Checked::Refused(refusal) => Judged::Refused(refusal),
+        Checked::Refused(refusal) => Judged::Refused(refusal, 0),
         Checked::Good => {
             let count = wire::u16_at(batch, 3) as usize;
             take_data(list, spreads, rows, records, &batch[FRONT..], count)

@@ -19,6 +19,7 @@ use Rattle.forms.specs.Forms.{namedRows, rowsOf, meaningOf, formOf}
 use Rattle.head.specs.Fields.{letterOf, secondOf, lengthOf, numberOf, sumSent, endByte, formIn, sumIn, rightSum, dataOf as dataIn}
 use Rattle.head.specs.Rules.{headOf}
 use Rattle.head.specs.Tests.{framed, coded, trailed, summed}
+use Rattle.message.specs.Compared.{messageCompared}
 use Rattle.message.specs.Message.{messageKey, keyPlace}
 use Rattle.message.specs.Reads.{contentsBy, messageOf}
 use Rattle.turns.specs.Turns.{messageActs, messagesAct}
@@ -65,9 +66,9 @@ calls = elsewhere (lends noLists [] []) (start listed starts) ∷ own (start lis
 abbrev now : BoxNow
 now = allAfter (unstarted lentFirst) calls
 
--- they answer: 15 for the 132 cells that the first start wants; started; one message taken, and one more
-pub told : map answerNumbers (allAnswers (unstarted lentFirst) calls) ≡ (15 ∷ 0 ∷ 0 ∷ 132 ∷ []) ∷ (0 ∷ []) ∷ (0 ∷ 1 ∷ 0 ∷ 0 ∷ []) ∷ (0 ∷ 1 ∷ 0 ∷ 0 ∷ []) ∷ []
-unfolding noSpreads pairsListed spreadHeaderSound spreadsSound startRules eachStarts keyFrom keySound bodySound soundBy rowsStarted recordsCleared segmentsOf letterAt zeroAt countAt offsetAt contractsBefore segmentOf entrySound headerSoundBy gapsOf laid soundGapRow meaningOf formOf letterOf secondOf lengthOf numberOf dataIn sumSent endByte formIn sumIn rightSum framed coded trailed summed headOf messageKey keyPlace contentsBy messageOf flagOf sizeOf countOf messageActs messagesAct batchActs rowsOf namedRows
+-- they answer: 15 for the 132 cells that the first start wants; started; one message taken, and one more, with no key compared
+pub told : map answerNumbers (allAnswers (unstarted lentFirst) calls) ≡ (15 ∷ 0 ∷ 0 ∷ 132 ∷ []) ∷ (0 ∷ []) ∷ (0 ∷ 1 ∷ 0 ∷ 0 ∷ 0 ∷ []) ∷ (0 ∷ 1 ∷ 0 ∷ 0 ∷ 0 ∷ []) ∷ []
+unfolding noSpreads pairsListed spreadHeaderSound spreadsSound startRules eachStarts keyFrom keySound bodySound soundBy rowsStarted recordsCleared segmentsOf letterAt zeroAt countAt offsetAt contractsBefore segmentOf entrySound headerSoundBy gapsOf laid soundGapRow messageCompared meaningOf formOf letterOf secondOf lengthOf numberOf dataIn sumSent endByte formIn sumIn rightSum framed coded trailed summed headOf messageKey keyPlace contentsBy messageOf flagOf sizeOf countOf messageActs messagesAct batchActs rowsOf namedRows
 told = refl
 
 -- the history

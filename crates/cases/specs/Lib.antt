@@ -3,3 +3,4 @@ pub mod Example
 pub mod MessageCases
 pub mod ListCases
 pub mod SpreadCases
+pub mod LookupCases

@@ -69,6 +69,6 @@ pub last-record : contractAmong (twoOf 68 84 18 57 threeKeys) 1 1 ≡ 2
 unfolding segmentsOf countAt contractsBefore
 last-record = refl
 
--- the binary digits of 0, 1, 2, 3, 4 and 4,096
-pub some-digits : map digits (0 ∷ 1 ∷ 2 ∷ 3 ∷ 4 ∷ 4096 ∷ []) ≡ 0 ∷ 1 ∷ 2 ∷ 2 ∷ 3 ∷ 13 ∷ []
+-- the binary digits of 0, 1, 2, 3, 4, 1,024 and 4,096
+pub some-digits : map digits (0 ∷ 1 ∷ 2 ∷ 3 ∷ 4 ∷ 1024 ∷ 4096 ∷ []) ≡ 0 ∷ 1 ∷ 2 ∷ 2 ∷ 3 ∷ 11 ∷ 13 ∷ []
 some-digits = refl

@@ -33,6 +33,7 @@ use Rattle.forms.specs.Forms.{namedRows, rowsOf, meaningOf, formOf, writtenForm
 use Rattle.head.specs.Fields.{letterOf, secondOf, lengthOf, numberOf, sumSent, endByte, formIn, sumIn, rightSum, dataOf as dataIn}
 use Rattle.head.specs.Rules.{headOf}
 use Rattle.head.specs.Tests.{framed, coded, trailed, summed}
+use Rattle.message.specs.Compared.{messageCompared}
 use Rattle.message.specs.Message.{messageKey, keyPlace}
 use Rattle.message.specs.Reads.{contentsBy, messageOf}
 use Rattle.turns.specs.Turns.{messageActs, messagesAct}
@@ -218,8 +219,8 @@ cases =
     ∷ record { asked = sent (0x01 ∷ []); says = 0x21 ∷ 0x10 ∷ [] }  -- P3
     ∷ record { asked = sum (0x32 ∷ []); says = 0x1611 ∷ [] }  -- P4
     ∷ record { asked = sent (0x32 ∷ []); says = 0x10 ∷ 0x16 ∷ [] }
-    ∷ record { asked = call [] (take p5); says = 0 ∷ 0 ∷ 0 ∷ 1 ∷ [] }  -- P5: none taken, none old, one heartbeat
-    ∷ record { asked = call [] (take p6); says = 1 ∷ 0 ∷ 0 ∷ 0 ∷ [] }  -- P6
+    ∷ record { asked = call [] (take p5); says = 0 ∷ 0 ∷ 0 ∷ 1 ∷ 0 ∷ [] }  -- P5: none taken, none old, one heartbeat; M-102: no key compared
+    ∷ record { asked = call [] (take p6); says = 1 ∷ 0 ∷ 0 ∷ 0 ∷ 0 ∷ [] }  -- P6
     ∷ record { asked = text "           100.25"; says = 0 ∷ 1_002_500_000 ∷ [] }  -- P7
     ∷ record { asked = text "99999999999.99999"; says = 0 ∷ 999_999_999_999_999_900 ∷ [] }  -- P8
     ∷ record { asked = text "100000000000"; says = 12 ∷ [] }  -- P9
@@ -231,14 +232,14 @@ cases =
     ∷ record { asked = call p12 (gapsIn 6); says = 0 ∷ 9 ∷ 3 ∷ alone (3 ∷ 6 ∷ 8 ∷ []) }  -- P12
     ∷ record { asked = missing p12; says = 3 ∷ 6 ∷ 8 ∷ [] }
     ∷ record { asked = call p12 (writeOff T); says = 0 ∷ 3 ∷ 3 ∷ [] }
-    ∷ record { asked = call p12-off (numbers (3 ∷ [])); says = 0 ∷ 0 ∷ 1 ∷ 0 ∷ [] }
+    ∷ record { asked = call p12-off (numbers (3 ∷ [])); says = 0 ∷ 0 ∷ 1 ∷ 0 ∷ 0 ∷ [] }
     ∷ record { asked = missing p12-off; says = 6 ∷ 8 ∷ [] }
     ∷ record { asked = next p12-off 3; says = 0 ∷ 2 ∷ [] }
     ∷ record { asked = call p13 (gapsIn 128); says = 0 ∷ 128 ∷ 64 ∷ alone (twoApart 1 64) }  -- P13: highest 128 and 64 runs
     ∷ record { asked = standing p13; says = 64 ∷ [] }
-    ∷ record { asked = call p13 (numbers (130 ∷ [])); says = 14 ∷ 0 ∷ 0 ∷ 0 ∷ [] }
+    ∷ record { asked = call p13 (numbers (130 ∷ [])); says = 14 ∷ 0 ∷ 0 ∷ 0 ∷ 0 ∷ [] }
     ∷ record { asked = next p13 130; says = 1 ∷ 65 ∷ [] }
-    ∷ record { asked = call p13-130 (numbers (129 ∷ [])); says = 0 ∷ 1 ∷ 0 ∷ 0 ∷ [] }
+    ∷ record { asked = call p13-130 (numbers (129 ∷ [])); says = 0 ∷ 1 ∷ 0 ∷ 0 ∷ 0 ∷ [] }
     ∷ record { asked = next p13-130 129; says = 1 ∷ 64 ∷ [] }
     ∷ record { asked = call p13-127 (gapsIn 126); says = 0 ∷ 129 ∷ 63 ∷ alone (twoApart 1 63) }
     ∷ record { asked = standing p13-127; says = 63 ∷ [] }
@@ -254,7 +255,7 @@ unfoldable pub sayings : List Case → List (List ℕ)
 sayings = map (λ (c : Case). c .says)
 
 pub P1-to-P14 : answered cases ≡ sayings cases
-unfolding noSpreads pairsListed spreadHeaderSound spreadsSound cases answered sayings bitStep byteStep step walk readAs segmentsOf letterAt zeroAt countAt offsetAt contractsBefore segmentOf entrySound headerSoundBy gapsOf laid soundGapRow meaningOf formOf writtenForm letterOf secondOf lengthOf numberOf dataIn sumSent endByte formIn sumIn rightSum framed coded trailed summed headOf messageKey keyPlace contentsBy messageOf flagOf sizeOf countOf messageActs messagesAct batchActs gapsOfLetter listRules runsPut writeOffRules lentWrittenOff rowsStarted recordsCleared segmentRules writeRules lengthWritten dataWritten rowText quoteOf valuesOf textOf size sizeIn startRules eachStarts keyFrom keySound bodySound soundBy rowsOf namedRows
+unfolding noSpreads pairsListed spreadHeaderSound spreadsSound cases answered sayings bitStep byteStep step walk readAs segmentsOf letterAt zeroAt countAt offsetAt contractsBefore segmentOf entrySound headerSoundBy gapsOf laid soundGapRow messageCompared meaningOf formOf writtenForm letterOf secondOf lengthOf numberOf dataIn sumSent endByte formIn sumIn rightSum framed coded trailed summed headOf messageKey keyPlace contentsBy messageOf flagOf sizeOf countOf messageActs messagesAct batchActs gapsOfLetter listRules runsPut writeOffRules lentWrittenOff rowsStarted recordsCleared segmentRules writeRules lengthWritten dataWritten rowText quoteOf valuesOf textOf size sizeIn startRules eachStarts keyFrom keySound bodySound soundBy rowsOf namedRows
 P1-to-P14 = refl
 
 -- ---- the table of refusals, where P1 to P14 are silent
@@ -284,38 +285,40 @@ batch count bytes = call [] (take (plainBatch count bytes))
 abbrev handed : Lists → List ℕ → List ℕ → Asked
 handed lists′ rows bytes = lent (lends lists′ rows (started .lent .records)) (take bytes)
 
+-- M-102: behind the numbers of a batch stands how many keys were compared: one where an update has come to 13, since D lists one contract
 -- 01, the table of refusals: P5's batch with one thing wrong, in it or in the lists and gap rows that are handed with it; an update
 -- behind its heartbeat with one thing wrong; and a start, a reading, a listing of P11's gaps and a write-off that are refused
 unfoldable pub refusals : List Case
 refusals =
-    record { asked = call [] (take (0 ∷ drop 1 p5)); says = 2 ∷ 0 ∷ 0 ∷ 0 ∷ [] }
-    ∷ record { asked = call [] (take (2 ∷ drop 1 p5)); says = 3 ∷ 0 ∷ 0 ∷ 0 ∷ [] }
-    ∷ record { asked = batch 0 heartbeat; says = 4 ∷ 0 ∷ 0 ∷ 0 ∷ [] }
-    ∷ record { asked = batch 1 (heartbeat ++ (0 ∷ [])); says = 4 ∷ 0 ∷ 0 ∷ 0 ∷ [] }  -- a byte left over
-    ∷ record { asked = batch 2 heartbeat; says = 5 ∷ 1 ∷ 0 ∷ 0 ∷ [] }  -- at the message that isn't there
-    ∷ record { asked = batch 1 (bare 88 72 11 0 0 13); says = 6 ∷ 0 ∷ 0 ∷ 0 ∷ [] }
-    ∷ record { asked = batch 1 (bare 68 72 11 0 0 14); says = 7 ∷ 0 ∷ 0 ∷ 0 ∷ [] }
-    ∷ record { asked = batch 1 (bare 68 78 11 0 0 13); says = 8 ∷ 0 ∷ 0 ∷ 0 ∷ [] }
-    ∷ record { asked = batch 1 (bare 68 72 11 0 1 13); says = 9 ∷ 0 ∷ 0 ∷ 0 ∷ [] }
-    ∷ record { asked = batch 1 (bare 68 72 11 1 0 13); says = 10 ∷ 0 ∷ 0 ∷ 0 ∷ [] }
+    record { asked = call [] (take (0 ∷ drop 1 p5)); says = 2 ∷ 0 ∷ 0 ∷ 0 ∷ 0 ∷ [] }
+    ∷ record { asked = call [] (take (2 ∷ drop 1 p5)); says = 3 ∷ 0 ∷ 0 ∷ 0 ∷ 0 ∷ [] }
+    ∷ record { asked = batch 0 heartbeat; says = 4 ∷ 0 ∷ 0 ∷ 0 ∷ 0 ∷ [] }
+    ∷ record { asked = batch 1 (heartbeat ++ (0 ∷ [])); says = 4 ∷ 0 ∷ 0 ∷ 0 ∷ 0 ∷ [] }  -- a byte left over
+    ∷ record { asked = batch 2 heartbeat; says = 5 ∷ 1 ∷ 0 ∷ 0 ∷ 0 ∷ [] }  -- at the message that isn't there
+    ∷ record { asked = batch 1 (bare 88 72 11 0 0 13); says = 6 ∷ 0 ∷ 0 ∷ 0 ∷ 0 ∷ [] }
+    ∷ record { asked = batch 1 (bare 68 72 11 0 0 14); says = 7 ∷ 0 ∷ 0 ∷ 0 ∷ 0 ∷ [] }
+    ∷ record { asked = batch 1 (bare 68 78 11 0 0 13); says = 8 ∷ 0 ∷ 0 ∷ 0 ∷ 0 ∷ [] }
+    ∷ record { asked = batch 1 (bare 68 72 11 0 1 13); says = 9 ∷ 0 ∷ 0 ∷ 0 ∷ 0 ∷ [] }
+    ∷ record { asked = batch 1 (bare 68 72 11 1 0 13); says = 10 ∷ 0 ∷ 0 ∷ 0 ∷ 0 ∷ [] }
     ∷ record { asked = lent (lentFirst 264) (start lists (1 ∷ 0 ∷ [])); says = 10 ∷ 0 ∷ 0 ∷ 0 ∷ [] }
-    ∷ record { asked = batch 2 (heartbeat ++ update 65 79 blank); says = 11 ∷ 1 ∷ 5 ∷ 0 ∷ [] }  -- at its market type O
-    ∷ record { asked = batch 2 (heartbeat ++ update 65 78 "               -1"); says = 11 ∷ 1 ∷ 6 ∷ 0 ∷ [] }  -- at P10's text
-    ∷ record { asked = batch 2 (heartbeat ++ update 65 78 "     100000000000"); says = 12 ∷ 1 ∷ 6 ∷ 0 ∷ [] }  -- at P9's text
-    ∷ record { asked = batch 2 (heartbeat ++ update 66 78 blank); says = 13 ∷ 1 ∷ 0 ∷ 0 ∷ [] }
+    ∷ record { asked = batch 2 (heartbeat ++ update 65 79 blank); says = 11 ∷ 1 ∷ 5 ∷ 0 ∷ 0 ∷ [] }  -- at its market type O
+    ∷ record { asked = batch 2 (heartbeat ++ update 65 78 "               -1"); says = 11 ∷ 1 ∷ 6 ∷ 0 ∷ 0 ∷ [] }  -- at P10's text
+    ∷ record { asked = batch 2 (heartbeat ++ update 65 78 "     100000000000"); says = 12 ∷ 1 ∷ 6 ∷ 0 ∷ 0 ∷ [] }  -- at P9's text
+    ∷ record { asked = batch 2 (heartbeat ++ update 66 78 blank); says = 13 ∷ 1 ∷ 0 ∷ 0 ∷ 1 ∷ [] }
+    ∷ record { asked = batch 1 (update 65 78 blank ++ (0 ∷ [])); says = 4 ∷ 0 ∷ 0 ∷ 0 ∷ 1 ∷ [] }  -- M-102: a byte left over, behind a lookup
     ∷ record { asked = call [] (readRecord Contract T (keyOfBytes 65) One); says = 13 ∷ 0 ∷ 0 ∷ 0 ∷ [] }  -- a key of D
     ∷ record { asked = call p11 (gapsIn 3); says = 15 ∷ 0 ∷ 0 ∷ 4 ∷ 0 ∷ 0 ∷ 0 ∷ [] }  -- and three cells as before
     ∷ record { asked = lent (lentFirst 263) (start lists starts); says = 15 ∷ 0 ∷ 0 ∷ 264 ∷ [] }
-    ∷ record { asked = handed lists (drop 1 (started .lent .rows)) p5; says = 15 ∷ 0 ∷ 0 ∷ 264 ∷ [] }
+    ∷ record { asked = handed lists (drop 1 (started .lent .rows)) p5; says = 15 ∷ 0 ∷ 0 ∷ 264 ∷ 0 ∷ [] }
     ∷ record { asked = lent (lentFirst 264) (start (withoutPairs (twoOf 68 84 18 57 (keyOfBytes 65 ++ keyOfBytes 66 ++ keyOfBytes 66))) starts); says = 16 ∷ 0 ∷ 0 ∷ 0 ∷ [] }  -- a key twice
-    ∷ record { asked = handed (withoutPairs (contracts ++ (65 ∷ []))) (started .lent .rows) p5; says = 16 ∷ 0 ∷ 0 ∷ 0 ∷ [] }  -- a byte too many
+    ∷ record { asked = handed (withoutPairs (contracts ++ (65 ∷ []))) (started .lent .rows) p5; says = 16 ∷ 0 ∷ 0 ∷ 0 ∷ 0 ∷ [] }  -- a byte too many
     ∷ record { asked = lent (lentFirst 264) (start (record { contracts = contracts; pairs = [] }) starts); says = 16 ∷ 0 ∷ 0 ∷ 0 ∷ [] }  -- M-100: no spread list
-    ∷ record { asked = handed (record { contracts = contracts; pairs = [] }) (started .lent .rows) p5; says = 16 ∷ 0 ∷ 0 ∷ 0 ∷ [] }
+    ∷ record { asked = handed (record { contracts = contracts; pairs = [] }) (started .lent .rows) p5; says = 16 ∷ 0 ∷ 0 ∷ 0 ∷ 0 ∷ [] }
     ∷ record { asked = call [] (readRecord Pair T (keyOfBytes 66 ++ keyOfBytes 66) One); says = 13 ∷ 0 ∷ 0 ∷ 0 ∷ [] }  -- M-100: a pair that isn't listed
     ∷ record { asked = call [] (writeOff T); says = 17 ∷ 0 ∷ 0 ∷ 0 ∷ [] }
-    ∷ record { asked = handed lists (set (started .lent .rows) 132 0) p5; says = 18 ∷ 0 ∷ 0 ∷ 0 ∷ [] }  -- T's row, start 0
+    ∷ record { asked = handed lists (set (started .lent .rows) 132 0) p5; says = 18 ∷ 0 ∷ 0 ∷ 0 ∷ 0 ∷ [] }  -- T's row, start 0
     ∷ []
 
 pub refusals-told : answered refusals ≡ sayings refusals
-unfolding noSpreads pairsListed spreadHeaderSound spreadsSound refusals answered sayings bitStep byteStep step walk readAs segmentsOf letterAt zeroAt countAt offsetAt keyFrom contractsBefore segmentOf lookup halvedIn entrySound headerSoundBy keySound bodySound soundBy gapsOf laid soundGapRow meaningOf formOf writtenForm letterOf secondOf lengthOf numberOf dataIn sumSent endByte formIn sumIn rightSum framed coded trailed summed headOf messageKey keyPlace contentsBy messageOf flagOf sizeOf countOf messageActs messagesAct batchActs gapsOfLetter listRules runsPut writeOffRules recordRules startRules eachStarts rowsStarted recordsCleared segmentRules messageBytes readRow rowsOf namedRows
+unfolding noSpreads pairsListed spreadHeaderSound spreadsSound refusals answered sayings bitStep byteStep step walk readAs segmentsOf letterAt zeroAt countAt offsetAt keyFrom contractsBefore segmentOf lookup halvedIn entrySound headerSoundBy keySound bodySound soundBy gapsOf laid soundGapRow messageCompared meaningOf formOf writtenForm letterOf secondOf lengthOf numberOf dataIn sumSent endByte formIn sumIn rightSum framed coded trailed summed headOf messageKey keyPlace contentsBy messageOf flagOf sizeOf countOf messageActs messagesAct batchActs gapsOfLetter listRules runsPut writeOffRules recordRules startRules eachStarts rowsStarted recordsCleared segmentRules messageBytes readRow rowsOf namedRows
 refusals-told = refl

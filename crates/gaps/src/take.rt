@@ -71,8 +71,8 @@ fn take_batch(
     let answer = took.answer;
     let rows = took.rows;
     match answer {
-        Judged::Accepted(_, _, _) => Taken { rows, used },
-        Judged::Refused(refusal) => Taken {
+        Judged::Accepted(_, _, _, _) => Taken { rows, used },
+        Judged::Refused(refusal, _) => Taken {
             rows,
             used: report::put_refused(page, used, batch, refusal),
         },

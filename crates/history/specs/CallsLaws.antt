@@ -101,10 +101,10 @@ module _ (lent : Lent) where
       go (some refusal) = refl
 
   pub judge-promised : (batch : List ℕ) → JudgedBatch lent batch (batchAnswer lent batch)
-  judge-promised batch = record { answers = answer-numbers (batchActs lent batch) }
+  judge-promised batch = record { answers = answer-numbers _ (batchActs lent batch) }
 
   pub take-promised : (batch : List ℕ) → TookBatch lent batch (batchAnswer lent batch) (step lent (take batch) .left)
-  take-promised batch = record { answers = answer-numbers (batchActs lent batch); left = refl }
+  take-promised batch = record { answers = answer-numbers _ (batchActs lent batch); left = refl }
 
   pub list-promised : (letter : ℕ) (cells : List ℕ)
       → ListedRuns lent letter cells (listAnswer (listRefusal lent letter cells) (gapsOfLetter lent letter)) (leftBy (listRefusal lent letter cells) cells (runsPut (gapsOfLetter lent letter) cells))

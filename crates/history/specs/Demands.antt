@@ -23,6 +23,8 @@ use Rattle.state.specs.declared.answers.WrittenOff.{WrittenOff}
 use Rattle.state.specs.declared.answers.Recorded.{Recorded}
 use Rattle.state.specs.declared.answers.Written.{Written}
 use Rattle.writer.specs.declared.writing.Code.{Code}
+use Rattle.turns.specs.Compared.{comparedOf, reachedIn}
+use Rattle.batch.specs.Batch.{countOf}
 use Rattle.batch.specs.Promises.{JudgedBatch, TookBatch}
 use Rattle.starting.specs.StartPromises.{StartedBox, PutNoSpreads}
 use Rattle.listing.specs.ListPromises.{ListedRuns, WroteOffRun}
@@ -34,7 +36,7 @@ use Rattle.slots.specs.Slots.{Slot, SlotListed}
 use Rattle.history.specs.Past.{Event, afterWriteOff, wroteOffIn, takenOf, highestIn, missingIn, runsStanding, takenFor}
 use Rattle.reading.specs.Shown.{QuoteFor, ReadsItem}
 use Rattle.history.specs.Updates.{itemIn, letterIn, keyIn, levelIn}
-use Rattle.history.specs.Exactly.{NamesMissing, ReadsNewest, CountsCame, OverInBatch}
+use Rattle.history.specs.Exactly.{NamesMissing, ReadsNewest, CountsCame, CountsKeys, OverInBatch}
 use Rattle.history.specs.Machine.{isNew, LowestRun, IsAccepted, GoodNow, Judges}
 use Rattle.history.specs.Refines.{machineOf}
 
@@ -68,7 +70,7 @@ pub record AfterCalls (starts : List ℕ) (lent : Lent) (past : List Event) : Ty
       → isNew (startOf starts i) (takenOf i (startOf starts i) past) (wroteOffIn i past) n
       ≡ ltb (highestIn i (startOf starts i) past) n || missingIn i (startOf starts i) past n
   -- "An accepted batch answers how many messages were taken, old and heartbeats; judging answers what taking would"
-  pub counts-came : (batch : List ℕ) (taken old heartbeats : ℕ) → JudgedBatch lent batch (Judged.Accepted taken old heartbeats)
+  pub counts-came : (batch : List ℕ) (taken old heartbeats compared : ℕ) → JudgedBatch lent batch (Judged.Accepted taken old heartbeats compared)
       → CountsCame (lent .lists) starts past batch taken old heartbeats
   -- "A batch is accepted exactly when document 01's rules hold for all of it", 14 counted from the missing numbers
   pub accepted-exactly : (batch : List ℕ) (answer : Judged) → JudgedBatch lent batch answer
@@ -77,11 +79,19 @@ pub record AfterCalls (starts : List ℕ) (lent : Lent) (past : List Event) : Ty
   pub judged-exactly : (batch : List ℕ) (answer : Judged) → JudgedBatch lent batch answer ↔ Judges (machineOf (lent .lists) starts past) batch answer
   -- "A call is refused for gaps exactly when no earlier rule refuses it and over 64 runs would stand"
   pub refused-for-gaps : (batch : List ℕ) (answer : Judged) → JudgedBatch lent batch answer
-      → (i : ℕ) → answer ≡ Judged.Refused (Gaps i) ↔ OverInBatch (lent .lists) starts past batch i
+      → (i : ℕ) → ((compared : ℕ) × (answer ≡ Judged.Refused (Gaps i) compared)) ↔ OverInBatch (lent .lists) starts past batch i
+  -- M-102, "add up the counts of a batch's lookups": what is said of them is so on any box with these lists
+  pub keys-compared : (batch : List ℕ) (answer : Judged) → JudgedBatch lent batch answer → CountsKeys (lent .lists) batch answer
   -- 16, 15 for state too short, and 18 are not given
   pub state-passes : GoodState lent
   -- bodies too: so 13 is given exactly where the key is none of its list's (`message` GoodLaws: `contract-listed`)
   pub lists-sound : SoundLists (lent .lists)
+
+-- M-102: two boxes with one contract list and one spread list, whatever each has taken, compare as many keys for a batch that both
+-- accept, or refuse at one place
+abbrev pub CompareAlike : Lent → Lent → Type 0
+CompareAlike lent lent′ = (batch : List ℕ) (a b : Judged) → JudgedBatch lent batch a → JudgedBatch lent′ batch b
+    → reachedIn (countOf batch) a ≡ reachedIn (countOf batch) b → comparedOf a ≡ comparedOf b
 
 -- demand 3: "Two boxes that took the same messages agree": in gap lists, and in records
 pub record Agree (lent lent′ : Lent) : Type 0 where
@@ -94,7 +104,7 @@ pub record Agree (lent lent′ : Lent) : Type 0 where
 -- and reading a record write nothing
 pub record RefusalsKeep (lent : Lent) : Type 0 where
   pub start-keeps : (starts : List ℕ) (refusal : Refusal) (lent′ : Lent) → StartedBox lent starts (Started.Refused refusal) lent′ → lent′ ≡ lent
-  pub take-keeps : (batch : List ℕ) (refusal : Refusal) (lent′ : Lent) → TookBatch lent batch (Judged.Refused refusal) lent′ → lent′ ≡ lent
+  pub take-keeps : (batch : List ℕ) (refusal : Refusal) (compared : ℕ) (lent′ : Lent) → TookBatch lent batch (Judged.Refused refusal compared) lent′ → lent′ ≡ lent
   pub list-keeps : (letter : ℕ) (cells : List ℕ) (refusal : Refusal) (cells′ : List ℕ)
       → ListedRuns lent letter cells (Listed.Refused refusal) cells′ → cells′ ≡ cells
   pub write-off-keeps : (letter : ℕ) (refusal : Refusal) (lent′ : Lent) → WroteOffRun lent letter (WrittenOff.Refused refusal) lent′ → lent′ ≡ lent
@@ -106,6 +116,6 @@ pub record RefusalsKeep (lent : Lent) : Type 0 where
 -- whatever was handed to it
 pub record AcceptedLeave (lent : Lent) : Type 0 where
   pub start-leaves : (starts : List ℕ) (lent′ : Lent) → StartedBox lent starts Started.Started lent′ → GoodState lent′
-  pub take-leaves : (batch : List ℕ) (taken old heartbeats : ℕ) (lent′ : Lent)
-      → TookBatch lent batch (Judged.Accepted taken old heartbeats) lent′ → GoodState lent′
+  pub take-leaves : (batch : List ℕ) (taken old heartbeats compared : ℕ) (lent′ : Lent)
+      → TookBatch lent batch (Judged.Accepted taken old heartbeats compared) lent′ → GoodState lent′
   pub write-off-leaves : (letter first last : ℕ) (lent′ : Lent) → WroteOffRun lent letter (WrittenOff.Removed first last) lent′ → GoodState lent′

@@ -11,10 +11,12 @@ use Rattle.state.specs.declared.answers.Judged.{Judged}
 use Rattle.state.specs.Memory.{Lent, lends}
 use Rattle.starting.specs.StartPromisesLaws.{start-refusal, no-spreads-refusal, start-leaves}
 use Rattle.listing.specs.ListPromisesLaws.{list-refusal, off-refusal, off-leaves}
+use Rattle.turns.specs.Compared.{comparedIn}
+use Rattle.batch.specs.Batch.{batchLetter, batchData}
 use Rattle.batch.specs.OrderLaws.{refused-exact}
 use Rattle.batch.specs.Promises.{JudgedBatch, TookBatch}
 use Rattle.starting.specs.Start.{startOf}
-use Rattle.batch.specs.TookLaws.{judged-refused, refused-keeps, state-good}
+use Rattle.batch.specs.TookLaws.{judged-refused, compared-follows, compared-few, refused-keeps, state-good}
 use Rattle.writer.specs.WriterPromisesLaws.{write-refusal}
 use Rattle.history.specs.Past.{Event, wroteOffIn, takenOf}
 use Rattle.history.specs.SegmentLaws.{takes-new}
@@ -27,7 +29,7 @@ use Rattle.history.specs.RecordLaws.{reads-slot}
 use Rattle.history.specs.FullLaws.{acts-over}
 use Rattle.history.specs.JudgesLaws.{counts, accepted-exactly, judged-exactly}
 use Rattle.history.specs.AgreeLaws.{listings-agree, records-agree}
-use Rattle.history.specs.Demands.{AfterCalls, Agree, RefusalsKeep, AcceptedLeave}
+use Rattle.history.specs.Demands.{AfterCalls, CompareAlike, Agree, RefusalsKeep, AcceptedLeave}
 
 module _ {starts : List ℕ} {lent : Lent} {past : List Event} (r : Reached starts lent past) where
   -- demand 3, after any sequence of calls from a fresh start
@@ -51,6 +53,7 @@ module _ {starts : List ℕ} {lent : Lent} {past : List Event} (r : Reached star
         judged-exactly = judged-exactly r;
         refused-for-gaps = λ batch answer p i.
             Iff·trans (judged-refused lent batch answer p (Gaps i)) (Iff·trans (Iff·symm (refused-exact lent batch (Gaps i))) (acts-over r batch i));
+        keys-compared = λ batch answer p. record { follows = compared-follows lent batch answer p; few = compared-few lent batch answer p };
         state-passes = reached-holds r .state;
         lists-sound = reached-holds r .lists-sound;
       }
@@ -58,6 +61,13 @@ module _ {starts : List ℕ} {lent : Lent} {past : List Event} (r : Reached star
 -- what is said of judging a batch is said of taking it
 pub took-judged : {lent lent′ : Lent} {batch : List ℕ} {answer : Judged} → TookBatch lent batch answer lent′ → JudgedBatch lent batch answer
 took-judged t = record { answers = t .answers }
+
+-- two boxes with the same lists compare alike
+pub two-compare : {lent lent′ : Lent} → lent .lists ≡ lent′ .lists → CompareAlike lent lent′
+two-compare {lent} {lent′} same batch a b p q e =
+    compared-follows lent batch a p
+    ∙ ap₂ (λ (n : ℕ) (l : Lists). comparedIn n l (batchLetter batch) (batchData batch)) e same
+    ∙ sym (compared-follows lent′ batch b q)
 
 -- two boxes that took the same messages agree
 pub two-agree : {lent lent′ : Lent} {starts starts′ : List ℕ} {past past′ : List Event}
@@ -75,7 +85,7 @@ pub refusals-keep : (lent : Lent) → RefusalsKeep lent
 refusals-keep lent =
     record {
       start-keeps = λ starts refusal lent′ p. start-refusal refusal p .1;
-      take-keeps = refused-keeps lent;
+      take-keeps = λ batch refusal compared lent′ t. refused-keeps lent batch refusal lent′ t;
       list-keeps = λ letter cells refusal cells′ p. list-refusal refusal p .1;
       write-off-keeps = λ letter refusal lent′ p. off-refusal refusal p .1;
       write-keeps = λ item code level number key cells out refusal out′ p. write-refusal item code level number key cells out refusal p .1;

@@ -1,11 +1,11 @@
 -- What the demands say of the answers after a history, in the words of its past.
-use Prim.Native.Nat.{ℕ, zero, suc, _≤_, _<_}
+use Prim.Native.Nat.{ℕ, zero, suc, _*_, _≤_, _<_}
 use mathlib.Core.Path.{_≡_}
 use mathlib.Core.Bool.{true, false}
 use mathlib.Core.List.{List, _∷_, List·Memᴰ}
 use mathlib.Core.Logic.{_⊎_, _↔_}
 use mathlib.Core.Option.{Option, none, some}
-use lib.ListN.{drop}
+use lib.ListN.{length, drop}
 use Rattle.files.specs.File.{segmentsOf}
 use Rattle.lookup.specs.Lookup.{segmentOf}
 use Rattle.pairs.specs.Lists.{Lists}
@@ -17,7 +17,9 @@ use Rattle.head.specs.Fields.{lengthOf, numberOf, dataOf as dataIn}
 use Rattle.message.specs.Good.{GoodMessage}
 use Rattle.message.specs.Message.{Message, messageKey as bytesKey}
 use Rattle.message.specs.Reads.{messageOf}
+use Rattle.state.specs.declared.answers.Judged.{Judged}
 use Rattle.state.specs.declared.answers.Recorded.{Recorded}
+use Rattle.turns.specs.Compared.{comparedIn, comparedOf, reachedIn}
 use Rattle.slots.specs.Slots.{Slot}
 use Rattle.slots.specs.Places.{formFor}
 use Rattle.batch.specs.Batch.{batchLetter, countOf, batchData}
@@ -70,6 +72,12 @@ pub record CountsCame (lists : Lists) (starts : List ℕ) (past : List Event) (b
   pub taken-are : taken ≡ howMany (isTaken segment (startOf starts segment)) segment (batchMessages lists batch) past
   pub old-are : old ≡ howMany (isOld segment (startOf starts segment)) segment (batchMessages lists batch) past
   pub heartbeats-are : heartbeats ≡ howMany (λ before m. isHeartbeat (m .what)) segment (batchMessages lists batch) past
+
+-- M-102: the keys compared for a batch that was judged: they follow from its bytes and the lists alone, on a refusal from these and its
+-- place; at most 13 for each 249 bytes
+pub record CountsKeys (lists : Lists) (batch : List ℕ) (answer : Judged) : Type 0 where
+  pub follows : comparedOf answer ≡ comparedIn (reachedIn (countOf batch) answer) lists (batchLetter batch) (batchData batch)
+  pub few : 249 * comparedOf answer ≤ 13 * length (batchData batch)
 
 -- 01 "Sequence and gaps": the past when the message that bytes begin with has come, of a letter and its segment i
 abbrev pub cameNext : Lists → ℕ → ℕ → List ℕ → List Event → List Event

@@ -54,7 +54,7 @@ use Rattle.state.specs.StateLaws.{is-some, state-exact, state-held, letter-list
 use Rattle.turns.specs.ActsLaws.{acts-as}
 use Rattle.turns.specs.Turns.{Box, Acted, acted, refused, numberActs, updated, messageActs, messagesAct, next}
 use Rattle.batch.specs.Batch.{batchRules, batchLetter, countOf, batchData}
-use Rattle.batch.specs.Acts.{batchActs, boxOf, unlessBroken, answerOf, lentAfter}
+use Rattle.batch.specs.Acts.{batchActs, batchCompared, boxOf, unlessBroken, answerOf, lentAfter}
 use Rattle.stores.specs.Stored.{stored}
 use Rattle.batch.specs.BatchLaws.{good-state, messages-accepted}
 use Rattle.batch.specs.LeftLaws.{is-listed, messages-leave}
@@ -271,9 +271,9 @@ module _ (lent : Lent) (enough : Enough lent) where
       let row = row-of-same letter (segmentOf (lists .contracts) letter) refl in
       λ k. record { row = row k; records = take v′ (lent .records); taken = 0; old = 0; heartbeats = 0 }
 
-  answer-front : (a : Acted) → answerOf (frontActs v′ a) ≡ answerOf a
-  answer-front (acted box) = refl
-  answer-front (refused refusal) = refl
+  answer-front : (batch : List ℕ) (a : Acted) → answerOf (batchCompared lists batch (frontActs v′ a)) (frontActs v′ a) ≡ answerOf (batchCompared lists batch a) a
+  answer-front batch (acted box) = refl
+  answer-front batch (refused refusal) = refl
 
   module _ (batch : List ℕ) where
     abbrev letter : ℕ
@@ -294,7 +294,7 @@ module _ (lent : Lent) (enough : Enough lent) where
         go (some refusal) e = rw e
 
     batch-same : batchAnswer front batch ≡ batchAnswer lent batch
-    batch-same = ap answerOf acts-front ∙ answer-front (batchActs lent batch)
+    batch-same = ap (λ (a : Acted). answerOf (batchCompared lists batch a) a) acts-front ∙ answer-front batch (batchActs lent batch)
 
     module _ (box : Box) (accepted : batchActs lent batch ≡ acted box) where
       abbrev i : ℕ

@@ -42,7 +42,8 @@ use Rattle.batch.specs.BatchLaws.{front-refuses, messages-decide}
 use Rattle.batch.specs.GoodLaws.{front-exact}
 use Rattle.batch.specs.ScratchLaws.{never-good}
 use Rattle.state.specs.StateLaws.{state-exact}
-use Rattle.turns.specs.MessagesLaws.{not-both, messages-next, messages-refused}
+use Rattle.turns.specs.ComparedLaws.{not-both}
+use Rattle.turns.specs.MessagesLaws.{messages-next, messages-refused}
 use Rattle.state.specs.Refusals.{ofFault}
 use Rattle.starting.specs.Start.{startOf}
 use Rattle.history.specs.Past.{Event, came, wroteOffIn, takenOf, runsStanding}

@@ -76,8 +76,8 @@ allAnswers now (call ∷ calls) = answerGiven now call ∷ allAnswers (afterCall
 
 -- 01 "What may be asked": the batches accepted, the latest first, with one more by its answer: a refused one is none of them
 abbrev pub accepting : Judged → List ℕ → List (List ℕ) → List (List ℕ)
-accepting (judged.Accepted taken old heartbeats) batch batches = batch ∷ batches
-accepting (judged.Refused refusal) batch batches = batches
+accepting (judged.Accepted taken old heartbeats compared) batch batches = batch ∷ batches
+accepting (judged.Refused refusal compared) batch batches = batches
 
 -- 01 "What may be asked": the batches accepted since the latest accepted start, after a call
 abbrev pub batchesAfter : BoxNow → Made → List (List ℕ) → List (List ℕ)

@@ -145,14 +145,14 @@ module _ {lent : Lent} {starts : List ℕ} {past : List Event} (h : Holds starts
 
   -- whatever a batch is answered
   pub take-holds : (answer : Judged) {lent′ : Lent} → TookBatch lent batch answer lent′ → Holds starts lent′ (afterTake lists batch answer past)
-  take-holds (judged.Accepted taken old heartbeats) {lent′} t =
-      let did = accepted-box (batchActs lent batch) (t .answers) in
+  take-holds (judged.Accepted taken old heartbeats compared) {lent′} t =
+      let did = accepted-box (batchActs lent batch) _ (t .answers) in
       let l = is-listed lent batch (did .0) (did .1) in
       subst (λ (o : Option ℕ). Holds starts lent′ (cameIn o ms past)) (sym (l .1))
       (batch-holds (did .0) (did .1) (l .0) (l .1)
       (t .left ∙ ap (lentAfter lent letter) (did .1) ∙ left-is (did .0) (did .1) (l .0) (l .1))
-      (state-good lent batch taken old heartbeats lent′ t))
-  take-holds (judged.Refused refusal) {lent′} t = rw (refused-keeps lent batch refusal lent′ t) h
+      (state-good lent batch taken old heartbeats compared lent′ t))
+  take-holds (judged.Refused refusal compared) {lent′} t = rw (refused-keeps lent batch refusal lent′ t) h
 
 -- ---- a write-off
 

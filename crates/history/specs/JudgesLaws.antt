@@ -29,22 +29,24 @@ use Rattle.state.specs.declared.refusal.Refusal.the-variants.{Count, Gaps}
 use Rattle.state.specs.declared.answers.Judged.{Judged}
 use Rattle.state.specs.Memory.{Lent}
 use Rattle.state.specs.Refusals.{ofFault}
-use Rattle.state.specs.RefusalsLaws.{refusal-told}
 use Rattle.state.specs.State.{stateRules}
 use Rattle.state.specs.StateLaws.{state-exact}
 use Rattle.turns.specs.ActsLaws.{acts-as}
-use Rattle.turns.specs.Turns.{Box, Acted, acted, refused, actedNumbers, messagesAct}
+use Rattle.turns.specs.Turns.{Box, Acted, acted, refused, messagesAct}
+use Rattle.turns.specs.Compared.{reached, countedNumbers}
 use Rattle.turns.specs.MessagesLaws.{messages-next, messages-refused}
 use Rattle.batch.specs.Batch.{batchRules, batchLetter, countOf, batchData}
-use Rattle.batch.specs.Acts.{batchActs, boxOf}
-use Rattle.batch.specs.BatchLaws.{front-refuses, messages-decide, good-front, messages-accepted, accepted-box, refused-is}
+use Rattle.batch.specs.Acts.{batchActs, batchCompared, boxOf}
+use Rattle.batch.specs.BatchLaws.{front-refuses, messages-decide, good-front, messages-accepted, accepted-box}
 use Rattle.batch.specs.Good.{GoodFront}
 use Rattle.batch.specs.GoodLaws.{front-exact}
 use Rattle.batch.specs.LeftLaws.{is-listed}
+use Rattle.batch.specs.OrderLaws.{refused-exact}
 use Rattle.batch.specs.Promises.{JudgedBatch}
+use Rattle.batch.specs.TookLaws.{judged-refused, compared-follows}
 use Rattle.batch.specs.ScratchLaws.{never-good}
 use Rattle.starting.specs.Start.{startOf}
-use Rattle.history.specs.Machine.{Machine, TooMany, isNumbered, isHeartbeat, takesIn, inSegment, comesTo, AllGood, FirstRefused, counted, isTakenFor, isOldFor, GoodNow, Refuses, in-front, in-turn, Judges, IsAccepted}
+use Rattle.history.specs.Machine.{Machine, TooMany, isNumbered, isHeartbeat, takesIn, inSegment, comesTo, AllGood, FirstRefused, counted, isTakenFor, isOldFor, GoodNow, Accepts, Refuses, in-front, in-turn, comparedFor, Judges, IsAccepted}
 use Rattle.history.specs.Past.{Event, batchMessages, runsStanding, isTaken, isOld, howMany}
 use Rattle.history.specs.Turn.{BoxFits}
 use Rattle.history.specs.Exactly.{cameNext, CountsCame}
@@ -153,20 +155,27 @@ pub now-unrefused : (m : Machine) (batch : List ℕ) (r : Refusal) → GoodNow m
 now-unrefused m batch r good (in-front b) = front-unbroken batch r (good .front) b
 now-unrefused m batch r good (in-turn front w) = good-unrefused (countOf batch) (batchLetter batch) 0 (batchData batch) m r (good .messages) w
 
--- the machine judges a batch in one way
+-- the machine refuses a batch in one way
+one-refuses : (m : Machine) (batch : List ℕ) (r s : Refusal) → Refuses m batch r → Refuses m batch s → r ≡ s
+one-refuses m batch r s (in-front p) (in-front q) = one-broken (batchRules batch) r s p q
+one-refuses m batch r s (in-front p) (in-turn front q) = absurd (front-unbroken batch r front p)
+one-refuses m batch r s (in-turn front p) (in-front q) = absurd (front-unbroken batch s front q)
+one-refuses m batch r s (in-turn front p) (in-turn front′ q) = one-refusal (countOf batch) (batchLetter batch) 0 (batchData batch) m r s p q
+
+-- and judges it in one way
 pub one-judges : (m : Machine) (batch : List ℕ) (a b : Judged) → Judges m batch a → Judges m batch b → a ≡ b
-one-judges m batch (Judged.Accepted t o h) (Judged.Accepted t′ o′ h′) p q =
-    let taken : t ≡ t′ = p .taken-are ∙ sym (q .taken-are) in
-    let old : o ≡ o′ = p .old-are ∙ sym (q .old-are) in
-    let beats : h ≡ h′ = p .heartbeats-are ∙ sym (q .heartbeats-are) in
-    λ k. Judged.Accepted (taken k) (old k) (beats k)
-one-judges m batch (Judged.Accepted t o h) (Judged.Refused r) p q = absurd (now-unrefused m batch r (p .good) q)
-one-judges m batch (Judged.Refused r) (Judged.Accepted t o h) p q = absurd (now-unrefused m batch r (q .good) p)
-one-judges m batch (Judged.Refused r) (Judged.Refused s) (in-front p) (in-front q) = ap Judged.Refused (one-broken (batchRules batch) r s p q)
-one-judges m batch (Judged.Refused r) (Judged.Refused s) (in-front p) (in-turn front q) = absurd (front-unbroken batch r front p)
-one-judges m batch (Judged.Refused r) (Judged.Refused s) (in-turn front p) (in-front q) = absurd (front-unbroken batch s front q)
-one-judges m batch (Judged.Refused r) (Judged.Refused s) (in-turn front p) (in-turn front′ q) =
-    ap Judged.Refused (one-refusal (countOf batch) (batchLetter batch) 0 (batchData batch) m r s p q)
+one-judges m batch (Judged.Accepted t o h c) (Judged.Accepted t′ o′ h′ c′) p q =
+    let taken : t ≡ t′ = p .0 .taken-are ∙ sym (q .0 .taken-are) in
+    let old : o ≡ o′ = p .0 .old-are ∙ sym (q .0 .old-are) in
+    let beats : h ≡ h′ = p .0 .heartbeats-are ∙ sym (q .0 .heartbeats-are) in
+    let keys : c ≡ c′ = p .1 ∙ sym (q .1) in
+    λ k. Judged.Accepted (taken k) (old k) (beats k) (keys k)
+one-judges m batch (Judged.Accepted t o h c) (Judged.Refused r d) p q = absurd (now-unrefused m batch r (p .0 .good) (q .0))
+one-judges m batch (Judged.Refused r d) (Judged.Accepted t o h c) p q = absurd (now-unrefused m batch r (q .0 .good) (p .0))
+one-judges m batch (Judged.Refused r c) (Judged.Refused s d) p q =
+    let same : r ≡ s = one-refuses m batch r s (p .0) (q .0) in
+    let keys : c ≡ d = p .1 ∙ ap (λ (refusal : Refusal). comparedFor m batch (reached (countOf batch) refusal)) same ∙ sym (q .1) in
+    λ k. Judged.Refused (same k) (keys k)
 
 module _ {starts : List ℕ} {lent : Lent} {past : List Event} (r : Reached starts lent past) (batch : List ℕ) where
   abbrev letter : ℕ
@@ -182,12 +191,12 @@ module _ {starts : List ℕ} {lent : Lent} {past : List Event} (r : Reached star
   state = state-exact lent .1 (reached-holds r .state)
 
   -- 01 "What the proof settles": the counts are those of the history
-  pub counts : (taken old heartbeats : ℕ) → JudgedBatch lent batch (Judged.Accepted taken old heartbeats) → CountsCame lists starts past batch taken old heartbeats
-  counts taken old heartbeats p =
-      let did = accepted-box (batchActs lent batch) (p .answers) in
+  pub counts : (taken old heartbeats compared : ℕ) → JudgedBatch lent batch (Judged.Accepted taken old heartbeats compared) → CountsCame lists starts past batch taken old heartbeats
+  counts taken old heartbeats compared p =
+      let did = accepted-box (batchActs lent batch) _ (p .answers) in
       let l = is-listed lent batch (did .0) (did .1) in
       let turned = batch-turned (reached-holds r) batch (did .0) (did .1) (l .0) (l .1) in
-      let numbers = p .answers ∙ ap actedNumbers (did .1) in
+      let numbers = p .answers ∙ ap (λ (a : Acted). countedNumbers a (batchCompared lists batch (batchActs lent batch))) (did .1) in
       record {
         segment = l .0;
         listed = l .1;
@@ -211,10 +220,10 @@ module _ {starts : List ℕ} {lent : Lent} {past : List Event} (r : Reached star
         → count test ≡ howMany tests s (batchMessages lists batch) past
     count-same test tests same = counts-are lists starts letter s listed test tests same (countOf batch) (batchData batch) past
 
-  judges : (answer : Judged) → JudgedBatch lent batch answer → Judges now batch answer
-  judges (Judged.Accepted t o h) p =
-      let did = accepted-box (batchActs lent batch) (p .answers) in
-      let c = counts t o h p in
+  accepts : (t o h keys : ℕ) → JudgedBatch lent batch (Judged.Accepted t o h keys) → Accepts now batch t o h
+  accepts t o h keys p =
+      let did = accepted-box (batchActs lent batch) _ (p .answers) in
+      let c = counts t o h keys p in
       let s : ℕ = c .segment in
       let turns = turns-as lists starts letter s (c .listed) (countOf batch) 0 past (boxOf lent letter) (batchData batch) (box-before (reached-holds r) batch s (c .listed)) in
       record {
@@ -229,15 +238,14 @@ module _ {starts : List ℕ} {lent : Lent} {past : List Event} (r : Reached star
             ∙ sym (count-same s (c .listed) (isOldFor letter) (isOld s (startOf starts s)) (λ before m. ap (λ (t : Bool). isNumbered (m .what) && not t) (taken-same s (c .listed) before m)));
         heartbeats-are = c .heartbeats-are ∙ sym (count-same s (c .listed) (λ before m. isHeartbeat (m .what)) (λ before m. isHeartbeat (m .what)) (λ before m. refl));
       }
-  judges (Judged.Refused q) p = front (firstBroken (batchRules batch)) refl
+
+  refuses : (q : Refusal) (keys : ℕ) → JudgedBatch lent batch (Judged.Refused q keys) → Refuses now batch q
+  refuses q keys p = front (firstBroken (batchRules batch)) refl
     where
       fell : batchActs lent batch ≡ refused q
-      fell =
-          let did = refused-is (batchActs lent batch) q (p .answers) in
-          let same : q ≡ did .0 = refusal-told q (did .0) (p .answers ∙ ap actedNumbers (did .1)) in
-          did .1 ∙ ap refused (sym same)
+      fell = refused-exact lent batch q .1 (judged-refused lent batch (Judged.Refused q keys) p q .0 (keys, refl))
 
-      listed : Hold (batchRules batch) → (o : Option ℕ) → segmentOf (lists .contracts) letter ≡ o → Judges now batch (Judged.Refused q)
+      listed : Hold (batchRules batch) → (o : Option ℕ) → segmentOf (lists .contracts) letter ≡ o → Refuses now batch q
       listed h none u =
           let good = front-exact batch .0 h in
           in-turn good (unlisted lists letter u now refl (countOf batch) (good .some-messages) (boxOf lent letter) (batchData batch) q (sym (messages-decide lent batch state h) ∙ fell))
@@ -246,11 +254,15 @@ module _ {starts : List ℕ} {lent : Lent} {past : List Event} (r : Reached star
           (subst (Turns lists starts letter s l (countOf batch) 0 (batchData batch) past) (sym (messages-decide lent batch state h) ∙ fell)
           (turns-as lists starts letter s l (countOf batch) 0 past (boxOf lent letter) (batchData batch) (box-before (reached-holds r) batch s l)))
 
-      front : (o : Option Refusal) → firstBroken (batchRules batch) ≡ o → Judges now batch (Judged.Refused q)
+      front : (o : Option Refusal) → firstBroken (batchRules batch) ≡ o → Refuses now batch q
       front none h = listed (none-hold (batchRules batch) h) (segmentOf (lists .contracts) letter) refl
       front (some other) h =
           let same : other ≡ q = same-refusal (sym (front-refuses lent batch state other h) ∙ fell) in
           in-front (rw same at (some-broken (batchRules batch) other h))
+
+  judges : (answer : Judged) → JudgedBatch lent batch answer → Judges now batch answer
+  judges (Judged.Accepted t o h keys) p = (accepts t o h keys p, compared-follows lent batch (Judged.Accepted t o h keys) p)
+  judges (Judged.Refused q keys) p = (refuses q keys p, compared-follows lent batch (Judged.Refused q keys) p)
 
   -- a batch is judged exactly as the machine judges it
   pub judged-exactly : (answer : Judged) → JudgedBatch lent batch answer ↔ Judges now batch answer
@@ -263,5 +275,5 @@ module _ {starts : List ℕ} {lent : Lent} {past : List Event} (r : Reached star
 
   -- a batch is accepted exactly when it is good
   pub accepted-exactly : (answer : Judged) → JudgedBatch lent batch answer → IsAccepted answer ↔ GoodNow now batch
-  accepted-exactly (Judged.Accepted t o h) p = ((λ yes. judges (Judged.Accepted t o h) p .good), (λ good. tt))
-  accepted-exactly (Judged.Refused q) p = ((λ no. absurd no), (λ good. absurd (now-unrefused now batch q good (judges (Judged.Refused q) p))))
+  accepted-exactly (Judged.Accepted t o h keys) p = ((λ yes. accepts t o h keys p .good), (λ good. tt))
+  accepted-exactly (Judged.Refused q keys) p = ((λ no. absurd no), (λ good. absurd (now-unrefused now batch q good (refuses q keys p))))

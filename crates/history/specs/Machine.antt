@@ -37,6 +37,7 @@ use Rattle.state.specs.declared.answers.WrittenOff.{WrittenOff}
 use Rattle.state.specs.declared.answers.Recorded.{Recorded}
 use Rattle.state.specs.Refusals.{ofFault}
 use Rattle.slots.specs.Slots.{Slot, SlotListed}
+use Rattle.turns.specs.Compared.{comparedIn, reached}
 use Rattle.batch.specs.Batch.{batchLetter, countOf, batchData, batchRules}
 use Rattle.batch.specs.Good.{GoodFront}
 use Rattle.writer.specs.WriterPromises.{WroteMessage, WroteSpread}
@@ -247,20 +248,24 @@ pub data Refuses (m : Machine) (batch : List ℕ) (r : Refusal) : Type 0 where
   in-front : Broken (batchRules batch) r → Refuses m batch r
   in-turn : GoodFront batch → FirstRefused (countOf batch) (batchLetter batch) 0 (batchData batch) m r → Refuses m batch r
 
--- 01 "What may be asked": what judging a batch answers
+-- M-102: "Judging and taking add up the counts of a batch's lookups": of so many of its messages, by the lists in use
+abbrev pub comparedFor : Machine → List ℕ → ℕ → ℕ
+comparedFor m batch messages = comparedIn messages (m .lists) (batchLetter batch) (batchData batch)
+
+-- 01 "What may be asked": what judging a batch answers; M-102: and how many keys were compared, "on a refusal, those done so far"
 abbrev pub Judges : Machine → List ℕ → Judged → Type 0
-Judges m batch (Judged.Accepted taken old heartbeats) = Accepts m batch taken old heartbeats
-Judges m batch (Judged.Refused r) = Refuses m batch r
+Judges m batch (Judged.Accepted taken old heartbeats compared) = Accepts m batch taken old heartbeats × (compared ≡ comparedFor m batch (countOf batch))
+Judges m batch (Judged.Refused r compared) = Refuses m batch r × (compared ≡ comparedFor m batch (reached (countOf batch) r))
 
 -- 01 "What may be asked": a batch is accepted
 abbrev pub IsAccepted : Judged → Type 0
-IsAccepted (Judged.Accepted taken old heartbeats) = Unit {0}
-IsAccepted (Judged.Refused r) = ⊥
+IsAccepted (Judged.Accepted taken old heartbeats compared) = Unit {0}
+IsAccepted (Judged.Refused r compared) = ⊥
 
 -- demand 1: what a batch that is taken leaves: all of its messages have come, or nothing has changed
 abbrev pub tookBatch : Machine → List ℕ → Judged → Machine
-tookBatch m batch (Judged.Accepted taken old heartbeats) = allCome (countOf batch) (batchLetter batch) (batchData batch) m
-tookBatch m batch (Judged.Refused r) = m
+tookBatch m batch (Judged.Accepted taken old heartbeats compared) = allCome (countOf batch) (batchLetter batch) (batchData batch) m
+tookBatch m batch (Judged.Refused r compared) = m
 
 -- ---- the other calls
 

@@ -52,8 +52,8 @@ cameIn (some i) ms past = allCame i ms past
 
 -- 01 "What may be asked": what taking a batch adds to the past, by its input and its answer: a refused call adds nothing
 abbrev pub afterTake : Lists → List ℕ → Judged → List Event → List Event
-afterTake lists batch (judged.Accepted taken old heartbeats) past = cameIn (segmentOf (lists .contracts) (batchLetter batch)) (batchMessages lists batch) past
-afterTake lists batch (judged.Refused refusal) past = past
+afterTake lists batch (judged.Accepted taken old heartbeats compared) past = cameIn (segmentOf (lists .contracts) (batchLetter batch)) (batchMessages lists batch) past
+afterTake lists batch (judged.Refused refusal compared) past = past
 
 -- 01 "Sequence and gaps": a run was written off of the segment that is listed for a letter
 abbrev pub offIn : Option ℕ → Run → List Event → List Event

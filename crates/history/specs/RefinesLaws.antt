@@ -170,11 +170,11 @@ module _ {starts : List ℕ} {lent : Lent} {past : List Event} (r : Reached star
 
   module _ (batch : List ℕ) where
     took-machine : (answer : Judged) → JudgedBatch lent batch answer → tookBatch now batch answer ≡ machineOf lists starts (afterTake lists batch answer past)
-    took-machine (Judged.Accepted taken old heartbeats) p =
-        let c = counts r batch taken old heartbeats p in
+    took-machine (Judged.Accepted taken old heartbeats compared) p =
+        let c = counts r batch taken old heartbeats compared p in
         all-come lists starts (batchLetter batch) (c .segment) (c .listed) (countOf batch) (batchData batch) past
         ∙ ap (λ (o : Option ℕ). machineOf lists starts (cameIn o (batchMessages lists batch) past)) (sym (c .listed))
-    took-machine (Judged.Refused q) p = refl
+    took-machine (Judged.Refused q compared) p = refl
 
     batch-judged : Judges now batch (batchAnswer lent batch)
     batch-judged = judged-exactly r batch (batchAnswer lent batch) .0 (judge-promised lent batch)

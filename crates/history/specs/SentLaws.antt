@@ -107,8 +107,8 @@ module _ (lists : Lists) where
 
   take-sourced : (batch : List ℕ) (batches : List (List ℕ)) (past : List Event) → Sourced lists batches past
       → (a : Judged) → Sourced lists (accepting a batch batches) (afterTake lists batch a past)
-  take-sourced batch batches past h (judged.Accepted taken old heartbeats) = batch-sourced batch batches past h (segmentOf (lists .contracts) (batchLetter batch)) refl
-  take-sourced batch batches past h (judged.Refused refusal) = h
+  take-sourced batch batches past h (judged.Accepted taken old heartbeats compared) = batch-sourced batch batches past h (segmentOf (lists .contracts) (batchLetter batch)) refl
+  take-sourced batch batches past h (judged.Refused refusal compared) = h
 
   off-sourced : (batches : List (List ℕ)) (past : List Event) → Sourced lists batches past → (o : Option ℕ) (r : Run) → Sourced lists batches (offIn o r past)
   off-sourced batches past h none r j m among = h j m among

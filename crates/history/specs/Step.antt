@@ -28,7 +28,7 @@ use Rattle.state.specs.declared.answers.Written.{Written}
 use Rattle.state.specs.Answers.{startedNumbers, judgedNumbers, listedNumbers, writtenOffNumbers, recordedNumbers, writtenNumbers, leftBy}
 use Rattle.state.specs.Memory.{Lent}
 use Rattle.batch.specs.Batch.{batchLetter}
-use Rattle.batch.specs.Acts.{batchActs, answerOf, lentAfter}
+use Rattle.batch.specs.Acts.{batchActs, batchCompared, answerOf, lentAfter}
 use Rattle.writer.specs.declared.writing.Code.{Code}
 use Rattle.writer.specs.Writer.{valuesWritten, dataWritten, lengthWritten, writeRules, messagePut}
 use Rattle.writer.specs.Chosen.{formWritten}
@@ -56,9 +56,9 @@ abbrev pub startAnswer : Option Refusal → Started
 startAnswer (some refusal) = Started.Refused refusal
 startAnswer none = Started.Started
 
--- 01 "What may be asked": judging answers what taking would
+-- 01 "What may be asked": judging answers what taking would; M-102: the keys compared too
 abbrev pub batchAnswer : Lent → List ℕ → Judged
-batchAnswer lent batch = answerOf (batchActs lent batch)
+batchAnswer lent batch = answerOf (batchCompared (lent .lists) batch (batchActs lent batch)) (batchActs lent batch)
 
 -- 01, the order of checks: the first broken rule of a listing
 abbrev pub listRefusal : Lent → ℕ → List ℕ → Option Refusal

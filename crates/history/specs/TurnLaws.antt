@@ -31,7 +31,8 @@ use Rattle.stores.specs.Stored.{stored}
 use Rattle.slots.specs.Slots.{Slot, SlotListed}
 use Rattle.slots.specs.Places.{slotAt, recordOf}
 use Rattle.batch.specs.LeftLaws.{last-box}
-use Rattle.turns.specs.MessagesLaws.{not-both, messages-next, messages-refused}
+use Rattle.turns.specs.ComparedLaws.{not-both}
+use Rattle.turns.specs.MessagesLaws.{messages-next, messages-refused}
 use Rattle.starting.specs.Start.{startOf}
 use Rattle.history.specs.Past.{Event, came, wroteOffIn, takenOf, messagesOf, takenFor}
 use Rattle.history.specs.Updates.{slotOf, isSlot, segmentIn, itemIn, levelIn}

@@ -24,12 +24,12 @@ use Rattle.state.specs.declared.refusal.Refusal.{Refusal}
 use Rattle.state.specs.declared.refusal.Refusal.the-variants.{Count, Gaps as GapsOver}
 use Rattle.state.specs.GoodState.{GoodState}
 use Rattle.state.specs.Memory.{Lent, lends}
-use Rattle.state.specs.Refusals.{refusalNumbers}
 use Rattle.state.specs.State.{stateRules}
 use Rattle.state.specs.StateLaws.{state-exact}
-use Rattle.turns.specs.Turns.{Box, Acted, acted, refused, numberActs, updated, whatActs, messageActs, next, messagesAct, actedNumbers}
+use Rattle.turns.specs.Turns.{Box, Acted, acted, refused, numberActs, updated, whatActs, messageActs, next, messagesAct}
+use Rattle.turns.specs.Compared.{countedNumbers}
 use Rattle.batch.specs.Batch.{batchLetter, countOf, batchData, batchRules}
-use Rattle.batch.specs.Acts.{boxOf, unlessBroken, batchActs}
+use Rattle.batch.specs.Acts.{boxOf, unlessBroken, batchActs, batchCompared, batchNumbers}
 use Rattle.listing.specs.ListRules.{gapsOfLetter}
 
 -- the same gaps and the same counts
@@ -110,11 +110,15 @@ messages-alike (suc n) lists letter i bytes a b same =
     next-alike (messageActs lists letter a i bytes) (messageActs lists letter b i bytes) (λ box. messagesAct n lists letter (suc i) box (drop (lengthOf bytes) bytes))
     (message-alike a b same lists letter i bytes) (messages-alike n lists letter (suc i) (drop (lengthOf bytes) bytes))
 
-numbers-alike : (x y : Acted) → BothAct x y → actedNumbers x ≡ actedNumbers y
-numbers-alike (acted a) (acted b) same = λ k. 0 ∷ same .taken k ∷ same .old k ∷ same .heartbeats k ∷ []
-numbers-alike (acted a) (refused s) same = absurd same
-numbers-alike (refused r) (acted b) same = absurd same
-numbers-alike (refused r) (refused s) same = ap refusalNumbers same
+-- what is answered of a batch, with the keys compared
+abbrev numbersFor : Lists → List ℕ → Acted → List ℕ
+numbersFor lists batch acts = countedNumbers acts (batchCompared lists batch acts)
+
+numbers-alike : (lists : Lists) (batch : List ℕ) (x y : Acted) → BothAct x y → numbersFor lists batch x ≡ numbersFor lists batch y
+numbers-alike lists batch (acted a) (acted b) same = λ k. 0 ∷ same .taken k ∷ same .old k ∷ same .heartbeats k ∷ batchCompared lists batch (acted a) ∷ []
+numbers-alike lists batch (acted a) (refused s) same = absurd same
+numbers-alike lists batch (refused r) (acted b) same = absurd same
+numbers-alike lists batch (refused r) (refused s) same = ap (λ (q : Refusal). numbersFor lists batch (refused q)) same
 
 -- ---- a batch
 
@@ -133,18 +137,18 @@ module _ (lists : Lists) (rows records rows′ records′ : List ℕ) (good : Go
   rules-hold l state = front-holds (stateRules l) (batchRules batch) (state-exact l .1 state)
 
   -- with the same gaps of the letter that a batch begins with
-  pub batches-alike : gapsOfLetter lent letter ≡ gapsOfLetter lent′ letter → actedNumbers (batchActs lent batch) ≡ actedNumbers (batchActs lent′ batch)
+  pub batches-alike : gapsOfLetter lent letter ≡ gapsOfLetter lent′ letter → batchNumbers lent batch ≡ batchNumbers lent′ batch
   unfolding batchActs gapsOfLetter
   batches-alike gaps =
-      ap (λ (o : Option Refusal). actedNumbers (unlessBroken o (turns lent))) (rules-hold lent good)
+      ap (λ (o : Option Refusal). numbersFor lists batch (unlessBroken o (turns lent))) (rules-hold lent good)
       ∙ go (firstBroken (batchRules batch))
-      ∙ sym (ap (λ (o : Option Refusal). actedNumbers (unlessBroken o (turns lent′))) (rules-hold lent′ good′))
+      ∙ sym (ap (λ (o : Option Refusal). numbersFor lists batch (unlessBroken o (turns lent′))) (rules-hold lent′ good′))
     where
       turns : Lent → Acted
       turns l = messagesAct (countOf batch) lists letter 0 (boxOf l letter) (batchData batch)
 
-      go : (o : Option Refusal) → actedNumbers (unlessBroken o (turns lent)) ≡ actedNumbers (unlessBroken o (turns lent′))
+      go : (o : Option Refusal) → numbersFor lists batch (unlessBroken o (turns lent)) ≡ numbersFor lists batch (unlessBroken o (turns lent′))
       go (some refusal) = refl
       go none =
-          numbers-alike (turns lent) (turns lent′)
+          numbers-alike lists batch (turns lent) (turns lent′)
           (messages-alike (countOf batch) lists letter 0 (batchData batch) (boxOf lent letter) (boxOf lent′ letter) (record { gaps = gaps; taken = refl; old = refl; heartbeats = refl }))

@@ -1,12 +1,13 @@
 -- Demand 3, and what of demand 1 is said of every call, at the functions for hosts: by the number returned, the four numbers of
 -- `answer`, and the cells, values and bytes lent. `HostDemandsLaws` proves them.
-use Prim.Native.Nat.{ℕ, _*_, _≤_, _<_}
+use Prim.Native.Nat.{ℕ, _+_, _*_, _≤_, _<_}
 use mathlib.Core.Path.{_≡_}
-use mathlib.Core.Bool.{Bool, false}
+use mathlib.Core.Bool.{Bool, false, cond, _&&_, _||_}
 use mathlib.Core.List.{List, [], _∷_, _++_}
 use mathlib.Core.Logic.{_↔_}
 use mathlib.Core.Option.{some}
-use lib.ListN.{length, drop}
+use lib.Dec.{leb, eqb}
+use lib.ListN.{length, getD, drop}
 use Rattle.lookup.specs.Lookup.{segmentOf}
 use Rattle.pairs.specs.Lists.{Lists}
 use Rattle.forms.specs.declared.forms.Item.{Item}
@@ -16,6 +17,8 @@ use Rattle.state.specs.GoodState.{GoodState}
 use Rattle.state.specs.Memory.{Lent}
 use Rattle.slots.specs.Slots.{Slot, SlotListed}
 use Rattle.slots.specs.Places.{formFor}
+use Rattle.turns.specs.Compared.{comparedIn}
+use Rattle.batch.specs.Batch.{countOf, batchLetter, batchData}
 use Rattle.starting.specs.Start.{startOf}
 use Rattle.values.specs.Values.{most}
 use Rattle.history.specs.Past.{Event, highestIn, missingIn, runsStanding, takenFor}
@@ -27,10 +30,14 @@ use Rattle.told.specs.Shown.{valueCount}
 use Rattle.hosted.specs.HostItems.{valuesFor, HostReadItem, HostWroteItem}
 use Rattle.history.specs.Machine.{sequenceNumber, LowestRun}
 
--- the host's header: the number that a function returns, and the four of `answer`, of which the last is 0
-pub record Gives (returned : ℕ) (answer : List ℕ) (number first second third : ℕ) : Type 0 where
+-- the host's header: the number that a function returns, and the four of `answer`
+pub record GivesFour (returned : ℕ) (answer : List ℕ) (number first second third fourth : ℕ) : Type 0 where
   pub returns : returned ≡ number
-  pub answers : answer ≡ first ∷ second ∷ third ∷ 0 ∷ []
+  pub answers : answer ≡ first ∷ second ∷ third ∷ fourth ∷ []
+
+-- the host's header: the last of them is 0, but where a batch is judged or taken
+abbrev pub Gives : (returned : ℕ) (answer : List ℕ) (number first second third : ℕ) → Type 0
+Gives returned answer number first second third = GivesFour returned answer number first second third 0
 
 -- demand 3: "the gap list names exactly the missing numbers": highest and the number of runs, the runs in `cells`, and every cell behind
 -- them as it was lent
@@ -52,13 +59,27 @@ pub data TellsNewest (slot : Slot) (taken : List Message) (values : List ℕ) (r
       → values′ ≡ (sequenceNumber m ∷ valuesFor (itemIn slot) (levelIn slot) (shown (itemIn slot) (formFor slot) (m .cells))) ++ drop (valueCount (itemIn slot) (levelIn slot)) values
       → TellsNewest slot taken values returned values′ answer′
 
--- 01 "What may be asked", "An accepted batch answers how many messages were taken, old and heartbeats": as counted from the history
+-- 01 "What may be asked", "An accepted batch answers how many messages were taken, old and heartbeats": as counted from the history;
+-- M-102: and then the keys compared
 pub record TellsCounts (lists : Lists) (starts : List ℕ) (past : List Event) (batch answer′ : List ℕ) : Type 0 where
   pub taken : ℕ
   pub old : ℕ
   pub heartbeats : ℕ
-  pub gives : answer′ ≡ taken ∷ old ∷ heartbeats ∷ 0 ∷ []
+  pub compared : ℕ
+  pub gives : answer′ ≡ taken ∷ old ∷ heartbeats ∷ compared ∷ []
   pub came : CountsCame lists starts past batch taken old heartbeats
+
+-- M-102, "those done so far", by the number returned and the message in `answer`: how many of a batch's messages have come to their
+-- lookup: all where it is accepted or has bytes left over (4), those before the message that 5 to 12 refuse, that one too at 13 and 14
+abbrev pub reachedTold : ℕ → ℕ → ℕ → ℕ
+reachedTold count returned message =
+    cond (eqb returned 0 || eqb returned 4) count
+    (cond (leb 5 returned && leb returned 12) message (cond (leb 13 returned && leb returned 14) (message + 1) 0))
+
+-- M-102: the last number of `answer` follows from the batch's bytes, the lists and the place of a refusal; at most 13 for each 249 bytes
+pub record TellsKeys (lists : Lists) (batch : List ℕ) (returned : ℕ) (answer′ : List ℕ) : Type 0 where
+  pub follows : getD answer′ 3 0 ≡ comparedIn (reachedTold (countOf batch) returned (getD answer′ 0 0)) lists (batchLetter batch) (batchData batch)
+  pub few : 249 * getD answer′ 3 0 ≤ 13 * length (batchData batch)
 
 -- demand 3: "After any sequence of calls from a fresh start", made by a host, for each listed segment, and each listed contract and pair:
 pub record AfterHostCalls (starts : List ℕ) (lent : Lent) (past : List Event) : Type 0 where
@@ -81,7 +102,9 @@ pub record AfterHostCalls (starts : List ℕ) (lent : Lent) (past : List Event) 
   pub takes-as-judged : (batch : List ℕ) (returned : ℕ) (lent′ : Lent) (answer′ : List ℕ) → HostTook lent batch returned lent′ answer′ → HostJudged lent batch returned answer′
   -- "A call is refused for gaps exactly when no earlier rule refuses it and over 64 runs would stand"
   pub refused-for-gaps : (batch : List ℕ) (returned : ℕ) (answer′ : List ℕ) → HostJudged lent batch returned answer′
-      → (i : ℕ) → Gives returned answer′ 14 i 0 0 ↔ OverInBatch (lent .lists) starts past batch i
+      → (i : ℕ) → ((compared : ℕ) × GivesFour returned answer′ 14 i 0 0 compared) ↔ OverInBatch (lent .lists) starts past batch i
+  -- M-102, "Judging and taking add up the counts of a batch's lookups", accepted or refused
+  pub keys : (batch : List ℕ) (returned : ℕ) (answer′ : List ℕ) → HostJudged lent batch returned answer′ → TellsKeys (lent .lists) batch returned answer′
   -- 16, 15 for state too short, and 18 are not given
   pub state-passes : GoodState lent
 

@@ -5,7 +5,7 @@ use mathlib.Core.List.{List, [], _∷_}
 use mathlib.Core.Logic.{_↔_}
 use mathlib.Core.Option.{Option, none, some}
 use native.Mathlib.Omega.{arith}
-use lib.ListN.{length}
+use lib.ListN.{length, getD}
 use Rattle.laws.specs.Rules.{firstBroken}
 use Rattle.lookup.specs.Lookup.{segmentOf}
 use Rattle.pairs.specs.NoSpreads.{noSpreads}
@@ -25,6 +25,8 @@ use Rattle.state.specs.Refusals.{refusalNumbers}
 use Rattle.state.specs.RefusalsLaws.{refusalOf}
 use Rattle.slots.specs.Slots.{Slot, SlotListed}
 use Rattle.slots.specs.Places.{formFor}
+use Rattle.turns.specs.Compared.{comparedIn, comparedOf, reachedIn}
+use Rattle.batch.specs.Batch.{countOf, batchLetter, batchData}
 use Rattle.batch.specs.Promises.{JudgedBatch, TookBatch}
 use Rattle.starting.specs.StartPromises.{StartedBox}
 use Rattle.listing.specs.ListPromises.{ListedRuns, WroteOffRun}
@@ -53,8 +55,8 @@ use Rattle.hosted.specs.HostCalls.{HostReached}
 use Rattle.hosted.specs.HostHistoriesLaws.{host-reached}
 use Rattle.hosted.specs.HostItems.{valuesFor, laidFrom, HostReadItem}
 use Rattle.hosted.specs.HostItemsLaws.{item-put}
-use Rattle.hosted.specs.HostToldLaws.{which-refusal, is-refused}
-use Rattle.hosted.specs.HostDemands.{Gives, ListsMissing, TellsLowest, a-run, no-run, TellsNewest, no-record, a-record, TellsCounts, AfterHostCalls, IsRefused, HostRefusalsKeep, HostAcceptedLeave}
+use Rattle.hosted.specs.HostToldLaws.{which-refusal, is-refused, batch-refused, reached-told, keys-told}
+use Rattle.hosted.specs.HostDemands.{GivesFour, Gives, reachedTold, TellsKeys, ListsMissing, TellsLowest, a-run, no-run, TellsNewest, no-record, a-record, TellsCounts, AfterHostCalls, IsRefused, HostRefusalsKeep, HostAcceptedLeave}
 use Rattle.history.specs.Machine.{sequenceNumber}
 
 -- what is said of judging a batch is said of taking it
@@ -136,23 +138,36 @@ module _ {starts : List ℕ} {lent : Lent} {past : List Event} (reached : HostRe
   counts batch answer′ p = go (p .judged) (p .promised) (p .tells)
     where
       go : (a : Judged) → JudgedBatch lent batch a → Tells (judgedNumbers a) 0 answer′ → TellsCounts (lent .lists) starts past batch answer′
-      go (Judged.Accepted taken old heartbeats) j t =
-          record { taken = taken; old = old; heartbeats = heartbeats; gives = t .values; came = after .counts-came batch taken old heartbeats j }
-      go (Judged.Refused refusal) j t = absurd (is-refused refusal t refl)
+      go (Judged.Accepted taken old heartbeats compared) j t =
+          record { taken = taken; old = old; heartbeats = heartbeats; compared = compared; gives = t .values; came = after .counts-came batch taken old heartbeats compared j }
+      go (Judged.Refused refusal compared) j t = absurd (batch-refused refusal compared t refl)
 
   refused-for-gaps : (batch : List ℕ) (returned : ℕ) (answer′ : List ℕ) → HostJudged lent batch returned answer′
-      → (i : ℕ) → Gives returned answer′ 14 i 0 0 ↔ OverInBatch (lent .lists) starts past batch i
+      → (i : ℕ) → ((compared : ℕ) × GivesFour returned answer′ 14 i 0 0 compared) ↔ OverInBatch (lent .lists) starts past batch i
   refused-for-gaps batch returned answer′ p i = (
-    (λ g. after .refused-for-gaps batch (p .judged) (p .promised) i .0 (go (p .judged) (p .tells) g)),
+    (λ w. after .refused-for-gaps batch (p .judged) (p .promised) i .0 (go (p .judged) (p .tells) (w .0) (w .1))),
     (λ o.
-        let e : p .judged ≡ Judged.Refused (Gaps i) = after .refused-for-gaps batch (p .judged) (p .promised) i .1 o in
-        let told : Tells (refusalNumbers (Gaps i)) returned answer′ = rw e at (p .tells) in
-        record { returns = told .number; answers = told .values }),
+        let e = after .refused-for-gaps batch (p .judged) (p .promised) i .1 o in
+        let told : Tells (judgedNumbers (Judged.Refused (Gaps i) (e .0))) returned answer′ = rw (e .1) at (p .tells) in
+        (e .0, record { returns = told .number; answers = told .values })),
   )
     where
-      go : (a : Judged) → Tells (judgedNumbers a) returned answer′ → Gives returned answer′ 14 i 0 0 → a ≡ Judged.Refused (Gaps i)
-      go (Judged.Accepted taken old heartbeats) t g = absurd (omega (arith, t .number, g .returns))
-      go (Judged.Refused refusal) t g = ap Judged.Refused (sym (which-refusal refusal t) ∙ ap₂ (λ (n : ℕ) (ns : List ℕ). refusalOf (n ∷ ns)) (g .returns) (g .answers))
+      go : (a : Judged) → Tells (judgedNumbers a) returned answer′ → (compared : ℕ) → GivesFour returned answer′ 14 i 0 0 compared → (keys : ℕ) × (a ≡ Judged.Refused (Gaps i) keys)
+      go (Judged.Accepted taken old heartbeats keys) t compared g = absurd (omega (arith, t .number, g .returns))
+      go (Judged.Refused refusal keys) t compared g =
+          (keys, ap (λ (r : Refusal). Judged.Refused r keys) (sym (which-refusal refusal keys t) ∙ ap₂ (λ (n : ℕ) (ns : List ℕ). refusalOf (n ∷ ns)) (g .returns) (g .answers)))
+
+  keys : (batch : List ℕ) (returned : ℕ) (answer′ : List ℕ) → HostJudged lent batch returned answer′ → TellsKeys (lent .lists) batch returned answer′
+  keys batch returned answer′ p =
+      let told = p .tells in
+      let says = after .keys-compared batch (p .judged) (p .promised) in
+      let fourth : getD answer′ 3 0 ≡ comparedOf (p .judged) = ap (λ (ns : List ℕ). getD ns 3 0) (told .values) ∙ keys-told (p .judged) in
+      let came : reachedTold (countOf batch) returned (getD answer′ 0 0) ≡ reachedIn (countOf batch) (p .judged) =
+      ap₂ (λ (n : ℕ) (ns : List ℕ). reachedTold (countOf batch) n (getD ns 0 0)) (told .number) (told .values) ∙ reached-told (countOf batch) (p .judged) in
+      record {
+        follows = fourth ∙ says .follows ∙ ap (λ (n : ℕ). comparedIn n (lent .lists) (batchLetter batch) (batchData batch)) (sym came);
+        few = rw fourth (says .few);
+      }
 
   -- demand 3, made by a host, after any sequence of calls from a fresh start
   pub after-host-calls : AfterHostCalls starts lent past
@@ -165,6 +180,7 @@ module _ {starts : List ℕ} {lent : Lent} {past : List Event} (reached : HostRe
         counts = counts;
         takes-as-judged = λ batch returned lent′ answer′ p. host-took-judged p;
         refused-for-gaps = refused-for-gaps;
+        keys = keys;
         state-passes = after .state-passes;
       }
 
@@ -196,8 +212,8 @@ host-refusals-keep lent =
   where
     took : (batch : List ℕ) (lent′ : Lent) {returned : ℕ} {answer′ : List ℕ} (a : Judged) → TookBatch lent batch a lent′
         → Tells (judgedNumbers a) returned answer′ → IsRefused returned → lent′ ≡ lent
-    took batch lent′ (Judged.Accepted taken old heartbeats) p t refused = absurd (refused (t .number))
-    took batch lent′ (Judged.Refused refusal) p t refused = refusals-keep lent .take-keeps batch refusal lent′ p
+    took batch lent′ (Judged.Accepted taken old heartbeats compared) p t refused = absurd (refused (t .number))
+    took batch lent′ (Judged.Refused refusal compared) p t refused = refusals-keep lent .take-keeps batch refusal compared lent′ p
 
     stays : (a : Recorded) (rows values : List ℕ) {returned : ℕ} {answer′ : List ℕ}
         → Tells (recordNumbers a) returned answer′ → IsRefused returned → valuesAfter a rows values ≡ values
@@ -220,8 +236,8 @@ host-accepted-leave lent =
     started starts lent′ (Started.Refused refusal) p t = absurd (is-refused refusal t refl)
 
     took : (batch : List ℕ) (lent′ : Lent) {answer′ : List ℕ} (a : Judged) → TookBatch lent batch a lent′ → Tells (judgedNumbers a) 0 answer′ → GoodState lent′
-    took batch lent′ (Judged.Accepted taken old heartbeats) p t = accepted-leave lent .take-leaves batch taken old heartbeats lent′ p
-    took batch lent′ (Judged.Refused refusal) p t = absurd (is-refused refusal t refl)
+    took batch lent′ (Judged.Accepted taken old heartbeats compared) p t = accepted-leave lent .take-leaves batch taken old heartbeats compared lent′ p
+    took batch lent′ (Judged.Refused refusal compared) p t = absurd (batch-refused refusal compared t refl)
 
     wrote-off : (letter : ℕ) (lent′ : Lent) {answer′ : List ℕ} (a : WrittenOff) → WroteOffRun lent letter a lent′ → Tells (writtenOffNumbers a) 0 answer′ → GoodState lent′
     wrote-off letter lent′ (WrittenOff.Removed first last) p t = accepted-leave lent .write-off-leaves letter first last lent′ p

@@ -14,6 +14,8 @@ use Rattle.forms.specs.declared.rows.Row.the-variants.{Key, MarketType, Status,
 use Rattle.forms.specs.Names.{NamedRow}
 use Rattle.sequence.specs.Gaps.{takes}
 use Rattle.sequence.specs.Changes.{full}
+use Rattle.lookup.specs.Lookup.{segmentOf}
+use Rattle.message.specs.Compared.{comparedThere}
 use Rattle.message.specs.Message.{keyPlace}
 use Rattle.state.specs.GoodState.{GoodState}
 use Rattle.state.specs.Memory.{Lent}
@@ -23,7 +25,7 @@ use Rattle.values.specs.Values.{first, most, valueRows}
 use Rattle.written.specs.ReadBack.{batchOf}
 use Rattle.host.specs.Promises.{HostJudged, HostTook}
 use Rattle.told.specs.Shown.{valueCount}
-use Rattle.hosted.specs.HostDemands.{Gives}
+use Rattle.hosted.specs.HostDemands.{GivesFour, Gives}
 use Rattle.hosted.specs.HostItems.{HostReadItem}
 
 -- the host's header: code "DN" or "TN" for an update of a contract, "DP" or "TP" for one of a pair
@@ -50,10 +52,11 @@ valuesBack (row ∷ rows) values = valueBack (row .row) (getD values 0 0) ∷ va
 abbrev pub rowsIn : Item → Level → List ℕ → List ℕ
 rowsIn item level values = valuesBack (valueRows item level) (drop first values)
 
--- 01 "Sequence and gaps": an accepted batch of one update: 1 taken where its number is, or 1 old
-abbrev pub GivesOne : Lent → ℕ → ℕ → ℕ → List ℕ → Type 0
-GivesOne lent letter number returned answer′ =
-    Gives returned answer′ 0 (cond (takes (gapsOfLetter lent letter) number) 1 0) (cond (takes (gapsOfLetter lent letter) number) 0 1) 0
+-- 01 "Sequence and gaps": an accepted batch of one update: 1 taken where its number is, or 1 old; M-102: and the keys compared with its own
+abbrev pub GivesOne : Item → Lent → ℕ → ℕ → List ℕ → ℕ → List ℕ → Type 0
+GivesOne item lent letter number key returned answer′ =
+    GivesFour returned answer′ 0 (cond (takes (gapsOfLetter lent letter) number) 1 0) (cond (takes (gapsOfLetter lent letter) number) 0 1) 0
+    (comparedThere item (lent .lists) key (segmentOf (lent .lists .contracts) letter))
 
 -- the host's header: the record as it was read before: none, or one whose number is below
 pub record ReadsOlder (item : Item) (lent : Lent) (level : Level) (letter : ℕ) (key : List ℕ) (number : ℕ) : Type 0 where
@@ -69,9 +72,9 @@ pub record HostReadsBack (item : Item) (level : Level) (letter number : ℕ) (ke
   -- against a good state that lists its contract or pair and has room for its number, it is accepted
   pub accepted : (lent : Lent) → GoodState lent → (place : ℕ) → keyPlace item (lent .lists) letter key ≡ some place
       → (takes (gapsOfLetter lent letter) number ≡ true → full (gapsOfLetter lent letter) number ≡ false)
-      → (returned : ℕ) (answer′ : List ℕ) → HostJudged lent (batchOf message) returned answer′ → GivesOne lent letter number returned answer′
+      → (returned : ℕ) (answer′ : List ℕ) → HostJudged lent (batchOf message) returned answer′ → GivesOne item lent letter number key returned answer′
   -- and where it was taken, whatever memory was lent, and the record was older, that is read as its number and these values, from the
   -- first row behind the key on; every value behind them stays as it is lent
-  pub reads : (lent lent′ : Lent) → HostTook lent (batchOf message) 0 lent′ (1 ∷ 0 ∷ 0 ∷ 0 ∷ []) → ReadsOlder item lent level letter key number
+  pub reads : (lent lent′ : Lent) (compared : ℕ) → HostTook lent (batchOf message) 0 lent′ (1 ∷ 0 ∷ 0 ∷ compared ∷ []) → ReadsOlder item lent level letter key number
       → (before : List ℕ) → length before ≡ most → (returned : ℕ) (values′ answer′ : List ℕ) → HostReadItem item lent′ letter key level before returned values′ answer′
       → Gives returned answer′ 0 1 0 0 × (values′ ≡ (number ∷ rowsIn item level values) ++ drop (valueCount item level) before)

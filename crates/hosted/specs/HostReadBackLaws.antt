@@ -30,6 +30,8 @@ use Rattle.spread.specs.SpreadTrip.{spread-written-back}
 use Rattle.sequence.specs.Gaps.{Gaps, takes}
 use Rattle.sequence.specs.Changes.{runsAfter, full}
 use Rattle.head.specs.Fields.{numberOf, formIn}
+use Rattle.lookup.specs.Lookup.{segmentOf}
+use Rattle.message.specs.Compared.{comparedThere}
 use Rattle.message.specs.Message.{messageKey, keyPlace}
 use Rattle.state.specs.declared.answers.Judged.{Judged}
 use Rattle.state.specs.declared.answers.Recorded.{Recorded}
@@ -58,10 +60,10 @@ use Rattle.reading.specs.Shown.{QuoteFor, shown, blankFor, ReadsItem}
 use Rattle.host.specs.Promises.{HostTook, codeOf}
 use Rattle.told.specs.Shown.{valuesAfter, valueCount}
 use Rattle.told.specs.Told.{Tells, recordNumbers}
-use Rattle.hosted.specs.HostDemands.{Gives}
+use Rattle.hosted.specs.HostDemands.{GivesFour, Gives}
 use Rattle.hosted.specs.HostItems.{valuesFor, laidFrom, HostReadItem, HostWroteItem}
 use Rattle.hosted.specs.HostItemsLaws.{item-put}
-use Rattle.hosted.specs.HostToldLaws.{is-refused}
+use Rattle.hosted.specs.HostToldLaws.{is-refused, batch-refused}
 use Rattle.hosted.specs.HostReadBack.{IsUpdate, rowsIn, GivesOne, ReadsOlder, HostReadsBack}
 use Rattle.hosted.specs.ValuesBackLaws.{values-seen, spread-values-seen}
 
@@ -161,37 +163,41 @@ module _ (item : Item) (code : List ℕ) (level : Level) (number : ℕ) (key val
         abbrev new : Bool
         new = takes (gapsOfLetter lent letter) number
 
-        one-told : (a : Judged) {returned : ℕ} {answer′ : List ℕ} → a ≡ countedAs new
-            → Tells (judgedNumbers a) returned answer′ → GivesOne lent letter number returned answer′
+        -- the keys compared with its own
+        abbrev keys : ℕ
+        keys = comparedThere item (lent .lists) key (segmentOf (lent .lists .contracts) letter)
+
+        one-told : (a : Judged) {returned : ℕ} {answer′ : List ℕ} → a ≡ countedAs new keys
+            → Tells (judgedNumbers a) returned answer′ → GivesOne item lent letter number key returned answer′
         one-told a {returned} {answer′} e t = go new (rw e at t)
           where
-            go : (b : Bool) → Tells (judgedNumbers (countedAs b)) returned answer′ → Gives returned answer′ 0 (cond b 1 0) (cond b 0 1) 0
+            go : (b : Bool) → Tells (judgedNumbers (countedAs b keys)) returned answer′ → GivesFour returned answer′ 0 (cond b 1 0) (cond b 0 1) 0 keys
             go true t = record { returns = t .number; answers = t .values }
             go false t = record { returns = t .number; answers = t .values }
 
         -- told one taken, its number was taken
-        told-taken : {returned : ℕ} → GivesOne lent letter number returned (1 ∷ 0 ∷ 0 ∷ 0 ∷ []) → new ≡ true
-        told-taken g =
+        told-taken : {returned compared : ℕ} → GivesOne item lent letter number key returned (1 ∷ 0 ∷ 0 ∷ compared ∷ []) → new ≡ true
+        told-taken {compared = compared} g =
             ⊎-elim (λ (t : new ≡ true). t)
-            (λ (t : new ≡ false). let none : getD (1 ∷ 0 ∷ 0 ∷ 0 ∷ []) 0 0 ≡ cond new 1 0 = ap (λ (ns : List ℕ). getD ns 0 0) (g .answers) in absurd (clash (sym (rw t at none))))
+            (λ (t : new ≡ false). let none : getD (1 ∷ 0 ∷ 0 ∷ compared ∷ []) 0 0 ≡ cond new 1 0 = ap (λ (ns : List ℕ). getD ns 0 0) (g .answers) in absurd (clash (sym (rw t at none))))
             (either new)
 
         abbrev at : ℕ
         at = recordOfKey item (lent .lists) letter key level
 
         back : ReadsBack (λ (lent′ : Lent) (recorded : Recorded) (read : QuoteFor item). ReadsItem item lent′ letter key level recorded read)
-            lent batch (gapsOfLetter lent letter) (recordNumber (lent .records) at) number (seenIn item level values)
+            lent batch (gapsOfLetter lent letter) (recordNumber (lent .records) at) number keys (seenIn item level values)
         back =
             reads-back item (codeOf code) level number key laid out out′ n form few key-long message-written lent state place listed room (shown item) (blankFor item) (seenIn item level values)
             (seen-shown item level key values)
 
-        judged-one : (a : Judged) → JudgedBatch lent batch a → a ≡ countedAs new
+        judged-one : (a : Judged) → JudgedBatch lent batch a → a ≡ countedAs new keys
         judged-one = back .judged
 
-        values-read : recordNumber (lent .records) at < number → (lent′ : Lent) → HostTook lent batch 0 lent′ (1 ∷ 0 ∷ 0 ∷ 0 ∷ [])
+        values-read : recordNumber (lent .records) at < number → (lent′ : Lent) (compared : ℕ) → HostTook lent batch 0 lent′ (1 ∷ 0 ∷ 0 ∷ compared ∷ [])
             → (before : List ℕ) → length before ≡ most → (returned : ℕ) (values′ answer′ : List ℕ) → HostReadItem item lent′ letter key level before returned values′ answer′
             → Gives returned answer′ 0 1 0 0 × (values′ ≡ (number ∷ rowsIn item level values) ++ drop (valueCount item level) before)
-        values-read newer lent′ t before before-long returned values′ answer′ p =
+        values-read newer lent′ compared t before before-long returned values′ answer′ p =
             let taken : new ≡ true = told-taken (one-told (t .judged) (judged-one (t .judged) (took-judged (t .promised))) (t .tells)) in
             let one = back .back taken newer (t .judged) lent′ (t .promised) (p .recorded) (p .quote) (p .promised) in
             let told : Tells (recordNumbers (Recorded.Record number)) returned answer′ = rw (one .number-back) at (p .tells) in (
@@ -237,17 +243,17 @@ module _ (item : Item) (code : List ℕ) (level : Level) (number : ℕ) (key val
     took-good {lent} {lent′} {answer′} p = go (p .judged) (p .promised) (p .tells)
       where
         go : (a : Judged) → TookBatch lent batch a lent′ → Tells (judgedNumbers a) 0 answer′ → GoodBatch lent batch
-        go (Judged.Accepted taken old heartbeats) t told = judged-good lent batch (Judged.Accepted taken old heartbeats) (took-judged t) .0 (taken, old, heartbeats, refl)
-        go (Judged.Refused refusal) t told = absurd (is-refused refusal told refl)
+        go (Judged.Accepted taken old heartbeats compared) t told = judged-good lent batch (Judged.Accepted taken old heartbeats compared) (took-judged t) .0 (taken, old, heartbeats, compared, refl)
+        go (Judged.Refused refusal compared) t told = absurd (batch-refused refusal compared told refl)
 
     -- all of it
     pub host-reads-back : HostReadsBack item level letter number key values (take n out′)
     host-reads-back =
         record {
           accepted = λ lent state place listed room returned answer′ p. one-told lent state place listed room (p .judged) (judged-one lent state place listed room (p .judged) (p .promised)) (p .tells);
-          reads = λ lent lent′ t older.
+          reads = λ lent lent′ compared t older.
               let good = took-good t in
               let listed = is-listed lent good in
               let newer = older-number item lent level letter key number (numbered item (codeOf code) level number key laid out out′ n form few key-long message-written) older in
-              values-read lent (good .state) (listed .0) (listed .1) (has-room lent good) newer lent′ t;
+              values-read lent (good .state) (listed .0) (listed .1) (has-room lent good) newer lent′ compared t;
         }

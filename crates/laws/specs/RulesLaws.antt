@@ -90,3 +90,23 @@ module _ {Refusal : Type 0} where
   last-held rules rule e =
       let both = hold-append rules (rule ∷ []) .0 (none-hold (rules ++ (rule ∷ [])) e) in
       (hold-none rules (both .0), both .1 .0)
+
+  -- what is so of each rule's refusal where the rule is broken, is so of the refusal that is answered
+  abbrev pub EachBroken : (Refusal → Type 0) → List (Rule Refusal) → Type 0
+  EachBroken P [] = Unit {0}
+  EachBroken P (rule ∷ rules) = (rule .holds ≡ false → P (rule .refusal)) × EachBroken P rules
+
+  pub each-append : (P : Refusal → Type 0) (rules more : List (Rule Refusal)) → EachBroken P rules → EachBroken P more → EachBroken P (rules ++ more)
+  each-append P [] more h k = k
+  each-append P (rule ∷ rules) more h k = (h .0, each-append P rules more (h .1) k)
+
+  pub of-broken : (P : Refusal → Type 0) (rules : List (Rule Refusal)) → EachBroken P rules → (refusal : Refusal) → firstBroken rules ≡ some refusal → P refusal
+  of-broken P [] each refusal e = absurd (unlike (sym e))
+  of-broken P (rule ∷ rules) each refusal e = go (rule .holds) refl (of-broken P rules (each .1) refusal)
+    where
+      go : (t : Bool) → rule .holds ≡ t → (firstBroken rules ≡ some refusal → P refusal) → P refusal
+      go true f rest = rest (sym (goes-on rule rules f) ∙ e)
+      go false f rest =
+          let same : some (rule .refusal) ≡ some refusal = sym (ends rule rules f) ∙ e in
+          let is : rule .refusal ≡ refusal = cc in
+          rw (← is) (each .0 f)

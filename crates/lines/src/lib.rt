@@ -33,17 +33,21 @@ pub fn put_started(page: &mut [u8], used: usize, answer: Started) -> usize
     }
 }
 
-// `NAME ok`, and the numbers of a batch.
+// `NAME ok` or `NAME refused`, the numbers of either, and how many keys were compared.
 pub fn put_judged(page: &mut [u8], used: usize, name: &[u8], answer: Judged) -> usize
     requires { ⌜ used ≤ length (now page) ⌝ }
     ensures { λ r. ⌜ r ≤ length (now (page .entry)) ⌝ }
 {
     match answer {
-        Judged::Accepted(taken, old, heartbeats) => {
-            let numbers = [taken as u64, old as u64, heartbeats as u64];
+        Judged::Accepted(taken, old, heartbeats, compared) => {
+            let numbers = [taken as u64, old as u64, heartbeats as u64, compared as u64];
             put_line(page, used, name, b" ok", &numbers)
         }
-        Judged::Refused(refusal) => put_refused(page, used, name, refusal),
+        Judged::Refused(refusal, compared) => {
+            let of = state::refusal_numbers(refusal);
+            let numbers = [of[0], of[1], of[2], of[3], compared as u64];
+            put_line(page, used, name, b" refused", &numbers)
+        }
     }
 }
 

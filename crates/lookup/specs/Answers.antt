@@ -1,9 +1,13 @@
 -- The answers of this crate's lookups in the paper's numbers.
-use Prim.Native.Nat.{ℕ}
+use Prim.Native.Nat.{ℕ, _≤_}
+use mathlib.Core.Path.{_≡_}
 use mathlib.Core.List.{List, [], _∷_}
 use mathlib.Core.Option.{Option, none, some}
 use Rattle.lookup.specs.declared.lookup.Found.{Found}
 use Rattle.lookup.specs.declared.lookup.Found.the-variants.{At, Nowhere}
+use Rattle.lookup.specs.declared.lookup.Sought.{Sought}
+use Rattle.laws.specs.Refused.{contractNo}
+use Rattle.lookup.specs.Halving.{Halved, digits}
 
 -- a word of our own: the place that an answer gives, if it gives one
 abbrev pub placeOf : Found → Option ℕ
@@ -19,3 +23,10 @@ foundNumbers refusal Nowhere = refusal ∷ []
 abbrev pub lookedUp : ℕ → Option ℕ → List ℕ
 lookedUp refusal (some place) = 0 ∷ place ∷ []
 lookedUp refusal none = refusal ∷ []
+
+-- M-102: what is reported of a key looked up among so many: its place, 13 where it has none; how many keys were compared: the rule's
+-- own steps, found or not, at most the binary digits of the number of keys
+pub record Reports (halved : Halved) (keys : ℕ) (answer : Sought) : Type 0 where
+  pub place : foundNumbers contractNo (answer .found) ≡ lookedUp contractNo (halved .place)
+  pub steps : answer .compared ≡ halved .compared
+  pub few : answer .compared ≤ digits keys

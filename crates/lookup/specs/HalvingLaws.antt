@@ -33,6 +33,19 @@ holds (suc t) (suc m) h =
 pub digits-hold : (n : ℕ) → n < 2 ^ digits n
 digits-hold n = holds n n (omega arith)
 
+-- and a number under a power of two has no more of them than its exponent
+under : (t n d : ℕ) → n < 2 ^ d → digitsIn t n ≤ d
+under zero n d h = omega arith
+under (suc t) zero d h = omega arith
+under (suc t) (suc m) zero h = absurd (omega arith)
+under (suc t) (suc m) (suc d) h =
+    let double : 2 ^ suc d ≡ 2 ^ d + 2 ^ d = two-pow-succ d in
+    omega (arith, under t (suc m / 2) d (omega arith))
+
+-- a larger number has no fewer
+pub digits-climb : (n m : ℕ) → n ≤ m → digits n ≤ digits m
+digits-climb n m h = under n n (digits m) (omega (arith, digits-hold m))
+
 module _ (stands : ℕ → Stands) where
   module _ (turns low m : ℕ) where
     matched : stands (low + m / 2) ≡ Same

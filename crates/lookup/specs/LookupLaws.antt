@@ -12,13 +12,14 @@ use Rattle.laws.specs.Refused.{codeNo, contractNo}
 use Rattle.files.specs.declared.habit.Habit.{Habit}
 use Rattle.lookup.specs.declared.lookup.Found.{Found}
 use Rattle.lookup.specs.declared.lookup.Found.the-variants.{At, Nowhere}
-use Rattle.lookup.specs.Answers.{foundNumbers, lookedUp}
+use Rattle.lookup.specs.declared.lookup.Sought.{Sought}
+use Rattle.lookup.specs.Answers.{foundNumbers, lookedUp, Reports}
 use Rattle.lookup.specs.AnswersLaws.{found-told}
 use Rattle.files.specs.BelowLaws.{first-passes, none-passes}
 use Rattle.files.specs.File.{segmentsOf, letterAt, countAt, keyBy}
-use Rattle.lookup.specs.Halving.{digits}
+use Rattle.lookup.specs.Halving.{Halved, halved, digits}
 use Rattle.contracts.specs.HeaderLaws.{letters-apart}
-use Rattle.lookup.specs.HalvingLaws.{compared-few, found-matches, match-found}
+use Rattle.lookup.specs.HalvingLaws.{none-left, compared-few, found-matches, match-found}
 use Rattle.files.specs.Keys.{orderOf}
 use Rattle.files.specs.KeysLaws.{between, same-key, key-same}
 use Rattle.lookup.specs.Lookup.{segmentOf, standsTo, lookup}
@@ -73,6 +74,18 @@ module _ (habit : Habit) (list : List ℕ) (i : ℕ) (key : List ℕ) where
   pub lookup-steps : lookup habit list i key .compared ≤ digits (countAt list i)
   unfolding lookup
   lookup-steps = compared-few (standsTo habit list i key) (countAt list i)
+
+  -- none of none
+  pub lookup-none : countAt list i ≡ 0 → lookup habit list i key .compared ≡ 0
+  unfolding lookup
+  lookup-none e =
+      let s = standsTo habit list i key in
+      ap (λ (n : ℕ). halved s n .compared) e ∙ ap (λ (h : Halved). h .compared) (none-left s 0 0)
+
+  -- so that a lookup that reports its place and its steps reports few
+  pub reported : (answer : Sought) → foundNumbers contractNo (answer .found) ≡ lookedUp contractNo (lookup habit list i key .place)
+      → answer .compared ≡ lookup habit list i key .compared → Reports (lookup habit list i key) (countAt list i) answer
+  reported answer place steps = record { place = place; steps = steps; few = rw steps lookup-steps }
 
   -- a key that is found stands at its place, whatever the bodies hold
   pub key-at-place : (k : ℕ) → lookup habit list i key .place ≡ some k → (k < countAt list i) × (keyBy habit list i k ≡ key)

@@ -2,5 +2,6 @@
 mod lookup;
 
 pub use lookup::Found;
+pub use lookup::Sought;
 pub use lookup::place_of;
 pub use lookup::segment_of;

@@ -1,6 +1,7 @@
 ghost use mathlib.Core.Path.{_≡_};
-ghost use Rattle.laws.specs.Refused.{codeNo, contractNo};
-ghost use Rattle.lookup.specs.Answers.{foundNumbers, lookedUp};
+ghost use Rattle.files.specs.File.{countAt};
+ghost use Rattle.laws.specs.Refused.{codeNo};
+ghost use Rattle.lookup.specs.Answers.{foundNumbers, lookedUp, Reports};
 ghost use Rattle.lookup.specs.Lookup.{segmentOf, lookup};
 use files::Habit;
 use files::Stands;
@@ -10,6 +11,12 @@ pub enum Found {
     At(usize),
     // 6 for a letter, 13 for a key.
     Nowhere,
+}
+
+// A key that was looked up: where it is listed, and how many keys were compared with it.
+pub struct Sought {
+    pub found: Found,
+    pub compared: usize,
 }
 
 // The segment that has a letter.
@@ -28,18 +35,23 @@ pub fn segment_of(list: &[u8], letter: u8) -> Found
 }
 
 // The place of a key in a segment, by halving: `left` keys are left, the first of which is key `low`.
-pub fn place_of(list: &[u8], habit: Habit, segment: usize, wanted: &[u8]) -> Found
-    ensures { λ r. ⌜ foundNumbers contractNo r ≡ lookedUp contractNo (lookup habit (now (list .entry)) segment (now (wanted .entry)) .place) ⌝ }
+pub fn place_of(list: &[u8], habit: Habit, segment: usize, wanted: &[u8]) -> Sought
+    ensures { λ r. ⌜ Reports (lookup habit (now (list .entry)) segment (now (wanted .entry))) (countAt (now (list .entry)) segment) r ⌝ }
 {
     let offset = files::offset_at(list, segment);
     let mut low = 0;
     let mut left = files::count_at(list, segment);
+    let mut compared = 0;
     while 0 < left {
         let below = (left - 1) / 2;
         let place = low + below;
+        compared += 1;
         match files::order_of(wanted, files::key_in(list, habit, offset, place)) {
             Stands::Same => {
-                return Found::At(place);
+                return Sought {
+                    found: Found::At(place),
+                    compared,
+                };
             }
             Stands::Below => {
                 left = below;
@@ -50,5 +62,8 @@ pub fn place_of(list: &[u8], habit: Habit, segment: usize, wanted: &[u8]) -> Fou
             }
         }
     }
-    Found::Nowhere
+    Sought {
+        found: Found::Nowhere,
+        compared,
+    }
 }

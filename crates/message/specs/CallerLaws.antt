@@ -50,6 +50,11 @@ pub record IsUpdate (lists : Lists) (letter : ℕ) (bytes : List ℕ) (number : 
   pub rows-good : readRows 0 (rowsOf form) (dataOf bytes) .verdict ≡ verdict.Good
   pub cells-are : messageOf lists letter bytes .cells ≡ zerosBehind (readRows 0 (rowsOf form) (dataOf bytes) .cells)
 
+-- a message is as long as the form that it has
+pub form-length : (bytes : List ℕ) (form : Form) → formIn bytes ≡ is.Form form → lengthOf bytes ≡ messageLength (rowsOf form)
+unfolding formIn formOf
+form-length bytes form e = told-form (formsOf (letterOf bytes) (secondOf bytes)) (lengthOf bytes) form e .1
+
 -- a verdict that leaves no fault is good
 rows-pass : (v : Verdict) (w : What) → verdictOf (ofVerdict v w) ≡ Good → v ≡ verdict.Good
 rows-pass verdict.Good w e = refl
@@ -124,11 +129,6 @@ module _ (lists : Lists) (letter : ℕ) (bytes : List ℕ) (good : verdictOf (me
   unfolding contentsBy
   what-is = ap (λ m. m .what) contents-good ∙ rw rows-good
 
-  -- the form that it has is as long
-  form-length : (form : Form) → formIn bytes ≡ is.Form form → lengthOf bytes ≡ messageLength (rowsOf form)
-  unfolding formIn formOf
-  form-length form e = told-form (formsOf (letterOf bytes) (secondOf bytes)) (lengthOf bytes) form e .1
-
   -- its number is the number field
   pub number-is : numberIn (messageOf lists letter bytes .what) ≡ numberOf bytes
   number-is =
@@ -144,7 +144,7 @@ module _ (lists : Lists) (letter : ℕ) (bytes : List ℕ) (good : verdictOf (me
         item = p .item;
         tells = p .tells;
         number-is = p .number-is;
-        length-is = form-length form (p .named-is);
+        length-is = form-length bytes form (p .named-is);
         place-is = p .found-is;
         rows-good = rw (p .named-is) at rows-good;
         cells-are = rw (p .named-is) at (ap (λ m. m .cells) contents-good);

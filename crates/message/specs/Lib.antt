@@ -1,5 +1,7 @@
 pub mod CallerLaws
 pub mod FrontLaws
+pub mod Compared
+pub mod ComparedLaws
 pub mod Good
 pub mod GoodLaws
 pub mod Message

@@ -30,6 +30,7 @@ use Rattle.head.specs.Head.{formRules}
 use Rattle.head.specs.Rules.{headOf, firstFault}
 use Rattle.message.specs.NumbersLaws.{what-told}
 use Rattle.message.specs.Message.{Message, TellsOf, placeIn, placeThere, placesThere, messageKey, messagePlace, keyPlace, ofPlace}
+use Rattle.message.specs.Compared.{keysThere, comparedAs, messageCompared, soFar}
 use Rattle.message.specs.Reads.{Outlines, rowsRead, ofVerdict, bare, contentsBy, contentsOf, messageOf, ReadsMessage, ReadsFormed}
 
 module _ (item : Item) (lists : Lists) (letter : ℕ) where
@@ -56,62 +57,74 @@ pub places-by-segment : (lists : Lists) (letter : ℕ) (bytes : List ℕ) {segme
 unfolding keyPlace
 places-by-segment lists letter bytes e = λ i item. placeThere item lists (messageKey item bytes) (e i)
 
+-- and the keys compared there
+pub keys-by-segment : (lists : Lists) (letter : ℕ) (bytes : List ℕ) {segment : Option ℕ} → segment ≡ segmentOf (lists .contracts) letter
+    → comparedAs (formIn bytes) (keysThere lists bytes segment) ≡ messageCompared lists letter bytes
+unfolding messageCompared
+keys-by-segment lists letter bytes e = λ i. comparedAs (formIn bytes) (keysThere lists bytes (e i))
+
 -- a message's outline
-abbrev pub outlineOf : Message → Outline
-outlineOf message = record { what = message .what; length = message .length }
+abbrev pub outlineOf : Message → ℕ → Outline
+outlineOf message compared = record { what = message .what; length = message .length; compared = soFar (message .what) compared }
 
-pub outlined : {message : Message} {answer : Outline} → answer ≡ outlineOf message → Outlines message answer
-outlined e = rw e (record { tells = tells refl; long = refl })
+pub outlined : {message : Message} {compared : ℕ} {answer : Outline} → answer ≡ outlineOf message compared → Outlines message compared answer
+outlined e = rw e (record { tells = tells refl; long = refl; steps = refl })
 
-pub outline-told : {message : Message} {answer : Outline} → Outlines message answer → answer ≡ outlineOf message
-outline-told o = λ i. record { what = what-told (o .tells) i; length = o .long i }
+pub outline-told : {message : Message} {compared : ℕ} {answer : Outline} → Outlines message compared answer → answer ≡ outlineOf message compared
+outline-told o = λ i. record { what = what-told (o .tells) i; length = o .long i; compared = o .steps i }
 
--- a message with a good head, by the place of its key
-module _ (place : Item → Option ℕ) (bytes : List ℕ) (whole : ℕ) (long : whole ≡ lengthOf bytes) where
+-- an update that has come to 13, listed or not
+pub sought-outlined : (number : ℕ) (form : Form) (whole : ℕ) (found : Option ℕ) {compared steps : ℕ} → steps ≡ compared
+    → Outlines (bare (ofPlace number form found) whole) compared (record { what = ofPlace number form found; length = whole; compared = steps })
+sought-outlined number form whole none e = record { tells = tells refl; long = refl; steps = e }
+sought-outlined number form whole (some place) e = record { tells = tells refl; long = refl; steps = e }
+
+-- a message with a good head, by the place of its key and the keys compared with it
+module _ (place : Item → Option ℕ) (keys : Item → ℕ) (bytes : List ℕ) (whole : ℕ) (long : whole ≡ lengthOf bytes) where
   -- one with no rows leaves the lent cells as they are
   module _ (cells : List ℕ) where
     pub heartbeat-reads : (form : Form) → formIn bytes ≡ is.Form form → subjectOf form ≡ Nothing
-        → ReadsMessage (contentsBy place bytes) (rowsRead bytes .cells) cells (record { what = what.Heartbeat; length = whole }) cells
+        → ReadsMessage (contentsBy place bytes) (comparedAs (formIn bytes) keys) (rowsRead bytes .cells) cells (record { what = what.Heartbeat; length = whole; compared = 0 }) cells
     unfolding contentsBy
     heartbeat-reads form e s = rw (long, e, s, nothing-rows form s) (record { told = outlined refl; stored = refl })
 
     pub passed-over-reads : formIn bytes ≡ is.PassedOver
-        → ReadsMessage (contentsBy place bytes) (rowsRead bytes .cells) cells (record { what = what.PassedOver (numberOf bytes); length = whole }) cells
+        → ReadsMessage (contentsBy place bytes) (comparedAs (formIn bytes) keys) (rowsRead bytes .cells) cells (record { what = what.PassedOver (numberOf bytes); length = whole; compared = 0 }) cells
     unfolding contentsBy
     passed-over-reads e = rw (long, e) (record { told = outlined refl; stored = refl })
 
     pub no-length-reads : formIn bytes ≡ is.NoLength
-        → ReadsMessage (contentsBy place bytes) (rowsRead bytes .cells) cells (record { what = what.PassedOver (numberOf bytes); length = whole }) cells
+        → ReadsMessage (contentsBy place bytes) (comparedAs (formIn bytes) keys) (rowsRead bytes .cells) cells (record { what = what.PassedOver (numberOf bytes); length = whole; compared = 0 }) cells
     unfolding contentsBy
     no-length-reads e = rw (long, e) (record { told = outlined refl; stored = refl })
 
-  module _ (w : What) (form : Form) (e : formIn bytes ≡ is.Form form) (item : Item) (s : TellsOf item form) where
+  module _ (form : Form) (e : formIn bytes ≡ is.Form form) (item : Item) (s : TellsOf item form) where
     -- an update's rows are read, and then its key is looked up
-    pub update-reads : (verdict : Verdict) (cells cells′ : List ℕ) → ReadsRows (rowsOf form) (dataOf bytes) cells verdict cells′
-        → w ≡ ofVerdict verdict (ofPlace (numberOf bytes) form (place item))
-        → ReadsMessage (contentsBy place bytes) (rowsRead bytes .cells) cells (record { what = w; length = whole }) cells′
+    pub update-reads : (verdict other : Verdict) → verdict ≡ other → (cells cells′ : List ℕ) → ReadsRows (rowsOf form) (dataOf bytes) cells verdict cells′
+        → (answer : Outline) → Outlines (bare (ofVerdict other (ofPlace (numberOf bytes) form (place item))) whole) (keys item) answer
+        → ReadsMessage (contentsBy place bytes) (comparedAs (formIn bytes) keys) (rowsRead bytes .cells) cells answer cells′
     unfolding contentsBy
-    update-reads verdict cells cells′ read same =
-        let v = verdict-told verdict (readRows 0 (rowsOf form) (dataOf bytes) .verdict) (read .answers) in
-        record { told = outlined (rw (long, e, s .1, ← v, same)); stored = rw e (read .cells-stored) }
+    update-reads verdict other same cells cells′ read answer o =
+        let v : other ≡ readRows 0 (rowsOf form) (dataOf bytes) .verdict = sym same ∙ verdict-told verdict (readRows 0 (rowsOf form) (dataOf bytes) .verdict) (read .answers) in
+        record { told = outlined (outline-told o ∙ rw (long, e, s .1, ← v)); stored = rw e (read .cells-stored) }
 
-    pub update-is : (read : Outcome) → readRows 0 (rowsOf form) (dataOf bytes) ≡ read → w ≡ ofVerdict (read .verdict) (ofPlace (numberOf bytes) form (place item))
+    pub update-is : (w : What) (read : Outcome) → readRows 0 (rowsOf form) (dataOf bytes) ≡ read → w ≡ ofVerdict (read .verdict) (ofPlace (numberOf bytes) form (place item))
         → contentsBy place bytes ≡ record { what = w; length = whole; cells = zerosBehind (read .cells) }
     unfolding contentsBy
-    update-is read same what-is = rw (long, e, s .1, same, what-is)
+    update-is w read same what-is = rw (long, e, s .1, same, what-is)
 
 -- a message with a good frame, by what the rest of its head was judged
-module _ (place : Item → Option ℕ) (bytes cells : List ℕ) (judged : Head) (told : headNumbers judged ≡ headNumbers (firstFault (formRules bytes))) where
+module _ (place : Item → Option ℕ) (keys : Item → ℕ) (bytes cells : List ℕ) (judged : Head) (told : headNumbers judged ≡ headNumbers (firstFault (formRules bytes))) where
   form-is : {h : Head} → judged ≡ h → firstFault (formRules bytes) ≡ h
   form-is e = sym (head-told judged (firstFault (formRules bytes)) told) ∙ e
 
-  pub good-form : {answer : Outline} {cells′ : List ℕ} → judged ≡ head.Good → ReadsMessage (contentsBy place bytes) (rowsRead bytes .cells) cells answer cells′
-      → ReadsFormed place bytes cells answer cells′
+  pub good-form : {answer : Outline} {cells′ : List ℕ} → judged ≡ head.Good → ReadsMessage (contentsBy place bytes) (comparedAs (formIn bytes) keys) (rowsRead bytes .cells) cells answer cells′
+      → ReadsFormed place keys bytes cells answer cells′
   good-form e reads = rw (form-is e) reads
 
-  pub bad-form : {answer : Outline} {f : Fault} → judged ≡ head.Bad f → Outlines (bare (what.Bad f) (lengthOf bytes)) answer
-      → ReadsFormed place bytes cells answer cells
-  bad-form e outlines = rw (form-is e) (record { told = outlines; stored = refl })
+  pub bad-form : {answer : Outline} {f : Fault} → judged ≡ head.Bad f → ((compared : ℕ) → Outlines (bare (what.Bad f) (lengthOf bytes)) compared answer)
+      → ReadsFormed place keys bytes cells answer cells
+  bad-form e outlines = rw (form-is e) (record { told = outlines _; stored = refl })
 
 module _ (lists : Lists) (letter : ℕ) (bytes : List ℕ) where
   abbrev headHere : Head

@@ -22,6 +22,7 @@ use Rattle.head.specs.Fields.{formIn, lengthOf, numberOf, dataOf}
 use Rattle.head.specs.Head.{formRules}
 use Rattle.head.specs.Rules.{headOf, firstFault}
 use Rattle.message.specs.Numbers.{TellsWhat}
+use Rattle.message.specs.Compared.{comparedAs, soFar}
 use Rattle.message.specs.Message.{Message, messagePlace, ofNamed, rowsIn}
 
 -- 01 "The message": the rows of the data, read in turn
@@ -70,18 +71,19 @@ cellsBy (head.Bad fault) bytes = []
 unfoldable pub cellsRead : Lists → ℕ → List ℕ → List ℕ
 cellsRead lists letter bytes = cellsBy (headOf letter (segmentOf (lists .contracts) letter) bytes) bytes
 
--- 01 "The message": what a message is and how long it is
-pub record Outlines (message : Message) (answer : Outline) : Type 0 where
+-- 01 "The message", M-102: what a message is, how long it is, and how many keys were compared, of those that its lookup compares
+pub record Outlines (message : Message) (compared : ℕ) (answer : Outline) : Type 0 where
   pub tells : TellsWhat (message .what) (answer .what)
   pub long : answer .length ≡ message .length
+  pub steps : answer .compared ≡ soFar (message .what) compared
 
 -- lent memory: the answer of reading a message, and the lent cells: those of the rows that are read are stored
-pub record ReadsMessage (message : Message) (read cells : List ℕ) (answer : Outline) (cells′ : List ℕ) : Type 0 where
-  pub told : Outlines message answer
+pub record ReadsMessage (message : Message) (compared : ℕ) (read cells : List ℕ) (answer : Outline) (cells′ : List ℕ) : Type 0 where
+  pub told : Outlines message compared answer
   pub stored : cells′ ≡ sets cells 0 read
 
 -- lent memory: the same of a message whose frame, code and trailer are good, by the rest of its head
-abbrev pub ReadsFormed : (Item → Option ℕ) → List ℕ → List ℕ → Outline → List ℕ → Type 0
-ReadsFormed place bytes cells answer cells′ =
+abbrev pub ReadsFormed : (Item → Option ℕ) → (Item → ℕ) → List ℕ → List ℕ → Outline → List ℕ → Type 0
+ReadsFormed place keys bytes cells answer cells′ =
     let head : Head = firstFault (formRules bytes) in
-    ReadsMessage (ofHead head (lengthOf bytes) (contentsBy place bytes)) (cellsBy head bytes) cells answer cells′
+    ReadsMessage (ofHead head (lengthOf bytes) (contentsBy place bytes)) (comparedAs (formIn bytes) keys) (cellsBy head bytes) cells answer cells′

@@ -1,12 +1,11 @@
 // What a message is: all of its checks, 5 to 13.
 ghost use mathlib.Core.Path.{_≡_};
-ghost use mathlib.Core.Bool.{true};
 ghost use mathlib.Core.List.{List};
 ghost use mathlib.Core.Option.{Option};
 ghost use Prim.Native.Nat.{ℕ};
 ghost use lib.ListN.{take};
-ghost use Rattle.laws.specs.Refused.{contractNo};
-ghost use Rattle.lookup.specs.Answers.{placeOf, foundNumbers, lookedUp};
+ghost use mathlib.Core.Bool.{true, false};
+ghost use Rattle.lookup.specs.Answers.{placeOf};
 ghost use Rattle.pairs.specs.Lists.{lists};
 ghost use Rattle.lookup.specs.Lookup.{segmentOf};
 ghost use Rattle.forms.specs.Forms.{keyBytesOf};
@@ -14,8 +13,8 @@ ghost use Rattle.head.specs.GoodHead.{Framed};
 ghost use Rattle.head.specs.Fields.{lengthOf, formIn};
 ghost use Rattle.head.specs.Tests.{framed, isHeartbeat};
 ghost use Rattle.message.specs.Message.{TellsOf, placeThere, placesThere, ofPlace};
+ghost use Rattle.message.specs.Compared.{comparedThere, keysThere, comparedAs, messageCompared, keySought, Seeks};
 ghost use Rattle.message.specs.Reads.{rowsRead, cellsRead, contentsBy, bare, messageOf, Outlines, ReadsMessage, ReadsFormed};
-ghost use Rattle.message.specs.Numbers.{TellsWhat};
 use head::Fault;
 use head::Head;
 use layout::Form;
@@ -25,6 +24,7 @@ use layout::Named;
 use layout::Subject;
 use layout::Verdict;
 use lookup::Found;
+use lookup::Sought;
 
 pub enum What {
     Heartbeat,
@@ -35,23 +35,27 @@ pub enum What {
     Bad(Fault),
 }
 
-// What a message is, and how long it is. The cells of its rows are stored where the caller lends them, so that a message with
-// no rows is handed on by these few bytes.
+// What a message is, how long it is, and how many keys were compared with its own. The cells of its rows are stored where the
+// caller lends them, so that a message with no rows is handed on by these few bytes.
 pub struct Outline {
     pub what: What,
     pub length: usize,
+    pub compared: usize,
 }
 
 // The place of a key in a segment of its file, where there is one.
-pub fn find(list: &[u8], spreads: &[u8], item: Item, segment: Found, key: &[u8]) -> Found
-    ensures { λ r. ⌜ foundNumbers contractNo r ≡ lookedUp contractNo (placeThere item (lists (now (list .entry)) (now (spreads .entry))) (now (key .entry)) (placeOf segment)) ⌝ }
+pub fn find(list: &[u8], spreads: &[u8], item: Item, segment: Found, key: &[u8]) -> Sought
+    ensures { λ r. ⌜ Seeks item (lists (now (list .entry)) (now (spreads .entry))) (now (key .entry)) (placeOf segment) r ⌝ }
 {
     match segment {
         Found::At(place) => match item {
             Item::Contract => lookup::place_of(list, files::CONTRACTS, place, key),
             Item::Pair => lookup::place_of(spreads, pairs::PAIRS, place, key),
         },
-        Found::Nowhere => Found::Nowhere,
+        Found::Nowhere => Sought {
+            found: Found::Nowhere,
+            compared: 0,
+        },
     }
 }
 
@@ -68,15 +72,35 @@ fn placed(
     spreads: &[u8],
     segment: Found,
     data: &[u8],
+    whole: usize,
     number: u32,
     form: Form,
     item: Item,
-) -> What
-    ensures { λ r. ⌜ TellsWhat (ofPlace number form (placeThere item (lists (now (list .entry)) (now (spreads .entry))) (take (keyBytesOf item) (now («data» .entry))) (placeOf segment))) r ⌝ }
+) -> Outline
+    ensures { λ r. ⌜ Outlines (bare (ofPlace number form (placeThere item (lists (now (list .entry)) (now (spreads .entry))) (take (keyBytesOf item) (now («data» .entry))) (placeOf segment))) whole) (comparedThere item (lists (now (list .entry)) (now (spreads .entry))) (take (keyBytesOf item) (now («data» .entry))) (placeOf segment)) r ⌝ }
 {
-    match find(list, spreads, item, segment, key_of(item, data)) {
+    let sought = find(list, spreads, item, segment, key_of(item, data));
+    let found = sought.found;
+    let what = match found {
         Found::At(place) => What::Update(number, form, place),
         Found::Nowhere => What::Bad(Fault::Contract),
+    };
+    Outline {
+        what,
+        length: whole,
+        compared: sought.compared,
+    }
+}
+
+// A fault before 13: no key was looked up.
+fn bad(fault: Fault, bytes: &[u8]) -> Outline
+    requires { ⌜ keySought fault ≡ false ⌝ }
+    ensures { λ r. ⌜ ((compared : ℕ) → Outlines (bare (What.Bad fault) (lengthOf (now (bytes .entry)))) compared r) ⌝ }
+{
+    Outline {
+        what: What::Bad(fault),
+        length: head::length_of(bytes),
+        compared: 0,
     }
 }
 
@@ -92,19 +116,15 @@ fn update(
     cells: &mut [u64; MOST_ROWS],
 ) -> Outline
     requires { ⌜ Framed (now bytes) × (whole ≡ lengthOf (now bytes)) × (formIn (now bytes) ≡ Named.Form form) × TellsOf item form ⌝ }
-    ensures { λ r. ⌜ ReadsMessage (contentsBy (placesThere (lists (now (list .entry)) (now (spreads .entry))) (now (bytes .entry)) (placeOf segment)) (now (bytes .entry))) (rowsRead (now (bytes .entry)) .cells) (now (cells .entry)) r (now (cells .exit)) ⌝ }
+    ensures { λ r. ⌜ ReadsMessage (contentsBy (placesThere (lists (now (list .entry)) (now (spreads .entry))) (now (bytes .entry)) (placeOf segment)) (now (bytes .entry))) (comparedAs (formIn (now (bytes .entry))) (keysThere (lists (now (list .entry)) (now (spreads .entry))) (now (bytes .entry)) (placeOf segment))) (rowsRead (now (bytes .entry)) .cells) (now (cells .entry)) r (now (cells .exit)) ⌝ }
 {
     let number = head::number_of(bytes);
     let end = whole - head::TRAILER;
     let data = &bytes[head::DATA..end];
-    let what = match layout::read_update(form, data, cells) {
-        Verdict::Good => placed(list, spreads, segment, data, number, form, item),
-        Verdict::Field(row) => What::Bad(Fault::Field(row)),
-        Verdict::Range(row) => What::Bad(Fault::Range(row)),
-    };
-    Outline {
-        what,
-        length: whole,
+    match layout::read_update(form, data, cells) {
+        Verdict::Good => placed(list, spreads, segment, data, whole, number, form, item),
+        Verdict::Field(row) => bad(Fault::Field(row), bytes),
+        Verdict::Range(row) => bad(Fault::Range(row), bytes),
     }
 }
 
@@ -118,7 +138,7 @@ fn contents(
     cells: &mut [u64; MOST_ROWS],
 ) -> Outline
     requires { ⌜ (framed (now bytes) ≡ true) × (named ≡ formIn (now bytes)) ⌝ }
-    ensures { λ r. ⌜ ReadsMessage (contentsBy (placesThere (lists (now (list .entry)) (now (spreads .entry))) (now (bytes .entry)) (placeOf segment)) (now (bytes .entry))) (rowsRead (now (bytes .entry)) .cells) (now (cells .entry)) r (now (cells .exit)) ⌝ }
+    ensures { λ r. ⌜ ReadsMessage (contentsBy (placesThere (lists (now (list .entry)) (now (spreads .entry))) (now (bytes .entry)) (placeOf segment)) (now (bytes .entry))) (comparedAs (formIn (now (bytes .entry))) (keysThere (lists (now (list .entry)) (now (spreads .entry))) (now (bytes .entry)) (placeOf segment))) (rowsRead (now (bytes .entry)) .cells) (now (cells .entry)) r (now (cells .exit)) ⌝ }
 {
     let whole = head::length_of(bytes);
     match named {
@@ -126,6 +146,7 @@ fn contents(
             Subject::Nothing => Outline {
                 what: What::Heartbeat,
                 length: whole,
+                compared: 0,
             },
             Subject::Of(item, _) => {
                 update(list, spreads, segment, bytes, whole, form, item, cells)
@@ -134,32 +155,26 @@ fn contents(
         Named::NoLength => Outline {
             what: What::PassedOver(head::number_of(bytes)),
             length: whole,
+            compared: 0,
         },
         Named::PassedOver => Outline {
             what: What::PassedOver(head::number_of(bytes)),
             length: whole,
+            compared: 0,
         },
-    }
-}
-
-fn bad(fault: Fault, bytes: &[u8]) -> Outline
-    ensures { λ r. ⌜ Outlines (bare (What.Bad fault) (lengthOf (now (bytes .entry)))) r ⌝ }
-{
-    Outline {
-        what: What::Bad(fault),
-        length: head::length_of(bytes),
     }
 }
 
 // A heartbeat with a good frame, code and trailer: nothing is stored.
 fn heartbeat(bytes: &[u8]) -> Outline
     requires { ⌜ (framed (now bytes) ≡ true) × (isHeartbeat (formIn (now bytes)) ≡ true) ⌝ }
-    ensures { λ r. ⌜ ((place : Item → Option ℕ) (cells : List ℕ) → ReadsFormed place (now (bytes .entry)) cells r cells) ⌝ }
+    ensures { λ r. ⌜ ((place : Item → Option ℕ) (keys : Item → ℕ) (cells : List ℕ) → ReadsFormed place keys (now (bytes .entry)) cells r cells) ⌝ }
 {
     match head::judge_heartbeat(bytes) {
         Head::Good => Outline {
             what: What::Heartbeat,
             length: head::length_of(bytes),
+            compared: 0,
         },
         Head::Bad(fault) => bad(fault, bytes),
     }
@@ -175,7 +190,7 @@ fn formed(
     cells: &mut [u64; MOST_ROWS],
 ) -> Outline
     requires { ⌜ (framed (now bytes) ≡ true) × (named ≡ formIn (now bytes)) ⌝ }
-    ensures { λ r. ⌜ ReadsFormed (placesThere (lists (now (list .entry)) (now (spreads .entry))) (now (bytes .entry)) (placeOf segment)) (now (bytes .entry)) (now (cells .entry)) r (now (cells .exit)) ⌝ }
+    ensures { λ r. ⌜ ReadsFormed (placesThere (lists (now (list .entry)) (now (spreads .entry))) (now (bytes .entry)) (placeOf segment)) (keysThere (lists (now (list .entry)) (now (spreads .entry))) (now (bytes .entry)) (placeOf segment)) (now (bytes .entry)) (now (cells .entry)) r (now (cells .exit)) ⌝ }
 {
     if head::is_heartbeat(named) {
         return heartbeat(bytes);
@@ -197,7 +212,7 @@ pub fn read(
     cells: &mut [u64; MOST_ROWS],
 ) -> Outline
     requires { ⌜ placeOf segment ≡ segmentOf (now list) letter ⌝ }
-    ensures { λ r. ⌜ ReadsMessage (messageOf (lists (now (list .entry)) (now (spreads .entry))) letter (now (bytes .entry))) (cellsRead (lists (now (list .entry)) (now (spreads .entry))) letter (now (bytes .entry))) (now (cells .entry)) r (now (cells .exit)) ⌝ }
+    ensures { λ r. ⌜ ReadsMessage (messageOf (lists (now (list .entry)) (now (spreads .entry))) letter (now (bytes .entry))) (messageCompared (lists (now (list .entry)) (now (spreads .entry))) letter (now (bytes .entry))) (cellsRead (lists (now (list .entry)) (now (spreads .entry))) letter (now (bytes .entry))) (now (cells .entry)) r (now (cells .exit)) ⌝ }
 {
     match head::judge_frame(letter, segment, bytes) {
         Head::Good => formed(list, spreads, segment, bytes, head::form_in(bytes), cells),

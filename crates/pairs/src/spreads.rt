@@ -29,7 +29,9 @@ fn is_found(found: Found) -> bool
 fn half_listed(list: &[u8], segment: usize, half: &[u8]) -> bool
     ensures { λ r. ⌜ r ≡ isFound (placeIn (now (list .entry)) segment (now (half .entry))) ⌝ }
 {
-    is_found(lookup::place_of(list, CONTRACTS, segment, half))
+    let sought = lookup::place_of(list, CONTRACTS, segment, half);
+    let found = sought.found;
+    is_found(found)
 }
 
 // The halves of a pair are two contracts' keys.

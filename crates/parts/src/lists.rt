@@ -41,11 +41,14 @@ pub fn say_no_spreads(list: &[u8], room: &mut [u8]) {
 }
 
 fn say_place(list: &[u8], habit: Habit, segment: usize, key: &[u8]) {
+    let sought = lookup::place_of(list, habit, segment, key);
+    let found = sought.found;
     say_with(b"segment ", segment as u64);
-    match lookup::place_of(list, habit, segment, key) {
+    match found {
         Found::Nowhere => say(b" nowhere"),
         Found::At(place) => say_with(b" place ", place as u64),
     }
+    say_with(b" compared ", sought.compared as u64);
 }
 
 // What is asked has a letter, a key of the habit's size and the list.

@@ -72,7 +72,9 @@ fn find_record(
 {
     match state::check_segment(list, spreads, rows, records, letter) {
         Asked::Segment(segment) => {
-            match message::find(list, spreads, item, Found::At(segment), key) {
+            let sought = message::find(list, spreads, item, Found::At(segment), key);
+            let found = sought.found;
+            match found {
                 Found::At(place) => {
                     let fronts = slots::fronts_of(list, spreads, segment);
                     Place::At(slots::record_at(fronts, item, place, level))

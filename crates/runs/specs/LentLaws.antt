@@ -3,7 +3,7 @@ use Prim.Native.Nat.{ℕ, min, _≤_, _<_}
 use mathlib.Core.Path.{_≡_, refl, ap, ap₂, sym, _∙_, subst}
 use mathlib.Core.Bool.{true, false}
 use mathlib.Core.Logic.{⊎-elim}
-use mathlib.Core.List.{List, _++_, append-nil}
+use mathlib.Core.List.{List, [], _∷_, _++_, append-nil}
 use native.Mathlib.Omega.{arith}
 use lib.ListN.{length, take, drop, length-take}
 use lib.Seq.{take-all, take-at, length-take-le}
@@ -78,8 +78,8 @@ module _ (rows : List Run) where
       (whole P more (flat rows) (flat (lent rows runs)) (subst (λ (l : List ℕ). P l (flat (lent rows runs))) lent-numbers p))
 
   -- 15 for gap rows names as many runs
-  pub lent-told : (lists : Lists) (numbers : List ℕ) → (headerSound (lists .contracts) ≡ false → numbers ≡ refusalNumbers ListOf) → inRuns (lists .contracts) (length (lent rows (array rows))) numbers ≡ inRuns (lists .contracts) (length rows) numbers
-  lent-told lists numbers unlisted =
+  pub lent-told : (lists : Lists) (numbers behind : List ℕ) → (headerSound (lists .contracts) ≡ false → numbers ≡ refusalNumbers ListOf ++ behind) → inRuns (lists .contracts) (length (lent rows (array rows))) numbers ≡ inRuns (lists .contracts) (length rows) numbers
+  lent-told lists numbers behind unlisted =
       ⊎-elim
       (λ (h : length rows ≤ 132). ap (λ (n : ℕ). inRuns (lists .contracts) n numbers) (ap length lent-rows ∙ ap length (take-all 132 rows h)))
       (λ (h : 132 < length rows).
@@ -90,7 +90,7 @@ module _ (rows : List Run) where
       in-runs-enough (lists .contracts) (length (lent rows (array rows))) numbers (omega (arith, long, few)) ∙ sym (in-runs-enough (lists .contracts) (length rows) numbers (omega (arith, few))))
       (λ (g : headerSound (lists .contracts) ≡ false).
       let other : (n : ℕ) → inRuns (lists .contracts) n numbers ≡ numbers =
-      λ n. ap (inRuns (lists .contracts) n) (unlisted g) ∙ in-runs-other (lists .contracts) n (refusalNumbers ListOf) (cc) ∙ sym (unlisted g) in
+      λ n. ap (inRuns (lists .contracts) n) (unlisted g) ∙ in-runs-other (lists .contracts) n (refusalNumbers ListOf ++ behind) refl ∙ sym (unlisted g) in
       other (length (lent rows (array rows))) ∙ sym (other (length rows)))
       (either (headerSound (lists .contracts))))
       (order (length rows) 132)
@@ -106,57 +106,57 @@ module _ (lists : Lists) (rows : List Run) where
   abbrev front : List Run
   front = lent rows (array rows)
 
-  -- a promise that looks at the numbers lent and no further, by an answer that without a list is 16
-  lent-over : {A : Type 0} (numbersOf : A → List ℕ) (promise : List ℕ → List ℕ → A → Type 0) → ((a z a′ : List ℕ) (core : A) → most ≤ length a → promise a a′ core → promise (a ++ z) (a′ ++ z) core)
-      → ((a a′ : List ℕ) (core : A) → headerSound (lists .contracts) ≡ false → promise a a′ core → numbersOf core ≡ refusalNumbers ListOf)
+  -- a promise that looks at the numbers lent and no further, by an answer that without a list is 16, with so much behind it
+  lent-over : {A : Type 0} (numbersOf : A → List ℕ) (behind : List ℕ) (promise : List ℕ → List ℕ → A → Type 0) → ((a z a′ : List ℕ) (core : A) → most ≤ length a → promise a a′ core → promise (a ++ z) (a′ ++ z) core)
+      → ((a a′ : List ℕ) (core : A) → headerSound (lists .contracts) ≡ false → promise a a′ core → numbersOf core ≡ refusalNumbers ListOf ++ behind)
       → (runs : List Run) → length runs ≡ 132 → (answer : A) → Over numbersOf (lists .contracts) front (lent rows runs) promise answer → Over numbersOf (lists .contracts) rows (over runs rows) promise answer
-  lent-over numbersOf promise more unlisted runs long answer p = record {
+  lent-over numbersOf behind promise more unlisted runs long answer p = record {
     core = p .core;
     promised = lent-whole rows (λ a b. promise a b (p .core)) (λ a z a′ room q. more a z a′ (p .core) room q) runs long (p .promised);
-    answers = p .answers ∙ lent-told rows lists (numbersOf (p .core)) (λ h. unlisted (flat front) (flat (lent rows runs)) (p .core) h (p .promised));
+    answers = p .answers ∙ lent-told rows lists (numbersOf (p .core)) behind (λ h. unlisted (flat front) (flat (lent rows runs)) (p .core) h (p .promised));
   }
 
   -- and that says nothing of numbers left
-  seen-over : {A : Type 0} (numbersOf : A → List ℕ) (promise : List ℕ → A → Type 0) → ((a z : List ℕ) (core : A) → most ≤ length a → promise a core → promise (a ++ z) core)
-      → ((a : List ℕ) (core : A) → headerSound (lists .contracts) ≡ false → promise a core → numbersOf core ≡ refusalNumbers ListOf)
+  seen-over : {A : Type 0} (numbersOf : A → List ℕ) (behind : List ℕ) (promise : List ℕ → A → Type 0) → ((a z : List ℕ) (core : A) → most ≤ length a → promise a core → promise (a ++ z) core)
+      → ((a : List ℕ) (core : A) → headerSound (lists .contracts) ≡ false → promise a core → numbersOf core ≡ refusalNumbers ListOf ++ behind)
       → (answer : A) → Over numbersOf (lists .contracts) front front (λ a b core. promise a core) answer → Over numbersOf (lists .contracts) rows rows (λ a b core. promise a core) answer
-  seen-over numbersOf promise more unlisted answer p = record {
+  seen-over numbersOf behind promise more unlisted answer p = record {
     core = p .core;
     promised = lent-seen rows (λ a. promise a (p .core)) (λ a z room q. more a z (p .core) room q) (p .promised);
-    answers = p .answers ∙ lent-told rows lists (numbersOf (p .core)) (λ h. unlisted (flat front) (p .core) h (p .promised));
+    answers = p .answers ∙ lent-told rows lists (numbersOf (p .core)) behind (λ h. unlisted (flat front) (p .core) h (p .promised));
   }
 
   module _ (records : List ℕ) where
     pub started-runs : (starts : List ℕ) (answer : Started) (runs : List Run) (records′ : List ℕ) → length runs ≡ 132
         → StartedRuns lists starts front records answer (lent rows runs) records′ → StartedRuns lists starts rows records answer (over runs rows) records′
     started-runs starts answer runs records′ long =
-        lent-over startedNumbers (λ ns ns′ core. StartedBox (lends lists ns records) starts core (lends lists ns′ records′)) (λ a z a′ core room q. started-front (lends lists a records) z room starts core q)
+        lent-over startedNumbers [] (λ ns ns′ core. StartedBox (lends lists ns records) starts core (lends lists ns′ records′)) (λ a z a′ core room q. started-front (lends lists a records) z room starts core q)
         (λ a a′ core h q. started-unlisted (lends lists a records) h starts core q) runs long answer
 
     pub judged-runs : (batch : List ℕ) (answer : Judged) → JudgedRuns lists front records batch answer → JudgedRuns lists rows records batch answer
     judged-runs batch answer =
-        seen-over judgedNumbers (λ ns core. JudgedBatch (lends lists ns records) batch core) (λ a z core room q. judged-front (lends lists a records) z room batch core q)
+        seen-over judgedNumbers (0 ∷ []) (λ ns core. JudgedBatch (lends lists ns records) batch core) (λ a z core room q. judged-front (lends lists a records) z room batch core q)
         (λ a core h q. judged-unlisted (lends lists a records) h batch core q) answer
 
     pub took-runs : (batch : List ℕ) (answer : Judged) (runs : List Run) (records′ : List ℕ) → length runs ≡ 132
         → TookRuns lists front records batch answer (lent rows runs) records′ → TookRuns lists rows records batch answer (over runs rows) records′
     took-runs batch answer runs records′ long =
-        lent-over judgedNumbers (λ ns ns′ core. TookBatch (lends lists ns records) batch core (lends lists ns′ records′)) (λ a z a′ core room q. took-front (lends lists a records) z room batch core q)
+        lent-over judgedNumbers (0 ∷ []) (λ ns ns′ core. TookBatch (lends lists ns records) batch core (lends lists ns′ records′)) (λ a z a′ core room q. took-front (lends lists a records) z room batch core q)
         (λ a a′ core h q. judged-unlisted (lends lists a records) h batch core (record { answers = q .answers })) runs long answer
 
     module _ (letter : ℕ) where
       pub listed-gaps : (cells : List ℕ) (answer : Listed) (cells′ : List ℕ) → ListedGaps lists front records letter cells answer cells′ → ListedGaps lists rows records letter cells answer cells′
       listed-gaps cells answer cells′ =
-          seen-over listedNumbers (λ ns core. ListedRuns (lends lists ns records) letter cells core cells′) (λ a z core room q. listed-front (lends lists a records) z room letter core q)
+          seen-over listedNumbers [] (λ ns core. ListedRuns (lends lists ns records) letter cells core cells′) (λ a z core room q. listed-front (lends lists a records) z room letter core q)
           (λ a core h q. listed-unlisted (lends lists a records) h letter core q) answer
 
       pub wrote-off-runs : (answer : WrittenOff) (runs : List Run) → length runs ≡ 132 → WroteOffRuns lists front records letter answer (lent rows runs) → WroteOffRuns lists rows records letter answer (over runs rows)
       wrote-off-runs answer runs long =
-          lent-over writtenOffNumbers (λ ns ns′ core. WroteOffRun (lends lists ns records) letter core (lends lists ns′ records)) (λ a z a′ core room q. wrote-front (lends lists a records) z room letter core q)
+          lent-over writtenOffNumbers [] (λ ns ns′ core. WroteOffRun (lends lists ns records) letter core (lends lists ns′ records)) (λ a z a′ core room q. wrote-front (lends lists a records) z room letter core q)
           (λ a a′ core h q. wrote-unlisted (lends lists a records) h letter core q) runs long answer
 
       pub read-runs : {A : Type 0} {show : Form → List ℕ → A} {blank quote : A} {item : Item} (key : List ℕ) (level : Level) (answer : Recorded)
           → ReadsRuns show blank item lists front records letter key level answer quote → ReadsRuns show blank item lists rows records letter key level answer quote
       read-runs {show = show} {blank} {quote} {item} key level answer =
-          seen-over recordedNumbers (λ ns core. ReadsFor show blank item (lends lists ns records) letter key level core quote)
+          seen-over recordedNumbers [] (λ ns core. ReadsFor show blank item (lends lists ns records) letter key level core quote)
           (λ a z core room q. read-front (lends lists a records) z room letter core q) (λ a core h q. read-unlisted (lends lists a records) h letter core q) answer

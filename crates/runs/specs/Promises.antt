@@ -3,7 +3,7 @@
 use Prim.Native.Nat.{ℕ}
 use mathlib.Core.Path.{_≡_}
 use mathlib.Core.Bool.{true}
-use mathlib.Core.List.{List}
+use mathlib.Core.List.{List, [], _∷_}
 use lib.ListN.{length}
 use Rattle.files.specs.File.{segmentsOf}
 use Rattle.contracts.specs.SoundTests.{headerSound, sound}
@@ -78,13 +78,14 @@ ReadSpreadRuns lists rows records letter pair level reading = ReadsRuns spreadQu
 abbrev pub HeadersPass : Lists → Type 0
 HeadersPass lists = (headerSound (lists .contracts) ≡ true) × (spreadHeaderSound (lists .contracts) (lists .pairs) ≡ true)
 
--- 01, the order of checks: a call on these runs that no rule before 15 refuses, and the numbers of its answer
-pub data UpToMemory (lists : Lists) (rows : List Run) : List ℕ → Type 0 where
+-- 01, the order of checks: a call on these runs that no rule before 15 refuses, the numbers of its answer, and those that stand behind a
+-- refusal by 15; M-102: of a batch that no key was compared
+pub data UpToMemory (lists : Lists) (rows : List Run) : List ℕ → List ℕ → Type 0 where
   starts : {starts records records′ : List ℕ} {rows′ : List Run} {answer : Started} → sound (lists .contracts) ≡ true → spreadsSound (lists .contracts) (lists .pairs) ≡ true
-      → eachStarts (segmentsOf (lists .contracts)) starts ≡ true → StartedRuns lists starts rows records answer rows′ records′ → UpToMemory lists rows (startedNumbers answer)
-  judges : {records batch : List ℕ} {answer : Judged} → HeadersPass lists → JudgedRuns lists rows records batch answer → UpToMemory lists rows (judgedNumbers answer)
-  takes : {records batch records′ : List ℕ} {rows′ : List Run} {answer : Judged} → HeadersPass lists → TookRuns lists rows records batch answer rows′ records′ → UpToMemory lists rows (judgedNumbers answer)
-  lists-gaps : {records cells cells′ : List ℕ} {letter : ℕ} {answer : Listed} → HeadersPass lists → ListedGaps lists rows records letter cells answer cells′ → UpToMemory lists rows (listedNumbers answer)
-  writes-off : {records : List ℕ} {letter : ℕ} {rows′ : List Run} {answer : WrittenOff} → HeadersPass lists → WroteOffRuns lists rows records letter answer rows′ → UpToMemory lists rows (writtenOffNumbers answer)
+      → eachStarts (segmentsOf (lists .contracts)) starts ≡ true → StartedRuns lists starts rows records answer rows′ records′ → UpToMemory lists rows (startedNumbers answer) []
+  judges : {records batch : List ℕ} {answer : Judged} → HeadersPass lists → JudgedRuns lists rows records batch answer → UpToMemory lists rows (judgedNumbers answer) (0 ∷ [])
+  takes : {records batch records′ : List ℕ} {rows′ : List Run} {answer : Judged} → HeadersPass lists → TookRuns lists rows records batch answer rows′ records′ → UpToMemory lists rows (judgedNumbers answer) (0 ∷ [])
+  lists-gaps : {records cells cells′ : List ℕ} {letter : ℕ} {answer : Listed} → HeadersPass lists → ListedGaps lists rows records letter cells answer cells′ → UpToMemory lists rows (listedNumbers answer) []
+  writes-off : {records : List ℕ} {letter : ℕ} {rows′ : List Run} {answer : WrittenOff} → HeadersPass lists → WroteOffRuns lists rows records letter answer rows′ → UpToMemory lists rows (writtenOffNumbers answer) []
   reads : {item : Item} {quote : QuoteFor item} {records key : List ℕ} {letter : ℕ} {level : Level} {answer : Recorded} → HeadersPass lists
-      → ReadsRuns (shown item) (blankFor item) item lists rows records letter key level answer quote → UpToMemory lists rows (recordedNumbers answer)
+      → ReadsRuns (shown item) (blankFor item) item lists rows records letter key level answer quote → UpToMemory lists rows (recordedNumbers answer) []

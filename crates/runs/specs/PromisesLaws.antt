@@ -2,12 +2,12 @@
 -- answer of the call over numbers, so that what is known of that call is known of this one.
 use Prim.Native.Nat.{ℕ, _*_, _≤_, _<_}
 use mathlib.Core.Path.{_≡_, refl, ap, sym, _∙_, subst}
-use mathlib.Core.Bool.{Bool, true, false, cond, _&&_, true≢false}
+use mathlib.Core.Bool.{true, false}
 use mathlib.Core.List.{List, [], _∷_, _++_}
 use mathlib.Core.Option.{Option, none, some}
 use native.Mathlib.Omega.{arith}
 use borrow.Author.Tests.{lt-leb}
-use lib.Dec.{ltb, eqb}
+use lib.Dec.{eqb}
 use lib.ListN.{length, getD}
 use Rattle.laws.specs.Rules.{firstBroken}
 use Rattle.laws.specs.RulesLaws.{unlike, front-broken}
@@ -24,9 +24,8 @@ use Rattle.pairs.specs.Lists.{Lists}
 use Rattle.state.specs.declared.refusal.Refusal.{Refusal}
 use Rattle.state.specs.declared.refusal.Refusal.the-variants.{Memory}
 use Rattle.state.specs.Answers.{startedNumbers, judgedNumbers, listedNumbers, writtenOffNumbers, recordedNumbers, answered}
-use Rattle.turns.specs.Turns.{actedNumbers}
 use Rattle.batch.specs.Batch.{batchRules}
-use Rattle.batch.specs.Acts.{batchActs}
+use Rattle.batch.specs.Acts.{batchNumbers}
 use Rattle.state.specs.AnswersLaws.{started-told, judged-told, listed-told, written-off-told, recorded-told, refused-by}
 use Rattle.listing.specs.ListRules.{listRules, writeOffRules}
 use Rattle.reading.specs.ReadRules.{recordRules}
@@ -40,13 +39,15 @@ use Rattle.state.specs.Memory.{Lent, lends, gapRowsWanted}
 use Rattle.state.specs.State.{stateRules, memoryRules, segmentRules}
 use Rattle.batch.specs.Promises.{JudgedBatch, TookBatch}
 use Rattle.state.specs.Refusals.{Rule, refusalNumbers}
+use Rattle.state.specs.RefusalsLaws.{never-behind}
 use Rattle.starting.specs.StartLaws.{memory-decides}
 use Rattle.state.specs.StateLaws.{state-broken}
 use Rattle.batch.specs.TookLaws.{one-judged, one-took, refused-keeps}
 use Rattle.runs.specs.declared.run.Run.{Run}
 use Rattle.runs.specs.Rows.{flat, runsWanted, inRuns}
-use Rattle.runs.specs.RowsLaws.{in-runs-short, in-runs-enough, in-runs-other}
+use Rattle.runs.specs.RowsLaws.{in-runs-short, in-runs-enough, in-runs-other, in-runs-first}
 use Rattle.runs.specs.FlatLaws.{length-flat, flat-told}
+use Rattle.batch.specs.BatchLaws.{front-numbers}
 use Rattle.runs.specs.Promises.{Over, StartedRuns, JudgedRuns, TookRuns, ListedGaps, WroteOffRuns, ReadsRuns, HeadersPass, UpToMemory}
 
 -- ---- one outcome
@@ -95,12 +96,9 @@ one-read-runs {lists = lists} {rows = rows} a b p q =
 
 -- an answer that isn't 15
 told-other : (lists : Lists) (lent : ℕ) (numbers told : List ℕ) → told ≡ inRuns (lists .contracts) lent numbers → eqb (getD told 0 0) 15 ≡ false → told ≡ numbers
-unfolding inRuns
-told-other lists lent numbers told e n = go (eqb (getD numbers 0 0) 15 && ltb lent (runsWanted (lists .contracts))) e
-  where
-    go : (t : Bool) → told ≡ cond t (refusalNumbers (Memory (runsWanted (lists .contracts)))) numbers → told ≡ numbers
-    go true f = absurd (true≢false (sym (ap (λ (l : List ℕ). eqb (getD l 0 0) 15) f) ∙ n))
-    go false f = f
+told-other lists lent numbers told e n =
+    let first = ap (λ (l : List ℕ). getD l 0 0) e ∙ in-runs-first (lists .contracts) lent numbers in
+    e ∙ in-runs-other (lists .contracts) lent numbers (ap (λ (k : ℕ). eqb k 15) (sym first) ∙ n)
 
 -- where the rows wanted are lent, as after every accepted start, it is the answer of the call over numbers
 module _ (lists : Lists) (rows : List Run) (enough : runsWanted (lists .contracts) ≤ length rows) where
@@ -147,12 +145,13 @@ started-refused {lists} {starts} {records} {records′} {rows} {rows′} r p = g
     go Started.Started q e = absurd (unlike (sym (accepted-never lists (length rows) r [] e)))
     go (Started.Refused s) q e = left-told rows′ rows (start-refusal s q .1)
 
-pub took-refused : {lists : Lists} {records batch records′ : List ℕ} {rows rows′ : List Run} (r : Refusal) → TookRuns lists rows records batch (Judged.Refused r) rows′ records′ → (rows′ ≡ rows) × (records′ ≡ records)
-took-refused {lists} {records} {batch} {records′} {rows} {rows′} r p = go (p .core) (p .promised) (p .answers)
+pub took-refused : {lists : Lists} {records batch records′ : List ℕ} {rows rows′ : List Run} (r : Refusal) {compared : ℕ} → TookRuns lists rows records batch (Judged.Refused r compared) rows′ records′ → (rows′ ≡ rows) × (records′ ≡ records)
+took-refused {lists} {records} {batch} {records′} {rows} {rows′} r {compared} p = go (p .core) (p .promised) (p .answers)
   where
-    go : (core : Judged) → TookBatch (lends lists (flat rows) records) batch core (lends lists (flat rows′) records′) → refusalNumbers r ≡ inRuns (lists .contracts) (length rows) (judgedNumbers core) → (rows′ ≡ rows) × (records′ ≡ records)
-    go (Judged.Accepted taken old heartbeats) q e = absurd (unlike (sym (accepted-never lists (length rows) r (taken ∷ old ∷ heartbeats ∷ []) e)))
-    go (Judged.Refused s) q e = left-told rows′ rows (refused-keeps (lends lists (flat rows) records) batch s (lends lists (flat rows′) records′) q)
+    go : (core : Judged) → TookBatch (lends lists (flat rows) records) batch core (lends lists (flat rows′) records′) → judgedNumbers (Judged.Refused r compared) ≡ inRuns (lists .contracts) (length rows) (judgedNumbers core) → (rows′ ≡ rows) × (records′ ≡ records)
+    go (Judged.Accepted taken old heartbeats keys) q e =
+        absurd (never-behind r (compared ∷ []) _ (e ∙ in-runs-other (lists .contracts) (length rows) (judgedNumbers (Judged.Accepted taken old heartbeats keys)) refl))
+    go (Judged.Refused s keys) q e = left-told rows′ rows (refused-keeps (lends lists (flat rows) records) batch s (lends lists (flat rows′) records′) q)
 
 pub listed-refused : {lists : Lists} {records cells cells′ : List ℕ} {rows : List Run} {letter : ℕ} (r : Refusal) → ListedGaps lists rows records letter cells (Listed.Refused r) cells′ → cells′ ≡ cells
 listed-refused {lists} {records} {cells} {cells′} {rows} {letter} r p = go (p .core) (p .promised) (p .answers)
@@ -171,8 +170,9 @@ wrote-off-refused {lists} {records} {rows} {rows′} {letter} r p = go (p .core)
 -- ---- too few runs
 
 module _ (lists : Lists) (rows : List Run) (short : length rows < runsWanted (lists .contracts)) where
-  told-short : {told numbers : List ℕ} → told ≡ inRuns (lists .contracts) (length rows) numbers → numbers ≡ refusalNumbers (Memory (gapRowsWanted lists)) → told ≡ refusalNumbers (Memory (runsWanted (lists .contracts)))
-  told-short e n = e ∙ ap (inRuns (lists .contracts) (length rows)) n ∙ in-runs-short (lists .contracts) (length rows) (gapRowsWanted lists) short
+  told-short : {told numbers : List ℕ} (behind : List ℕ) → told ≡ inRuns (lists .contracts) (length rows) numbers → numbers ≡ refusalNumbers (Memory (gapRowsWanted lists)) ++ behind
+      → told ≡ refusalNumbers (Memory (runsWanted (lists .contracts))) ++ behind
+  told-short behind e n = e ∙ ap (inRuns (lists .contracts) (length rows)) n ∙ in-runs-short (lists .contracts) (length rows) (gapRowsWanted lists) behind short
 
   few : length (flat rows) < gapRowsWanted lists
   few = omega (arith, length-flat rows)
@@ -184,9 +184,10 @@ module _ (lists : Lists) (rows : List Run) (short : length rows < runsWanted (li
     state-short : firstBroken (stateRules (lends lists (flat rows) records)) ≡ some (Memory (gapRowsWanted lists))
     state-short = rw (headers .0, headers .1, lt-leb (gapRowsWanted lists) (length (flat rows)) few)
 
-    acts-short : (batch : List ℕ) → actedNumbers (batchActs (lends lists (flat rows) records) batch) ≡ refusalNumbers (Memory (gapRowsWanted lists))
-    unfolding batchActs
-    acts-short batch = rw (front-broken (stateRules (lends lists (flat rows) records)) (batchRules batch) (Memory (gapRowsWanted lists)) state-short)
+    batch-short : (batch : List ℕ) → batchNumbers (lends lists (flat rows) records) batch ≡ refusalNumbers (Memory (gapRowsWanted lists)) ++ (0 ∷ [])
+    batch-short batch =
+        front-numbers (lends lists (flat rows) records) batch (Memory (gapRowsWanted lists))
+        (front-broken (stateRules (lends lists (flat rows) records)) (batchRules batch) (Memory (gapRowsWanted lists)) state-short)
 
     answered-short : (letter : ℕ) (more : List Rule) (values : List ℕ) → answered (firstBroken (segmentRules (lends lists (flat rows) records) letter ++ more)) values ≡ refusalNumbers (Memory (gapRowsWanted lists))
     answered-short letter more values =
@@ -194,12 +195,13 @@ module _ (lists : Lists) (rows : List Run) (short : length rows < runsWanted (li
         (front-broken (segmentRules (lends lists (flat rows) records) letter) more (Memory (gapRowsWanted lists)) (state-broken (lends lists (flat rows) records) letter (Memory (gapRowsWanted lists)) state-short))
 
 -- 01, the table's row 15: too few runs lent are answered with the runs wanted, 66 for each listed segment
-pub too-few-runs : {lists : Lists} {numbers : List ℕ} {rows : List Run} → UpToMemory lists rows numbers → length rows < 66 * segmentsOf (lists .contracts) → numbers ≡ 15 ∷ 0 ∷ 0 ∷ 66 * segmentsOf (lists .contracts) ∷ []
+pub too-few-runs : {lists : Lists} {numbers behind : List ℕ} {rows : List Run} → UpToMemory lists rows numbers behind → length rows < 66 * segmentsOf (lists .contracts)
+    → numbers ≡ 15 ∷ 0 ∷ 0 ∷ 66 * segmentsOf (lists .contracts) ∷ behind
 unfolding listRules writeOffRules recordRules
 too-few-runs {lists} {rows = rows} (UpToMemory.starts {starts} {records} s pairs n p) h =
-    told-short lists rows h (p .answers) (p .promised .answers ∙ ap (λ (o : Option Refusal). answered o []) (memory-decides lists starts (length (flat rows)) (length records) s pairs n ∙ memory-short lists rows h (length records)))
-too-few-runs {lists} {rows = rows} (UpToMemory.judges {records} {batch} s p) h = told-short lists rows h (p .answers) (p .promised .answers ∙ acts-short lists rows h s records batch)
-too-few-runs {lists} {rows = rows} (UpToMemory.takes {records} {batch} s p) h = told-short lists rows h (p .answers) (p .promised .answers ∙ acts-short lists rows h s records batch)
-too-few-runs {lists} {rows = rows} (UpToMemory.lists-gaps {records} {letter = letter} s p) h = told-short lists rows h (p .answers) (p .promised .answers ∙ answered-short lists rows h s records letter _ _)
-too-few-runs {lists} {rows = rows} (UpToMemory.writes-off {records} {letter} s p) h = told-short lists rows h (p .answers) (p .promised .answers ∙ answered-short lists rows h s records letter _ _)
-too-few-runs {lists} {rows = rows} (UpToMemory.reads {records = records} {letter = letter} s p) h = told-short lists rows h (p .answers) (p .promised .answers ∙ answered-short lists rows h s records letter _ _)
+    told-short lists rows h [] (p .answers) (p .promised .answers ∙ ap (λ (o : Option Refusal). answered o []) (memory-decides lists starts (length (flat rows)) (length records) s pairs n ∙ memory-short lists rows h (length records)))
+too-few-runs {lists} {rows = rows} (UpToMemory.judges {records} {batch} s p) h = told-short lists rows h (0 ∷ []) (p .answers) (p .promised .answers ∙ batch-short lists rows h s records batch)
+too-few-runs {lists} {rows = rows} (UpToMemory.takes {records} {batch} s p) h = told-short lists rows h (0 ∷ []) (p .answers) (p .promised .answers ∙ batch-short lists rows h s records batch)
+too-few-runs {lists} {rows = rows} (UpToMemory.lists-gaps {records} {letter = letter} s p) h = told-short lists rows h [] (p .answers) (p .promised .answers ∙ answered-short lists rows h s records letter _ _)
+too-few-runs {lists} {rows = rows} (UpToMemory.writes-off {records} {letter} s p) h = told-short lists rows h [] (p .answers) (p .promised .answers ∙ answered-short lists rows h s records letter _ _)
+too-few-runs {lists} {rows = rows} (UpToMemory.reads {records = records} {letter = letter} s p) h = told-short lists rows h [] (p .answers) (p .promised .answers ∙ answered-short lists rows h s records letter _ _)

@@ -3,10 +3,8 @@ use Prim.Native.Nat.{ℕ, _*_}
 use mathlib.Core.Bool.{cond, _&&_}
 use mathlib.Core.List.{List, [], _∷_}
 use lib.Dec.{ltb, eqb}
-use lib.ListN.{length, getD, take, replicate}
+use lib.ListN.{length, getD, set, take, replicate}
 use Rattle.files.specs.File.{segmentsOf}
-use Rattle.state.specs.declared.refusal.Refusal.the-variants.{Memory}
-use Rattle.state.specs.Refusals.{refusalNumbers}
 use Rattle.runs.specs.declared.run.Run.{Run}
 
 -- 01 "Sequence and gaps", "each a first and a last number": the row seen as numbers, those of each run in turn
@@ -48,7 +46,7 @@ rowRuns = 66
 abbrev pub runsWanted : List ℕ → ℕ
 runsWanted list = rowRuns * segmentsOf list
 
--- 01, the table's row 15: an answer's numbers where so many runs are lent; 15 for gap rows names the runs wanted
+-- 01, the table's row 15: an answer's numbers where so many runs are lent; 15 for gap rows names the runs wanted, as its fourth number
 unfoldable pub inRuns : List ℕ → ℕ → List ℕ → List ℕ
 inRuns list runs numbers =
-    cond (eqb (getD numbers 0 0) 15 && ltb runs (runsWanted list)) (refusalNumbers (Memory (runsWanted list))) numbers
+    cond (eqb (getD numbers 0 0) 15 && ltb runs (runsWanted list)) (set numbers 3 (runsWanted list)) numbers

@@ -35,9 +35,11 @@ use Rattle.pairs.specs.Lists.{Lists}
 use Rattle.state.specs.declared.refusal.Refusal.{Refusal}
 use Rattle.state.specs.declared.refusal.Refusal.the-variants.{Code, Contract, Memory, NoGap, List as ListOf}
 use Rattle.state.specs.Answers.{startedNumbers, judgedNumbers, listedNumbers, writtenOffNumbers, recordedNumbers, answered, leftBy}
-use Rattle.turns.specs.Turns.{Acted, acted, refused, messagesAct, actedNumbers}
+use Rattle.turns.specs.Compared.{countedNumbers}
+use Rattle.turns.specs.Turns.{Acted, acted, refused, messagesAct}
 use Rattle.batch.specs.Batch.{batchRules, batchLetter, countOf, batchData}
-use Rattle.batch.specs.Acts.{unlessBroken, batchActs, lentAfter}
+use Rattle.batch.specs.Acts.{unlessBroken, batchActs, batchCompared, batchNumbers, lentAfter}
+use Rattle.batch.specs.BatchLaws.{rule-refuses, front-numbers}
 use Rattle.state.specs.Memory.{Lent, lends, gapRowOfLetter, gapRowsWanted}
 use Rattle.state.specs.MemoryRows.{withGapRowOfLetter}
 use Rattle.listing.specs.ListActs.{listValues, runsPut, runValues, lowestRun, lentWrittenOff}
@@ -50,7 +52,7 @@ use Rattle.reading.specs.Record.{recordOfKey, recordNumber, recordValues, quote
 use Rattle.batch.specs.Promises.{JudgedBatch, TookBatch}
 use Rattle.starting.specs.Start.{startRules}
 use Rattle.starting.specs.StartActs.{startBroken, startedRows, rowsStarted, recordsCleared, lentStarted}
-use Rattle.state.specs.State.{segmentRules}
+use Rattle.state.specs.State.{stateRules, segmentRules}
 use Rattle.state.specs.Refusals.{Rule, refusalNumbers}
 use Rattle.runs.specs.Rows.{most}
 use Rattle.runs.specs.FrontLaws.{longer, rows-within, rows-lent, state-front, letter-front, with-front}
@@ -73,12 +75,14 @@ heads {A} list bad good =
 -- ---- where it isn't, every call answers 16, whatever rule stands behind
 
 module _ (lent : Lent) (h : headerSound (lent .lists .contracts) ≡ false) where
-  acts-unlisted : (batch : List ℕ) → batchActs lent batch ≡ refused ListOf
-  unfolding batchActs
-  acts-unlisted batch = rw h
+  batch-unlisted : (batch : List ℕ) → firstBroken (stateRules lent ++ batchRules batch) ≡ some ListOf
+  batch-unlisted batch = rw h
 
-  pub judged-unlisted : (batch : List ℕ) (answer : Judged) → JudgedBatch lent batch answer → judgedNumbers answer ≡ refusalNumbers ListOf
-  judged-unlisted batch answer p = p .answers ∙ ap actedNumbers (acts-unlisted batch)
+  acts-unlisted : (batch : List ℕ) → batchActs lent batch ≡ refused ListOf
+  acts-unlisted batch = rule-refuses lent batch ListOf (batch-unlisted batch)
+
+  pub judged-unlisted : (batch : List ℕ) (answer : Judged) → JudgedBatch lent batch answer → judgedNumbers answer ≡ refusalNumbers ListOf ++ (0 ∷ [])
+  judged-unlisted batch answer p = p .answers ∙ front-numbers lent batch ListOf (batch-unlisted batch)
 
   start-unlisted : (starts : List ℕ) → startBroken lent starts ≡ some ListOf
   unfolding startRules
@@ -145,12 +149,15 @@ module _ (lent : Lent) (z : List ℕ) (room : most ≤ length (lent .rows)) wher
         go header (acted box) = ap (λ (rows : List ℕ). lends lists rows (box .records)) (with-front lent z room header (batchLetter batch) (box .row))
         go header (refused refusal) = refl
 
+    numbers-front : batchNumbers lent batch ≡ batchNumbers all batch
+    numbers-front = ap (λ (acts : Acted). countedNumbers acts (batchCompared lists batch acts)) (sym acts-front)
+
     pub judged-front : (answer : Judged) → JudgedBatch lent batch answer → JudgedBatch all batch answer
-    judged-front answer p = record { answers = p .answers ∙ ap actedNumbers (sym acts-front) }
+    judged-front answer p = record { answers = p .answers ∙ numbers-front }
 
     pub took-front : {lent′ : Lent} (answer : Judged) → TookBatch lent batch answer lent′ → TookBatch all batch answer (longer z lent′)
     took-front answer p = record {
-      answers = p .answers ∙ ap actedNumbers (sym acts-front);
+      answers = p .answers ∙ numbers-front;
       left = ap (longer z) (p .left) ∙ sym acted-left ∙ ap (lentAfter all (batchLetter batch)) (sym acts-front);
     }
 

@@ -38,8 +38,12 @@ pub(crate) fn judged(list: &[u8], lent: usize, answer: Judged) -> Judged
     ensures { λ r. ⌜ judgedNumbers r ≡ inRuns (now (list .entry)) lent (judgedNumbers answer) ⌝ }
 {
     match answer {
-        Judged::Accepted(taken, old, heartbeats) => Judged::Accepted(taken, old, heartbeats),
-        Judged::Refused(refusal) => Judged::Refused(in_runs(list, lent, refusal)),
+        Judged::Accepted(taken, old, heartbeats, compared) => {
+            Judged::Accepted(taken, old, heartbeats, compared)
+        }
+        Judged::Refused(refusal, compared) => {
+            Judged::Refused(in_runs(list, lent, refusal), compared)
+        }
     }
 }
 

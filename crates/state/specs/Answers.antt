@@ -1,7 +1,7 @@
 -- The answers of the public calls, and of the checks before them, by document 01's numbers: 0 and the values of what is
 -- accepted, or a refusal's.
 use Prim.Native.Nat.{ℕ}
-use mathlib.Core.List.{List, [], _∷_}
+use mathlib.Core.List.{List, [], _∷_, _++_}
 use mathlib.Core.Option.{Option, none, some}
 use Rattle.state.specs.declared.refusal.Refusal.{Refusal}
 use Rattle.state.specs.declared.answers.Started.{Started}
@@ -19,10 +19,11 @@ abbrev pub startedNumbers : Started → List ℕ
 startedNumbers Started.Started = 0 ∷ []
 startedNumbers (Started.Refused refusal) = refusalNumbers refusal
 
--- 01 "What may be asked": an accepted batch answers how many messages were taken, old and heartbeats
+-- 01 "What may be asked": an accepted batch answers how many messages were taken, old and heartbeats; M-102: and then how many keys
+-- its lookups compared, behind a refusal too
 abbrev pub judgedNumbers : Judged → List ℕ
-judgedNumbers (Judged.Accepted taken old heartbeats) = 0 ∷ taken ∷ old ∷ heartbeats ∷ []
-judgedNumbers (Judged.Refused refusal) = refusalNumbers refusal
+judgedNumbers (Judged.Accepted taken old heartbeats compared) = 0 ∷ taken ∷ old ∷ heartbeats ∷ compared ∷ []
+judgedNumbers (Judged.Refused refusal compared) = refusalNumbers refusal ++ (compared ∷ [])
 
 -- 01 "What may be asked": list gaps answers highest and the number of runs
 abbrev pub listedNumbers : Listed → List ℕ

@@ -5,7 +5,7 @@ use mathlib.Core.Bool.{cond}
 use mathlib.Core.List.{List, [], _∷_}
 use mathlib.Core.Option.{Option, none, some}
 use lib.Dec.{eqb}
-use lib.ListN.{getD}
+use lib.ListN.{getD, drop}
 use Rattle.laws.specs.Told.{told}
 use Rattle.state.specs.declared.refusal.Refusal.{Refusal}
 use Rattle.state.specs.declared.answers.Judged.{Judged}
@@ -17,7 +17,7 @@ use Rattle.state.specs.declared.answers.Written.{Written}
 use Rattle.state.specs.declared.state.Checked.{Checked}
 use Rattle.state.specs.declared.state.Checked.the-variants as checked
 use Rattle.state.specs.Refusals.{refusalNumbers}
-use Rattle.state.specs.RefusalsLaws.{refusalOf, accepts, refusal-back, refusal-told, never}
+use Rattle.state.specs.RefusalsLaws.{refusalOf, accepts, refusal-behind, refusal-back, refusal-told, never}
 use Rattle.state.specs.Answers.{judgedNumbers, startedNumbers, listedNumbers, writtenOffNumbers, recordedNumbers, writtenNumbers, checkedNumbers, answered, leftBy, checkedBy}
 
 -- ---- which rule was broken
@@ -63,15 +63,17 @@ started-back (Started.Refused r) = refused-back (λ ns. Started.Started) Started
 pub started-told : (a b : Started) → startedNumbers a ≡ startedNumbers b → a ≡ b
 started-told = told startedNumbers startedOf started-back
 
-abbrev countsAnswered : List ℕ → Judged
-countsAnswered ns = Judged.Accepted (getD ns 1 0) (getD ns 2 0) (getD ns 3 0)
+-- behind a refusal of a batch stands how many keys were compared
+abbrev judgedOf : List ℕ → Judged
+judgedOf ns =
+    cond (accepts ns) (Judged.Accepted (getD ns 1 0) (getD ns 2 0) (getD ns 3 0) (getD ns 4 0)) (Judged.Refused (refusalOf ns) (getD (drop 4 ns) 0 0))
 
-judged-back : (a : Judged) → answerOf countsAnswered Judged.Refused (judgedNumbers a) ≡ a
-judged-back (Judged.Accepted taken old heartbeats) = refl
-judged-back (Judged.Refused r) = refused-back countsAnswered Judged.Refused r
+judged-back : (a : Judged) → judgedOf (judgedNumbers a) ≡ a
+judged-back (Judged.Accepted taken old heartbeats compared) = refl
+judged-back (Judged.Refused r compared) = let b = refusal-behind r (compared ∷ []) in rw (b .1, b .0, b .2)
 
 pub judged-told : (a b : Judged) → judgedNumbers a ≡ judgedNumbers b → a ≡ b
-judged-told = told judgedNumbers (answerOf countsAnswered Judged.Refused) judged-back
+judged-told = told judgedNumbers judgedOf judged-back
 
 abbrev runsAnswered : List ℕ → Listed
 runsAnswered ns = Listed.Runs (getD ns 1 0) (getD ns 2 0)

@@ -1,11 +1,11 @@
 -- A refusal's numbers tell the refusal, and none is an accepted call's.
-use Prim.Native.Nat.{ℕ, _≤_}
+use Prim.Native.Nat.{ℕ, _+_, _-_, _≤_}
 use mathlib.Core.Path.{_≡_, refl, sym, ap, _∙_}
 use mathlib.Core.Bool.{Bool, false, cond, true≢false}
-use mathlib.Core.List.{List, _∷_}
+use mathlib.Core.List.{List, [], _∷_, _++_, append-nil}
 use native.Mathlib.Omega.{arith}
 use lib.Dec.{eqb}
-use lib.ListN.{getD}
+use lib.ListN.{length, getD, drop, length-append, length-drop}
 use Rattle.laws.specs.Told.{told}
 use Rattle.state.specs.declared.refusal.Refusal.{Refusal}
 use Rattle.state.specs.declared.refusal.Refusal.the-variants.{Size, Packed, Flag, Count, Frame, Code, Trailer, Length, Checksum, Numbering, Field, Range, Contract, Gaps, Memory, List as ListOf, NoGap, State}
@@ -31,25 +31,38 @@ refusalOf ns = numbered (getD ns 0 0) (getD ns 1 0) (getD ns 2 0) (getD ns 3 0)
 abbrev pub accepts : List ℕ → Bool
 accepts ns = eqb (getD ns 0 0) 0
 
+-- so also where more numbers stand behind its own, of which it has four
+pub refusal-behind : (r : Refusal) (behind : List ℕ)
+    → (refusalOf (refusalNumbers r ++ behind) ≡ r) × (accepts (refusalNumbers r ++ behind) ≡ false) × (drop 4 (refusalNumbers r ++ behind) ≡ behind)
+refusal-behind Size behind = (refl, refl, refl)
+refusal-behind Packed behind = (refl, refl, refl)
+refusal-behind Flag behind = (refl, refl, refl)
+refusal-behind Count behind = (refl, refl, refl)
+refusal-behind (Frame message) behind = (refl, refl, refl)
+refusal-behind (Code message) behind = (refl, refl, refl)
+refusal-behind (Trailer message) behind = (refl, refl, refl)
+refusal-behind (Length message) behind = (refl, refl, refl)
+refusal-behind (Checksum message) behind = (refl, refl, refl)
+refusal-behind (Numbering message) behind = (refl, refl, refl)
+refusal-behind (Field message row) behind = (refl, refl, refl)
+refusal-behind (Range message row) behind = (refl, refl, refl)
+refusal-behind (Contract message) behind = (refl, refl, refl)
+refusal-behind (Gaps message) behind = (refl, refl, refl)
+refusal-behind (Memory wanted) behind = (refl, refl, refl)
+refusal-behind ListOf behind = (refl, refl, refl)
+refusal-behind NoGap behind = (refl, refl, refl)
+refusal-behind State behind = (refl, refl, refl)
+
 pub refusal-back : (r : Refusal) → (refusalOf (refusalNumbers r) ≡ r) × (accepts (refusalNumbers r) ≡ false)
-refusal-back Size = (refl, refl)
-refusal-back Packed = (refl, refl)
-refusal-back Flag = (refl, refl)
-refusal-back Count = (refl, refl)
-refusal-back (Frame message) = (refl, refl)
-refusal-back (Code message) = (refl, refl)
-refusal-back (Trailer message) = (refl, refl)
-refusal-back (Length message) = (refl, refl)
-refusal-back (Checksum message) = (refl, refl)
-refusal-back (Numbering message) = (refl, refl)
-refusal-back (Field message row) = (refl, refl)
-refusal-back (Range message row) = (refl, refl)
-refusal-back (Contract message) = (refl, refl)
-refusal-back (Gaps message) = (refl, refl)
-refusal-back (Memory wanted) = (refl, refl)
-refusal-back ListOf = (refl, refl)
-refusal-back NoGap = (refl, refl)
-refusal-back State = (refl, refl)
+refusal-back r =
+    let alone = append-nil (refusalNumbers r) in
+    let b = refusal-behind r [] in
+    (ap refusalOf (sym alone) ∙ b .0, ap accepts (sym alone) ∙ b .1)
+
+pub refusal-four : (r : Refusal) → length (refusalNumbers r) ≡ 4
+refusal-four r =
+    let one = ap length (refusal-behind r (0 ∷ []) .2) in
+    omega (arith, one, length-drop 4 (refusalNumbers r ++ (0 ∷ [])), length-append (refusalNumbers r) (0 ∷ []))
 
 pub refusal-told : (r s : Refusal) → refusalNumbers r ≡ refusalNumbers s → r ≡ s
 refusal-told = told refusalNumbers refusalOf (λ r. refusal-back r .0)
@@ -70,8 +83,11 @@ pub fault-told : (r : Refusal) (f : Fault) (i : ℕ) → refusalNumbers r ≡ in
 fault-told r f i e = refusal-told r (ofFault f i) (e ∙ sym (fault-numbers f i))
 
 -- no refusal's numbers are an accepted call's
+pub never-behind : (r : Refusal) (behind values : List ℕ) → refusalNumbers r ++ behind ≡ 0 ∷ values → ⊥
+never-behind r behind values e = true≢false (sym (ap accepts e) ∙ refusal-behind r behind .1)
+
 pub never : (r : Refusal) (values : List ℕ) → refusalNumbers r ≡ 0 ∷ values → ⊥
-never r values e = true≢false (sym (ap accepts e) ∙ refusal-back r .1)
+never r values e = never-behind r [] values (append-nil (refusalNumbers r) ∙ e)
 
 -- a refusal's number is one of the table's, 1 to 18
 pub in-table : (r : Refusal) → (1 ≤ getD (refusalNumbers r) 0 0) × (getD (refusalNumbers r) 0 0 ≤ 18)

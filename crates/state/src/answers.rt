@@ -6,10 +6,10 @@ pub enum Started {
     Refused(Refusal),
 }
 
-// Of a batch: how many messages were taken, old and heartbeats.
+// Of a batch: how many messages were taken, old and heartbeats, or the refusal; and how many keys its lookups compared.
 pub enum Judged {
-    Accepted(usize, usize, usize),
-    Refused(Refusal),
+    Accepted(usize, usize, usize, usize),
+    Refused(Refusal, usize),
 }
 
 // Highest, and the number of runs put into the lent cells.

@@ -2,7 +2,7 @@
 use Prim.Native.Nat.{ℕ}
 use mathlib.Core.Path.{_≡_}
 use mathlib.Core.List.{List, [], _∷_, _++_}
-use lib.ListN.{getD, take, drop, replicate}
+use lib.ListN.{getD, set, take, drop, replicate}
 use Rattle.told.specs.declared.answer.Told.{Told}
 use Rattle.state.specs.declared.answers.Recorded.{Recorded}
 use Rattle.state.specs.declared.answers.Recorded.the-variants.{Record, NoRecord, Refused}
@@ -23,3 +23,7 @@ abbrev pub recordNumbers : Recorded → List ℕ
 recordNumbers (Record number) = 0 ∷ 1 ∷ []
 recordNumbers NoRecord = 0 ∷ 0 ∷ []
 recordNumbers (Refused refusal) = refusalNumbers refusal
+
+-- a word of our own: the same with a fourth number in the answer
+abbrev pub withFourth : Told → ℕ → Told
+withFourth told fourth = record { number = told .number; answer = set (told .answer) 3 fourth }

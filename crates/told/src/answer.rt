@@ -1,7 +1,7 @@
 // What a host is told of a call: the number that the function returns, and the four numbers of its answer.
 ghost use mathlib.Core.Path.{_≡_};
 ghost use mathlib.Core.List.{_∷_, []};
-ghost use Rattle.told.specs.Told.{toldOf, recordNumbers};
+ghost use Rattle.told.specs.Told.{toldOf, recordNumbers, withFourth};
 ghost use Rattle.state.specs.Refusals.{refusalNumbers};
 ghost use Rattle.state.specs.Answers.{startedNumbers, judgedNumbers, listedNumbers, writtenOffNumbers, writtenNumbers};
 use quotebox::Judged;
@@ -17,7 +17,7 @@ pub struct Told {
     pub answer: [u64; 4],
 }
 
-// No answer has a fourth number.
+// Only a batch's answer has a fourth number.
 fn of_numbers(number: u32, first: usize, second: usize, third: usize) -> Told
     ensures { λ r. ⌜ r ≡ toldOf (number ∷ first ∷ second ∷ third ∷ []) ⌝ }
 {
@@ -45,12 +45,26 @@ pub fn of_started(started: Started) -> Told
     }
 }
 
+fn with_fourth(told: Told, fourth: usize) -> Told
+    ensures { λ r. ⌜ r ≡ withFourth told fourth ⌝ }
+{
+    let mut answer = told.answer;
+    answer[3] = fourth as u64;
+    Told {
+        number: told.number,
+        answer,
+    }
+}
+
+// Accepted or refused, with the keys that were compared.
 pub fn of_judged(judged: Judged) -> Told
     ensures { λ r. ⌜ r ≡ toldOf (judgedNumbers judged) ⌝ }
 {
     match judged {
-        Judged::Accepted(taken, old, heartbeats) => of_numbers(0, taken, old, heartbeats),
-        Judged::Refused(refusal) => of_refusal(refusal),
+        Judged::Accepted(taken, old, heartbeats, compared) => {
+            with_fourth(of_numbers(0, taken, old, heartbeats), compared)
+        }
+        Judged::Refused(refusal, compared) => with_fourth(of_refusal(refusal), compared),
     }
 }
 

@@ -9,6 +9,8 @@ use Rattle.lookup.specs.Lookup.{segmentOf}
 use Rattle.pairs.specs.Lists.{Lists, Headers}
 use Rattle.sequence.specs.RowLaid.{soundGapRow}
 use Rattle.head.specs.Fields.{lengthOf}
+use Rattle.message.specs.Compared.{messageCompared, soFar}
+use Rattle.message.specs.Reads.{messageOf}
 use Rattle.turns.specs.declared.act.Act.{Act}
 use Rattle.turns.specs.declared.act.Act.the-variants.{Taken, Old, Heartbeat, Refused}
 use Rattle.turns.specs.declared.act.Counts.{Counts}
@@ -17,6 +19,7 @@ use Rattle.turns.specs.declared.act.Step.{Step}
 use Rattle.state.specs.declared.answers.Judged.{Judged}
 use Rattle.state.specs.Answers.{judgedNumbers}
 use Rattle.state.specs.Refusals.{refusalNumbers}
+use Rattle.turns.specs.Compared.{comparedIn, reachedBy, countedNumbers}
 use Rattle.turns.specs.Turns.{Box, Acted, acted, refused, numberActs, messageActs, messagesAct, actedNumbers}
 use Rattle.slots.specs.Slots.{recordsWanted}
 use Rattle.slots.specs.declared.records.Fronts.{Fronts}
@@ -100,6 +103,7 @@ pub record MessageActs (lists : Lists) (letter : ℕ) (row stores : List ℕ) (k
   pub length-is : step .length ≡ lengthOf bytes
   pub inside : passed (step .act) ≡ true → step .length ≤ length bytes
   pub keeps : Keeps (recordsWanted lists) (step .length) stores kept changes (step .kept) stores′
+  pub steps : step .compared ≡ soFar (messageOf lists letter bytes .what) (messageCompared lists letter bytes)
 
 -- a word of our own: a box that so many messages leave: its row, and its records as the stores make them
 pub record Left (lists : Lists) (room : Type 0) (records : List ℕ) (box : Box) (kept : ℕ) (row′ stores′ : List ℕ) : Type 0 where
@@ -109,9 +113,11 @@ pub record Left (lists : Lists) (room : Type 0) (records : List ℕ) (box : Box)
   pub fit : AllFit (recordsWanted lists) kept stores′
   pub within : storeCells * kept ≤ length stores′
 
--- a word of our own: so many messages are judged, whatever the records are
+-- M-102: so many messages are judged, whatever the records are: what they are answered, and how many keys were compared
 pub record JudgedMessages (lists : Lists) (letter : ℕ) (row : List ℕ) (cells : ℕ) (bytes : List ℕ) (count : ℕ) (turn : InTurn) (row′ stores′ : List ℕ) : Type 0 where
-  pub answers : (records : List ℕ) → judgedNumbers (turn .answer) ≡ actedNumbers (messagesAct count lists letter 0 (boxAt row records none) bytes)
+  pub answers : (records : List ℕ)
+      → let acts : Acted = messagesAct count lists letter 0 (boxAt row records none) bytes in
+      judgedNumbers (turn .answer) ≡ countedNumbers acts (comparedIn (reachedBy count acts) lists letter bytes)
   pub leaves : (records : List ℕ) (box : Box) → messagesAct count lists letter 0 (boxAt row records none) bytes ≡ acted box
       → Left lists (Room cells (length bytes)) records box (turn .kept) row′ stores′
 

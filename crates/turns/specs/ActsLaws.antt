@@ -21,6 +21,7 @@ use Rattle.head.specs.declared.head.Fault.{Fault}
 use Rattle.head.specs.declared.head.Head.the-variants.{Good}
 use Rattle.message.specs.CallerLaws.{all-there}
 use Rattle.head.specs.Fields.{lengthOf}
+use Rattle.message.specs.Compared.{messageCompared, soFar}
 use Rattle.message.specs.Message.{Message}
 use Rattle.message.specs.Reads.{messageOf}
 use Rattle.message.specs.MessageLaws.{length-is}
@@ -69,6 +70,13 @@ module _ (lists : Lists) (letter : ℕ) (bytes : List ℕ) (message : Message) (
   whole : message .length ≡ lengthOf bytes
   whole = ap (λ (m : Message). m .length) is ∙ length-is lists letter bytes
 
+  -- the keys compared for it
+  abbrev steps-done : ℕ
+  steps-done = soFar (message .what) (messageCompared lists letter bytes)
+
+  at-steps : steps-done ≡ soFar (messageOf lists letter bytes .what) (messageCompared lists letter bytes)
+  at-steps = ap (λ (m : Message). soFar (m .what) (messageCompared lists letter bytes)) is
+
   inside : verdictOf w ≡ Good → message .length ≤ length bytes
   inside g = rw is (all-there lists letter bytes (ap verdictOf what-is ∙ g))
 
@@ -78,7 +86,7 @@ module _ (lists : Lists) (letter : ℕ) (bytes : List ℕ) (message : Message) (
         → ((box : Box) → whatActs lists letter box i w (message .cells) ≡ numberActs box i number changed)
         → (row′ : List ℕ) → NumberActs row i number a row′
         → (kept′ : ℕ) (stores′ : List ℕ) → Keeps (recordsWanted lists) (message .length) stores kept (changedBy a changed) kept′ stores′
-        → MessageActs lists letter row stores kept i bytes (record { act = a; length = message .length; kept = kept′ }) row′ stores′
+        → MessageActs lists letter row stores kept i bytes (record { act = a; length = message .length; kept = kept′; compared = steps-done }) row′ stores′
     numbered a number changed g by row′ n kept′ stores′ k =
         record {
           says = λ records. n .says changed records ∙ ap actedNumbers (sym (acts-as (boxAt row records none) i ∙ by (boxAt row records none)));
@@ -88,13 +96,14 @@ module _ (lists : Lists) (letter : ℕ) (bytes : List ℕ) (message : Message) (
           length-is = whole;
           inside = λ p. inside g;
           keeps = k;
+          steps = at-steps;
         }
 
     module _ (sound : soundGapRow row ≡ true) (within : storeCells * kept ≤ length stores) where
       none-changed : Keeps (recordsWanted lists) (message .length) stores kept (λ records. records) kept stores
       none-changed = none-kept (recordsWanted lists) (message .length) stores kept within (λ records. records) (λ records. refl)
 
-      pub heartbeat-acts : w ≡ what.Heartbeat → MessageActs lists letter row stores kept i bytes (record { act = act.Heartbeat; length = message .length; kept = kept }) row stores
+      pub heartbeat-acts : w ≡ what.Heartbeat → MessageActs lists letter row stores kept i bytes (record { act = act.Heartbeat; length = message .length; kept = kept; compared = steps-done }) row stores
       heartbeat-acts h =
           record {
             says = λ records. rw (acts-as (boxAt row records none) i, h);
@@ -104,10 +113,11 @@ module _ (lists : Lists) (letter : ℕ) (bytes : List ℕ) (message : Message) (
             length-is = whole;
             inside = λ p. inside (ap verdictOf h);
             keeps = none-changed;
+            steps = at-steps;
           }
 
       pub bad-acts : (fault : Fault) → w ≡ what.Bad fault → (refusal : Refusal) → refusalNumbers refusal ≡ inMessage i (faultNumbers fault)
-          → MessageActs lists letter row stores kept i bytes (record { act = act.Refused refusal; length = message .length; kept = kept }) row stores
+          → MessageActs lists letter row stores kept i bytes (record { act = act.Refused refusal; length = message .length; kept = kept; compared = steps-done }) row stores
       bad-acts fault h refusal f =
           record {
             says = λ records. rw (acts-as (boxAt row records none) i, h) (f ∙ sym (fault-numbers fault i));
@@ -117,4 +127,5 @@ module _ (lists : Lists) (letter : ℕ) (bytes : List ℕ) (message : Message) (
             length-is = whole;
             inside = λ p. absurd (false≢true p);
             keeps = none-changed;
+            steps = at-steps;
           }

@@ -23,11 +23,12 @@ pub enum Act {
     Refused(Refusal),
 }
 
-// With the message's length, and how many stores are kept behind it.
+// With the message's length, how many stores are kept behind it, and how many keys its lookup compared.
 pub struct Step {
     pub act: Act,
     pub length: usize,
     pub kept: usize,
+    pub compared: usize,
 }
 
 // What the messages of a batch are answered, and how many stores are kept.
@@ -87,7 +88,12 @@ fn message_acts(
         }
         What::Bad(fault) => Act::Refused(state::of_fault(fault, i)),
     };
-    Step { act, length, kept }
+    Step {
+        act,
+        length,
+        kept,
+        compared: message.compared,
+    }
 }
 
 fn counted(counts: Counts, act: Act) -> Counts
@@ -152,6 +158,7 @@ pub fn judge_messages(
     let mut cells = [0u64; MOST_ROWS];
     let mut counts = none();
     let mut kept = 0;
+    let mut compared = 0;
     let mut at = 0;
     let mut i = 0;
     while i < count {
@@ -169,9 +176,10 @@ pub fn judge_messages(
             part,
             &mut cells,
         );
+        compared += step.compared;
         let act = step.act;
         if let Act::Refused(refusal) = act {
-            return answered(Judged::Refused(refusal), 0);
+            return answered(Judged::Refused(refusal, compared), 0);
         }
         counts = counted(counts, act);
         kept = step.kept;
@@ -179,8 +187,8 @@ pub fn judge_messages(
         i += 1;
     }
     if at < data.len() {
-        return answered(Judged::Refused(Refusal::Count), 0);
+        return answered(Judged::Refused(Refusal::Count, compared), 0);
     }
-    let accepted = Judged::Accepted(counts.taken, counts.old, counts.heartbeats);
+    let accepted = Judged::Accepted(counts.taken, counts.old, counts.heartbeats, compared);
     answered(accepted, kept)
 }

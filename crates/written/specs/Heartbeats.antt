@@ -20,8 +20,8 @@ abbrev pub WritesHeartbeat : Code → Level → Type 0
 WritesHeartbeat code level = (form : Form) × (formWritten Contract code level ≡ chosen.Form form) × (subjectOf form ≡ Nothing)
 
 -- 01 "Sequence and gaps": "A heartbeat .. changes nothing"; "What may be asked": an accepted batch answers how many heartbeats it has,
--- and judging answers what taking would
+-- and judging answers what taking would; M-102: no key is compared
 pub record OneHeartbeat (lent : Lent) (batch : List ℕ) : Type 0 where
-  pub judged : (answer : Judged) → JudgedBatch lent batch answer → answer ≡ Accepted 0 0 1
-  pub taken : (answer : Judged) (lent′ : Lent) → TookBatch lent batch answer lent′ → answer ≡ Accepted 0 0 1
+  pub judged : (answer : Judged) → JudgedBatch lent batch answer → answer ≡ Accepted 0 0 1 0
+  pub taken : (answer : Judged) (lent′ : Lent) → TookBatch lent batch answer lent′ → answer ≡ Accepted 0 0 1 0
   pub all-kept : (answer : Judged) (lent′ : Lent) → TookBatch lent batch answer lent′ → lent′ ≡ lent

@@ -23,16 +23,16 @@ use Rattle.state.specs.AnswersLaws.{judged-told}
 use Rattle.state.specs.GoodState.{GoodState}
 use Rattle.state.specs.Memory.{Lent, lends}
 use Rattle.state.specs.RowsLaws.{rows-back}
-use Rattle.turns.specs.Turns.{Box, acted, messageActs, actedNumbers}
+use Rattle.turns.specs.Turns.{Box, acted, messageActs}
 use Rattle.batch.specs.Batch.{batchLetter}
-use Rattle.batch.specs.Acts.{batchActs, boxOf, lentAfter}
+use Rattle.batch.specs.Acts.{batchActs, batchCompared, batchNumbers, boxOf, lentAfter}
 use Rattle.writer.specs.declared.writing.Code.{Code}
 use Rattle.writer.specs.Writer.{messageBytes}
 use Rattle.writer.specs.WriterPromises.{WroteValues}
 use Rattle.written.specs.Heartbeats.{WritesHeartbeat, OneHeartbeat}
 use Rattle.written.specs.ReadBack.{batchOf}
-use Rattle.written.specs.ReadBackStepsLaws.{letter-is, batch-acts}
-use Rattle.written.specs.WrittenUpdateLaws.{number-fits, message-there, heartbeat-is}
+use Rattle.written.specs.ReadBackStepsLaws.{letter-is, batch-acts, batch-keys}
+use Rattle.written.specs.WrittenUpdateLaws.{number-fits, message-there, heartbeat-is, heartbeat-keys}
 
 -- 01 "The message": DH and TH
 pub heartbeats-chosen : (level : Level) → WritesHeartbeat (record { 0 = 68; 1 = 72 }) level × WritesHeartbeat (record { 0 = 84; 1 = 72 }) level
@@ -70,8 +70,13 @@ module _ (code : Code) (level : Level) (number : ℕ) (key : List ℕ) (values :
           batch-acts Contract code level number key values out out′ n form (beat .1) wrote lent state after
           (rw (heartbeat-is Contract code level number key values out out′ n form (beat .1) wrote few (lent .lists) (listed-exact (lent .lists .contracts) (code .0) .1 listed) (beat .2)))
 
-      answer-is : (answer : Judged) → judgedNumbers answer ≡ actedNumbers (batchActs lent batch) → answer ≡ Accepted 0 0 1
-      answer-is answer e = judged-told answer (Accepted 0 0 1) (e ∙ ap actedNumbers does)
+      none-compared : batchCompared (lent .lists) batch (acted after) ≡ 0
+      none-compared =
+          batch-keys Contract code level number key values out out′ n form (beat .1) wrote (lent .lists) after
+          ∙ heartbeat-keys Contract code level number key values out out′ n form (beat .1) wrote (lent .lists) (beat .2)
+
+      answer-is : (answer : Judged) → judgedNumbers answer ≡ batchNumbers lent batch → answer ≡ Accepted 0 0 1 0
+      answer-is answer e = judged-told answer (Accepted 0 0 1 0) (e ∙ rw (does, none-compared))
 
       pub heartbeat-changes-nothing : OneHeartbeat lent batch
       heartbeat-changes-nothing = record {

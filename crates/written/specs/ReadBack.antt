@@ -25,14 +25,14 @@ pub record ReadsAs {A : Type 0} (number : ℕ) (quote : A) (answer : Recorded) (
   pub number-back : answer ≡ Recorded.Record number
   pub quote-back : read ≡ quote
 
--- 01 "Sequence and gaps": the answer to one update: its number is taken, or it is old
-abbrev pub countedAs : Bool → Judged
-countedAs taken = cond taken (Accepted 1 0 0) (Accepted 0 1 0)
+-- 01 "Sequence and gaps", M-102: the answer to one update: its number is taken, or it is old; and the keys compared with its own
+abbrev pub countedAs : Bool → ℕ → Judged
+countedAs taken compared = cond taken (Accepted 1 0 0 compared) (Accepted 0 1 0 compared)
 
 -- demand 2: an update that was written, in a batch by itself: judged and taken, the batch is accepted; and where its number is taken
 -- and above that of the record, the record then reads as what was written, by the promise of the call that reads it
-pub record ReadsBack {A : Type 0} (Reads : Lent → Recorded → A → Type 0) (lent : Lent) (batch : List ℕ) (gaps : Gaps) (last number : ℕ) (quote : A) : Type 0 where
-  pub judged : (answer : Judged) → JudgedBatch lent batch answer → answer ≡ countedAs (takes gaps number)
-  pub taken : (answer : Judged) (lent′ : Lent) → TookBatch lent batch answer lent′ → answer ≡ countedAs (takes gaps number)
+pub record ReadsBack {A : Type 0} (Reads : Lent → Recorded → A → Type 0) (lent : Lent) (batch : List ℕ) (gaps : Gaps) (last number compared : ℕ) (quote : A) : Type 0 where
+  pub judged : (answer : Judged) → JudgedBatch lent batch answer → answer ≡ countedAs (takes gaps number) compared
+  pub taken : (answer : Judged) (lent′ : Lent) → TookBatch lent batch answer lent′ → answer ≡ countedAs (takes gaps number) compared
   pub back : takes gaps number ≡ true → last < number → (answer : Judged) (lent′ : Lent) → TookBatch lent batch answer lent′
       → (recorded : Recorded) (read : A) → Reads lent′ recorded read → ReadsAs number quote recorded read

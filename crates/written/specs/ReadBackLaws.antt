@@ -39,6 +39,7 @@ use Rattle.sequence.specs.Changes.{full, after}
 use Rattle.sequence.specs.Row.{gapsOf}
 use Rattle.sequence.specs.RowLaid.{laid}
 use Rattle.head.specs.HeadLaws.{number-exact}
+use Rattle.message.specs.Compared.{comparedThere}
 use Rattle.message.specs.Message.{placeIn, keyPlace}
 use Rattle.message.specs.MessageLaws.{key-found}
 use Rattle.state.specs.declared.answers.Judged.{Judged}
@@ -47,9 +48,9 @@ use Rattle.state.specs.declared.answers.Recorded.{Recorded}
 use Rattle.state.specs.declared.answers.Written.{Written}
 use Rattle.writer.specs.declared.writing.Code.{Code}
 use Rattle.state.specs.Answers.{judgedNumbers}
-use Rattle.turns.specs.Turns.{Box, acted, messageActs, actedNumbers, numberActs}
+use Rattle.turns.specs.Turns.{Box, acted, messageActs, numberActs}
 use Rattle.batch.specs.Batch.{batchLetter}
-use Rattle.batch.specs.Acts.{batchActs, boxOf, lentAfter}
+use Rattle.batch.specs.Acts.{batchActs, batchCompared, batchNumbers, boxOf, lentAfter}
 use Rattle.stores.specs.Stored.{stored}
 use Rattle.state.specs.Memory.{Lent}
 use Rattle.slots.specs.Places.{slotAt, slotIn, recordOf, recordRows}
@@ -67,8 +68,8 @@ use Rattle.batch.specs.TookLaws.{state-good}
 use Rattle.writer.specs.Chosen.{formWritten}
 use Rattle.writer.specs.WriterPromises.{WroteValues, WroteMessage, WroteSpread}
 use Rattle.written.specs.ReadBack.{batchOf, countedAs, ReadsBack}
-use Rattle.written.specs.ReadBackStepsLaws.{batch-acts, number-stored, cells-stored}
-use Rattle.written.specs.WrittenUpdateLaws.{written, rows-good, number-fits, message-is}
+use Rattle.written.specs.ReadBackStepsLaws.{batch-acts, batch-keys, number-stored, cells-stored}
+use Rattle.written.specs.WrittenUpdateLaws.{written, rows-good, number-fits, keys-are, message-is}
 
 -- the record of a listed contract or pair may be asked for, and lies in the records lent
 module _ (item : Item) (lent : Lent) (state : GoodState lent) (letter : ℕ) (key : List ℕ) (place : ℕ) (listed : keyPlace item (lent .lists) letter key ≡ some place) where
@@ -152,13 +153,22 @@ module _ (item : Item) (code : Code) (level : Level) (number : ℕ) (key : List 
         batch-does : (box′ : Box) → numberActs box 0 number changed ≡ acted box′ → batchActs lent batch ≡ acted box′
         batch-does box′ e = batch-acts item code level number key values out out′ n form update wrote lent state box′ (acts ∙ e)
 
-        abbrev expected : Judged
-        expected = countedAs (takes gaps number)
+        -- the keys compared with its own
+        abbrev keys : ℕ
+        keys = comparedThere item (lent .lists) key (segmentOf (lent .lists .contracts) letter)
 
-        numbers-are : actedNumbers (batchActs lent batch) ≡ judgedNumbers expected
+        keys-are-those : (box′ : Box) → batchCompared (lent .lists) batch (acted box′) ≡ keys
+        keys-are-those box′ =
+            batch-keys item code level number key values out out′ n form update wrote (lent .lists) box′
+            ∙ keys-are item code level number key values out out′ n form update wrote (level, about-subject (Of item level)) key-long (lent .lists)
+
+        abbrev expected : Judged
+        expected = countedAs (takes gaps number) keys
+
+        numbers-are : batchNumbers lent batch ≡ judgedNumbers expected
         numbers-are =
-            ⊎-elim (λ (t : takes gaps number ≡ true). rw (batch-does after-taken (number-taken t), t))
-            (λ (t : takes gaps number ≡ false). rw (batch-does after-old (number-old t), t))
+            ⊎-elim (λ (t : takes gaps number ≡ true). rw (batch-does after-taken (number-taken t), t, keys-are-those after-taken))
+            (λ (t : takes gaps number ≡ false). rw (batch-does after-old (number-old t), t, keys-are-those after-old))
             (either (takes gaps number))
 
         -- judged, the batch is accepted
@@ -175,8 +185,8 @@ module _ (item : Item) (code : Code) (level : Level) (number : ℕ) (key : List 
           where
             state-then : GoodState lent′
             state-then =
-                let is : answer ≡ Accepted 1 0 0 = taken-back answer lent′ took ∙ rw taken in
-                state-good lent batch 1 0 0 lent′ (rw is at took)
+                let is : answer ≡ Accepted 1 0 0 keys = taken-back answer lent′ took ∙ rw taken in
+                state-good lent batch 1 0 0 keys lent′ (rw is at took)
 
             place-is : slotAt (lent .lists) (slotIn item (segmentOf (lent .lists .contracts) letter) place level) ≡ at
             unfolding recordOfKey
@@ -220,7 +230,7 @@ module _ (item : Item) (code : Code) (level : Level) (number : ℕ) (key : List 
         -- all of it, for whoever reads the record: what the rows read again is shown
         pub reads-back : {A : Type 0} (show : Form → List ℕ → A) (blank quote : A)
             → (rows-laid .verdict ≡ verdict.Good → show form (zerosBehind (readAgain form key (values form) .cells)) ≡ quote)
-            → ReadsBack (λ (lent′ : Lent) (recorded : Recorded) (read : A). ReadsFor show blank item lent′ letter key level recorded read) lent batch gaps (recordNumber (lent .records) at) number quote
+            → ReadsBack (λ (lent′ : Lent) (recorded : Recorded) (read : A). ReadsFor show blank item lent′ letter key level recorded read) lent batch gaps (recordNumber (lent .records) at) number keys quote
         reads-back show blank quote shows =
             let seen-is = ap (λ (o : Outcome). show form (zerosBehind (o .cells))) (sym (rows-back 0 (rowsOf form) key (values form) good)) in
             record {
@@ -241,11 +251,15 @@ module _ (code : Code) (level : Level) (number : ℕ) (key out out′ : List ℕ
     abbrev lastOf : Item → ℕ
     lastOf item = recordNumber (lent .records) (recordOfKey item (lent .lists) (code .0) key level)
 
+    -- and the keys compared with this one
+    abbrev keysOf : Item → ℕ
+    keysOf item = comparedThere item (lent .lists) key (segmentOf (lent .lists .contracts) (code .0))
+
     -- a contract's quote, row for row; level 1 has the first order a side, and the others read as none
     pub contract-back : (quote : Quote) → WroteMessage code level number key quote out (Written.Message n) out′ → length key ≡ keyBytesOf Contract
         → formWritten Contract code level ≡ chosen.Form (recordForm Contract level) → keyPlace Contract (lent .lists) (code .0) key ≡ some place
         → ReadsBack (λ (lent′ : Lent) (recorded : Recorded) (read : Quote). ReadsFor quoteOf blank Contract lent′ (code .0) key level recorded read)
-        lent (batchOf (take n out′)) (gapsOfLetter lent (code .0)) (lastOf Contract) number (seenQuote (recordForm Contract level) quote)
+        lent (batchOf (take n out′)) (gapsOfLetter lent (code .0)) (lastOf Contract) number (keysOf Contract) (seenQuote (recordForm Contract level) quote)
     contract-back quote wrote key-long update listed =
         reads-back Contract code level number key (λ form. valuesOf form quote) out out′ n update few key-long wrote lent state place listed room quoteOf blank _
         (λ fine. written-back (recordForm Contract level) (ap ofPair (about-subject (Of Contract level))) quote key fine .1)
@@ -254,7 +268,7 @@ module _ (code : Code) (level : Level) (number : ℕ) (key out out′ : List ℕ
     pub pair-back : (quote : SpreadQuote) → WroteSpread code level number key quote out (Written.Message n) out′ → length key ≡ keyBytesOf Pair
         → formWritten Pair code level ≡ chosen.Form (recordForm Pair level) → keyPlace Pair (lent .lists) (code .0) key ≡ some place
         → ReadsBack (λ (lent′ : Lent) (recorded : Recorded) (read : SpreadQuote). ReadsFor spreadQuoteOf blankSpread Pair lent′ (code .0) key level recorded read)
-        lent (batchOf (take n out′)) (gapsOfLetter lent (code .0)) (lastOf Pair) number (seenSpread (recordForm Pair level) quote)
+        lent (batchOf (take n out′)) (gapsOfLetter lent (code .0)) (lastOf Pair) number (keysOf Pair) (seenSpread (recordForm Pair level) quote)
     pair-back quote wrote key-long update listed =
         reads-back Pair code level number key (λ form. spreadValuesOf form quote) out out′ n update few key-long wrote lent state place listed room spreadQuoteOf blankSpread _
         (λ fine. spread-written-back (recordForm Pair level) (ap ofPair (about-subject (Of Pair level))) quote key fine .1)

@@ -24,9 +24,11 @@ use Rattle.state.specs.GoodState.{GoodState}
 use Rattle.state.specs.Memory.{Lent}
 use Rattle.state.specs.StateLaws.{state-exact}
 use Rattle.turns.specs.MessagesLaws.{messages-next, messages-end}
+use Rattle.pairs.specs.Lists.{Lists}
+use Rattle.message.specs.Compared.{messageCompared}
 use Rattle.turns.specs.Turns.{Box, acted, messageActs}
 use Rattle.batch.specs.Batch.{flagOf, sizeOf, countOf, batchData, batchLetter}
-use Rattle.batch.specs.Acts.{boxOf, batchActs}
+use Rattle.batch.specs.Acts.{boxOf, batchActs, batchCompared}
 use Rattle.batch.specs.BatchLaws.{messages-decide}
 use Rattle.batch.specs.GoodLaws.{front-exact}
 use Rattle.stores.specs.Stored.{stored}
@@ -89,6 +91,11 @@ module _ (item : Item) (code : Code) (level : Level) (number : ℕ) (key : List 
         ∙ messages-decide lent (batchOf alone) (state-exact lent .1 state) (front-exact (batchOf alone) .1 (batch-front alone alone-short))
         ∙ rw (count-one alone alone-short, data-is alone alone-short, alone-letter)
         (messages-next (lent .lists) (code .0) 0 0 (boxOf lent (code .0)) alone box′ acts ∙ messages-end (lent .lists) (code .0) 1 box′ (drop (lengthOf alone) alone) none-left)
+
+    -- and its message's lookup is the batch's
+    pub batch-keys : (lists : Lists) (box′ : Box) → batchCompared lists (batchOf (take n out′)) (acted box′) ≡ messageCompared lists (code .0) alone
+    batch-keys lists box′ =
+        ap (λ (b : List ℕ). batchCompared lists b (acted box′)) batch-is ∙ rw (count-one alone alone-short, data-is alone alone-short, alone-letter) (omega arith)
 
 -- ---- the record
 

@@ -36,6 +36,7 @@ use Rattle.head.specs.Head.{headRules}
 use Rattle.head.specs.Rules.{headOf}
 use Rattle.head.specs.Tests.{isSome, coded, takesNumber, takesLength}
 use Rattle.head.specs.HeadLaws.{framed-exact, trailed-exact, summed-exact}
+use Rattle.message.specs.Compared.{comparedThere, messageCompared}
 use Rattle.message.specs.Message.{Message, TellsOf, messageKey, keyPlace, messagePlace}
 use Rattle.message.specs.Reads.{messageOf}
 use Rattle.message.specs.MessageLaws.{key-found, good-head, heartbeat-reads, outline-told, update-is}
@@ -120,7 +121,12 @@ module _ (item : Item) (code : Code) (level : Level) (number : ℕ) (key : List 
       pub heartbeat-is : subjectOf form ≡ Nothing → messageOf lists (code .0) written .what ≡ what.Heartbeat
       heartbeat-is none-told =
           ap (λ (m : Message). m .what) (good-head lists (code .0) written head-good)
-          ∙ sym (ap (λ (o : Outline). o .what) (outline-told (heartbeat-reads (messagePlace lists (code .0) written) written (messageLength (rowsOf form)) (sym length-is) [] form form-is none-told .told)))
+          ∙ sym (ap (λ (o : Outline). o .what) (outline-told (heartbeat-reads (messagePlace lists (code .0) written) (λ _. 0) written (messageLength (rowsOf form)) (sym length-is) [] form form-is none-told .told)))
+
+    -- and has no lookup
+    pub heartbeat-keys : (lists : Lists) → subjectOf form ≡ Nothing → messageCompared lists (code .0) written ≡ 0
+    unfolding messageCompared
+    heartbeat-keys lists none-told = rw (form-is, none-told)
 
     -- an update
     module _ (tells : TellsOf item form) (key-long : length key ≡ keyBytesOf item) where
@@ -129,6 +135,11 @@ module _ (item : Item) (code : Code) (level : Level) (number : ℕ) (key : List 
       key-is =
           let front = key-of-update form item (tells .0) (tells .1) key (values form) rows-good in
           ap (take (keyBytesOf item)) data-is ∙ front .stands ∙ take-all (keyBytesOf item) key (omega arith)
+
+      -- its lookup is that of the key
+      pub keys-are : (lists : Lists) → messageCompared lists (code .0) written ≡ comparedThere item lists key (segmentOf (lists .contracts) (code .0))
+      unfolding messageCompared
+      keys-are lists = rw (form-is, tells .1, key-is)
 
       -- whose contract or pair is listed
       module _ (few : number < 2 ^ 32) (lists : Lists) (place : ℕ) (listed : keyPlace item lists (code .0) key ≡ some place) where
@@ -142,5 +153,5 @@ module _ (item : Item) (code : Code) (level : Level) (number : ℕ) (key : List 
         pub message-is : messageOf lists (code .0) written ≡ message
         message-is =
             good-head lists (code .0) written (head-good few lists letter-there)
-            ∙ update-is (messagePlace lists (code .0) written) written (messageLength (rowsOf form)) (sym length-is) (what.Update number form place) form form-is item tells (record { cells = seenValues (rowsOf form) (values form); verdict = Good })
+            ∙ update-is (messagePlace lists (code .0) written) (λ _. 0) written (messageLength (rowsOf form)) (sym length-is) form form-is item tells (what.Update number form place) (record { cells = seenValues (rowsOf form) (values form); verdict = Good })
             (rw data-is (rows-back 0 (rowsOf form) key (values form) rows-good)) (rw (key-is, listed, number-is few))

@@ -1,5 +1,5 @@
--- `contracts::lookup::place_of` meets its contract. The loop's invariant: halving the keys that are left finds what halving
--- all of them finds. The keys left are among all, so that no place overflows.
+-- The loop's invariant: halving the keys that are left finds what halving all of them finds, and with those compared so far it
+-- compares as many. The keys left are among all, and each one compared is no longer left, so that nothing overflows.
 use Prim.Native.Nat.{ℕ, _+_, _-_, _*_, _/_, _^_, _≤_, _<_}
 use mathlib.Core.Path.{_≡_, sym, ap, _∙_}
 use native.Mathlib.Omega.{arith}
@@ -15,15 +15,18 @@ use Rattle.lookup.specs.Halving.{Halved, halvedFrom}
 use Rattle.lookup.specs.HalvingLaws.{none-left, match-stops, goes-below, goes-above}
 use Rattle.files.specs.Keys.{orderOf}
 use Rattle.lookup.specs.Lookup.{lookup, standsTo}
+use Rattle.lookup.specs.LookupLaws.{reported}
 use Rattle.lookup.proofs.lookup.place_of.Statement.{statement}
 use Rattle.lookup.proofs.lookup.place_of.Tie as tie
 
 abbrev Inv-loop : tie.InvT-loop
-Inv-loop list habit segment wanted offset low₀ left₀ low left = (low + left ≤ countAt list segment)
+Inv-loop list habit segment wanted offset low₀ left₀ compared₀ low left compared = (low + left ≤ countAt list segment)
+    × (compared + left ≤ countAt list segment)
     × (lookup habit list segment wanted .place ≡ halvedFrom (standsTo habit list segment wanted) low left .place)
+    × (lookup habit list segment wanted .compared ≡ compared + halvedFrom (standsTo habit list segment wanted) low left .compared)
 
 abbrev μ-loop : tie.MeasureT-loop
-μ-loop list habit segment wanted offset low₀ left₀ low left = left
+μ-loop list habit segment wanted offset low₀ left₀ compared₀ low left compared = left
 
 -- in a turn: the keys left are among less than 65,536, and their body begins below 2 ^ 32
 room : (c : tie.In-loop Inv-loop μ-loop)
@@ -57,13 +60,18 @@ loop-holds : tie.Need-loop-holds Inv-loop μ-loop
 unfolding lookup
 loop-holds c =
     let a = c .before .before .before .before .args in
-    (omega arith, ap (λ (n : ℕ). halvedFrom (standsTo (a .habit) (now (a .list)) (a .segment) (now (a .wanted))) 0 n .place) (sym (c .count-at .ensures)))
+    let keys : ℕ → Halved = halvedFrom (standsTo (a .habit) (now (a .list)) (a .segment) (now (a .wanted))) 0 in
+    let all = ap keys (sym (c .count-at .ensures)) in
+    (omega arith, omega arith, ap (λ (h : Halved). h .place) all, ap (λ (h : Halved). h .compared) all ∙ omega arith)
 
 sub-below : tie.Need-sub-below Inv-loop μ-loop
 sub-below c = omega arith
 
 add-place : tie.Need-add-place Inv-loop μ-loop
 add-place c = omega (arith, room c)
+
+add-compared : tie.Need-add-compared Inv-loop μ-loop
+add-compared c = omega (arith, room c)
 
 key-in-requires : tie.Need-key-in-requires Inv-loop μ-loop
 key-in-requires c κs = (room c .0, omega (arith, room c .1))
@@ -73,7 +81,7 @@ returns c =
     let d = c .before .before in
     let at = d .before .before .before .loop in
     let e = match-stops (sought d) (at .low) (at .left) (omega (arith, d .before .before .loop-test .taken)) (stands d ∙ c .enum-told .given .1) in
-    ap (lookedUp contractNo) (sym (at .inv .1 ∙ ap (λ (h : Halved). h .place) e))
+    reported _ _ _ _ _ (ap (lookedUp contractNo) (sym (at .inv .2 ∙ ap (λ (h : Halved). h .place) e))) (sym (at .inv .3 ∙ ap (λ (h : Halved). at .compared + h .compared) e))
 
 loop-less : tie.Need-loop-less Inv-loop μ-loop
 loop-less c = omega (arith, c .before .before .before .before .loop-test .taken)
@@ -83,7 +91,7 @@ loop-again c =
     let d = c .before .before in
     let at = d .before .before .before .loop in
     let e = goes-below (sought d) (at .low) (at .left) (omega (arith, d .before .before .loop-test .taken)) (stands d ∙ c .enum-told2 .given .1) in
-    (omega arith, at .inv .1 ∙ ap (λ (h : Halved). h .place) e)
+    (omega arith, omega arith, at .inv .2 ∙ ap (λ (h : Halved). h .place) e, at .inv .3 ∙ ap (λ (h : Halved). at .compared + h .compared) e ∙ omega arith)
 
 add-low : tie.Need-add-low Inv-loop μ-loop
 add-low c = omega (arith, room (c .before .before .before .before))
@@ -102,7 +110,7 @@ loop-again-2 c =
     let d = c .before .before in
     let at = d .before .before .before .loop in
     let e = goes-above (sought d) (at .low) (at .left) (omega (arith, d .before .before .loop-test .taken)) (stands d ∙ c .enum-told3 .given .1) in
-    (omega arith, at .inv .1 ∙ ap (λ (h : Halved). h .place) e)
+    (omega arith, omega arith, at .inv .2 ∙ ap (λ (h : Halved). h .place) e, at .inv .3 ∙ ap (λ (h : Halved). at .compared + h .compared) e ∙ omega arith)
 
 returns-2 : tie.Need-returns-2 Inv-loop μ-loop
 returns-2 c =
@@ -110,8 +118,9 @@ returns-2 c =
     let at = c .before .loop in
     let s = standsTo (a .habit) (now (a .list)) (a .segment) (now (a .wanted)) in
     let none-left-over : at .left ≡ 0 = omega arith in
-    ap (lookedUp contractNo) (sym (at .inv .1 ∙ ap (λ (n : ℕ). halvedFrom s (at .low) n .place) none-left-over ∙ ap (λ (h : Halved). h .place) (none-left s 0 (at .low))))
+    let e = ap (λ (n : ℕ). halvedFrom s (at .low) n) none-left-over ∙ none-left s 0 (at .low) in
+    reported _ _ _ _ _ (ap (lookedUp contractNo) (sym (at .inv .2 ∙ ap (λ (h : Halved). h .place) e))) (sym (at .inv .3 ∙ ap (λ (h : Halved). at .compared + h .compared) e ∙ omega arith))
 
 pub place-of-spec : {M : Type 1} → statement M
 place-of-spec =
-    tie.close (tie.spec Inv-loop μ-loop (search needs) (search needs) loop-holds sub-below add-place key-in-requires (search needs) (search needs) returns (search needs) loop-less loop-again (search needs) add-low sub-left sub-left-2 loop-less-2 loop-again-2 returns-2)
+    tie.close (tie.spec Inv-loop μ-loop (search needs) (search needs) loop-holds sub-below add-place add-compared key-in-requires (search needs) (search needs) returns (search needs) loop-less loop-again (search needs) add-low sub-left sub-left-2 loop-less-2 loop-again-2 returns-2)

@@ -27,13 +27,13 @@ update-requires c κs =
     (framed-exact _ .0 (d .before .before .before .before .pre .0), whole-is d, form-is d ∙ c .before .before .before .before .before .before .named .given .1, (_, sym (subject-told (told .subject-of .result) _ (told .subject-of .ensures)) ∙ c .before .before .item .given .1))
 
 returns : tie.Need-returns
-returns c = let d = c .before .before .before .before .before .before in heartbeat-reads _ (bytes d) _ (whole-is d) (d .before .before .before .before .args .cells .now) _ (form-is d ∙ c .before .before .before .before .named .given .1) (sym (subject-told (c .before .before .subject-of .result) _ (c .before .before .subject-of .ensures)) ∙ c .enum-told .given .1)
+returns c = let d = c .before .before .before .before .before .before in heartbeat-reads _ _ (bytes d) _ (whole-is d) (d .before .before .before .before .args .cells .now) _ (form-is d ∙ c .before .before .before .before .named .given .1) (sym (subject-told (c .before .before .subject-of .result) _ (c .before .before .subject-of .ensures)) ∙ c .enum-told .given .1)
 
 returns-3 : tie.Need-returns-3
-returns-3 c = let d = c .before .before .before in rw (c .number-of .ensures) (no-length-reads _ (bytes d) _ (whole-is d) (d .before .before .before .before .args .cells .now) (form-is d ∙ c .before .enum-told2 .given .1))
+returns-3 c = let d = c .before .before .before in rw (c .number-of .ensures) (no-length-reads _ _ (bytes d) _ (whole-is d) (d .before .before .before .before .args .cells .now) (form-is d ∙ c .before .enum-told2 .given .1))
 
 returns-4 : tie.Need-returns-4
-returns-4 c = let d = c .before .before .before in rw (c .number-of2 .ensures) (passed-over-reads _ (bytes d) _ (whole-is d) (d .before .before .before .before .args .cells .now) (form-is d ∙ c .before .enum-told3 .given .1))
+returns-4 c = let d = c .before .before .before in rw (c .number-of2 .ensures) (passed-over-reads _ _ (bytes d) _ (whole-is d) (d .before .before .before .before .args .cells .now) (form-is d ∙ c .before .enum-told3 .given .1))
 
 pub contents-spec : {M : Type 1} → statement M
 contents-spec =

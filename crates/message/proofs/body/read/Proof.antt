@@ -11,8 +11,9 @@ use Rattle.head.specs.Head.{frameRules}
 use Rattle.head.specs.FaultsLaws.{head-told}
 use Rattle.head.specs.Rules.{firstFault}
 use Rattle.head.specs.HeadLaws.{good-frame, bad-frame}
+use Rattle.message.specs.ComparedLaws.{frame-early}
 use Rattle.message.specs.Reads.{messageOf, cellsRead}
-use Rattle.message.specs.MessageLaws.{places-by-segment, bad-head}
+use Rattle.message.specs.MessageLaws.{places-by-segment, keys-by-segment, bad-head}
 use borrow.Author.Needs.{needs}
 use Rattle.message.proofs.body.read.Statement.{statement}
 use Rattle.message.proofs.body.read.Tie as tie
@@ -39,20 +40,23 @@ formed-requires c κs =
     let d = c .before .before .before .before in
     (good-frame (letter d) (segmentOf (both d .contracts) (letter d)) (bytes d) (frame-is d (c .before .before .enum-told .given .1)) .0, named-told (c .before .form-in .ensures))
 
+bad-requires : tie.Need-bad-requires
+bad-requires c κs = let d = c .before .before .before in frame-early (letter d) (segmentOf (both d .contracts) (letter d)) (bytes d) (frame-is d (c .before .fault .given .1))
+
 returns : tie.Need-returns
 unfolding cellsRead messageOf
 returns c =
     let d = c .before .before .before .before .before in
     let h = good-frame (letter d) (segmentOf (both d .contracts) (letter d)) (bytes d) (frame-is d (c .before .before .before .enum-told .given .1)) .1 in
-    rw (h, ← places-by-segment (both d) (letter d) (bytes d) (begun d .pre)) (c .formed .ensures)
+    rw (h, ← places-by-segment (both d) (letter d) (bytes d) (begun d .pre), ← keys-by-segment (both d) (letter d) (bytes d) (begun d .pre)) (c .formed .ensures)
 
 returns-2 : tie.Need-returns-2
 unfolding cellsRead
 returns-2 c =
     let d = c .before .before .before .before in
     let h = bad-frame (letter d) (segmentOf (both d .contracts) (letter d)) (bytes d) _ (frame-is d (c .before .before .fault .given .1)) in
-    rw (bad-head (both d) (letter d) (bytes d) _ h, h) (record { told = c .bad .ensures; stored = refl })
+    rw (bad-head (both d) (letter d) (bytes d) _ h, h) (record { told = c .bad .ensures _; stored = refl })
 
 pub read-spec : {M : Type 1} → statement M
 read-spec =
-    tie.close (tie.spec (search needs) (search needs) (search needs) formed-requires (search needs) (search needs) returns returns-2)
+    tie.close (tie.spec (search needs) (search needs) (search needs) formed-requires (search needs) bad-requires returns returns-2)

@@ -1,12 +1,13 @@
 -- The rows of its form, and then its key.
 use Prim.Native.Nat.{ℕ, _-_}
-use mathlib.Core.Path.{_≡_, refl, ap, sym, _∙_}
+use mathlib.Core.Path.{_≡_, refl, subst, subst⁻¹}
 use mathlib.Core.List.{List}
 use native.Mathlib.Omega.{arith}
 use borrow.Author.Needs.{needs}
 use lib.ListN.{take, drop}
 use Rattle.pairs.specs.Lists.{lists}
 use Rattle.layout.specs.declared.read.Verdict.{Verdict}
+use Rattle.message.specs.declared.body.Outline.{Outline}
 use Rattle.message.specs.declared.body.What.{What}
 use mathlib.Core.Option.{Option}
 use Rattle.lookup.specs.Answers.{placeOf}
@@ -14,12 +15,11 @@ use Rattle.forms.specs.declared.forms.Form.{Form}
 use Rattle.forms.specs.declared.forms.Item.{Item}
 use Rattle.forms.specs.Forms.{keyBytesOf}
 use Rattle.forms.specs.Sizes.{bareLength}
-use Rattle.head.specs.Fields.{lengthOf, numberOf, dataOf}
+use Rattle.head.specs.Fields.{lengthOf, numberOf, dataOf, formIn}
+use Rattle.message.specs.Compared.{comparedThere, keysThere, comparedAs}
 use Rattle.message.specs.Message.{messageKey, placeThere, placesThere, ofPlace}
-use Rattle.message.specs.Reads.{rowsRead, ofVerdict, contentsBy, ReadsMessage}
+use Rattle.message.specs.Reads.{rowsRead, ofVerdict, bare, contentsBy, Outlines, ReadsMessage}
 use Rattle.message.specs.MessageLaws.{update-reads}
-use Rattle.message.specs.Numbers.{TellsWhat}
-use Rattle.message.specs.NumbersLaws.{what-told}
 use Rattle.message.proofs.body.update.Statement.{statement}
 use Rattle.message.proofs.body.update.Tie as tie
 
@@ -47,6 +47,10 @@ module _ (c : tie.After-read-update) where
   abbrev found : Item → Option ℕ
   found = placesThere (lists (begun .args .list .now) (begun .args .spreads .now)) bytes (placeOf (begun .args .segment))
 
+  -- the keys compared with it
+  abbrev keys : Item → ℕ
+  keys = keysThere (lists (begun .args .list .now) (begun .args .spreads .now)) bytes (placeOf (begun .args .segment))
+
   whole-is : whole ≡ lengthOf bytes
   whole-is = begun .pre .1
 
@@ -56,16 +60,25 @@ module _ (c : tie.After-read-update) where
       let e : whole - 3 - 8 ≡ lengthOf bytes - bareLength = omega (arith, whole-is) in
       rw e
 
-  ended : (v : Verdict) (w : What) → c .read-update .result ≡ v → w ≡ ofVerdict v (ofPlace (numberOf bytes) form (found item))
-      → ReadsMessage (contentsBy found bytes) (rowsRead bytes .cells) cells (record { what = w; length = whole }) (c .read-update .last .1 .1 .0)
-  ended v w e same =
-      update-reads found bytes whole whole-is w form (begun .pre .2) item (begun .pre .3) (c .read-update .result) cells _
-      (rw data-is at (c .read-update .ensures)) (same ∙ ap (λ (u : Verdict). ofVerdict u (ofPlace (numberOf bytes) form (found item))) (sym e))
+  ended : (v : Verdict) (answer : Outline) → c .read-update .result ≡ v → Outlines (bare (ofVerdict v (ofPlace (numberOf bytes) form (found item))) whole) (keys item) answer
+      → ReadsMessage (contentsBy found bytes) (comparedAs (formIn bytes) keys) (rowsRead bytes .cells) cells answer (c .read-update .last .1 .1 .0)
+  ended v answer e o =
+      update-reads found keys bytes whole whole-is form (begun .pre .2) item (begun .pre .3) (c .read-update .result) v e cells _
+      (rw data-is at (c .read-update .ensures)) answer o
 
-  good-is : {r : What} → TellsWhat (ofPlace (c .before .before .before .number-of .result) form (placeThere item (lists (begun .args .list .now) (begun .args .spreads .now)) (take (keyBytesOf item) (take (whole - 3 - 8) (drop 8 bytes))) (placeOf (begun .args .segment)))) r
-      → r ≡ ofPlace (numberOf bytes) form (found item)
+  good-is : {r : Outline} → Outlines (bare (ofPlace (c .before .before .before .number-of .result) form (placeThere item (lists (begun .args .list .now) (begun .args .spreads .now)) (take (keyBytesOf item) (take (whole - 3 - 8) (drop 8 bytes))) (placeOf (begun .args .segment)))) whole)
+      (comparedThere item (lists (begun .args .list .now) (begun .args .spreads .now)) (take (keyBytesOf item) (take (whole - 3 - 8) (drop 8 bytes))) (placeOf (begun .args .segment))) r
+      → Outlines (bare (ofPlace (numberOf bytes) form (found item)) whole) (keys item) r
   unfolding messageKey
-  good-is t = what-told t ∙ (λ i. ofPlace (c .before .before .before .number-of .ensures i) form (placeThere item (lists (begun .args .list .now) (begun .args .spreads .now)) (take (keyBytesOf item) (data-is i)) (placeOf (begun .args .segment))))
+  good-is {r} o =
+      let place : List ℕ → Option ℕ = λ d. placeThere item (lists (begun .args .list .now) (begun .args .spreads .now)) (take (keyBytesOf item) d) (placeOf (begun .args .segment)) in
+      let steps : List ℕ → ℕ = λ d. comparedThere item (lists (begun .args .list .now) (begun .args .spreads .now)) (take (keyBytesOf item) d) (placeOf (begun .args .segment)) in
+      subst (λ (n : ℕ). Outlines (bare (ofPlace n form (place (dataOf bytes))) whole) (steps (dataOf bytes)) r) (c .before .before .before .number-of .ensures)
+      (subst (λ (d : List ℕ). Outlines (bare (ofPlace (c .before .before .before .number-of .result) form (place d)) whole) (steps d) r) data-is o)
+
+  -- a fault is told with the length that its field has
+  at-length : {w : What} {compared : ℕ} {r : Outline} → Outlines (bare w (lengthOf bytes)) compared r → Outlines (bare w whole) compared r
+  at-length {w} {compared} {r} o = subst⁻¹ (λ (n : ℕ). Outlines (bare w n) compared r) whole-is o
 
 returns : tie.Need-returns
 returns c =
@@ -73,11 +86,11 @@ returns c =
     ended d _ _ (c .before .enum-told .given .1) (good-is d (c .placed .ensures))
 
 returns-2 : tie.Need-returns-2
-returns-2 c = ended (c .before .before .before) _ _ (c .before .row .given .1) refl
+returns-2 c = let d = c .before .before .before .before in ended d _ _ (c .before .before .row .given .1) (at-length d (c .bad .ensures _))
 
 returns-3 : tie.Need-returns-3
-returns-3 c = ended (c .before .before .before) _ _ (c .before .row2 .given .1) refl
+returns-3 c = let d = c .before .before .before .before in ended d _ _ (c .before .before .row2 .given .1) (at-length d (c .bad2 .ensures _))
 
 pub update-spec : {M : Type 1} → statement M
 update-spec =
-    tie.close (tie.spec (search needs) (search needs) (search needs) (search needs) (search needs) (search needs) (search needs) (search needs) (search needs) (search needs) returns returns-2 returns-3)
+    tie.close (tie.spec (search needs) (search needs) (search needs) (search needs) (search needs) (search needs) (search needs) (search needs) (search needs) (λ c κs. refl) (search needs) (λ c κs. refl) returns returns-2 returns-3)

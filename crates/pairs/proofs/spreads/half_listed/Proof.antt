@@ -14,7 +14,7 @@ returns c =
     let d = c .before in
     let a = d .before .before .before .args in
     c .is-found .ensures
-    ∙ ap isFound (found-told contractNo (d .place-of .result) (placeIn (now (a .list)) (a .segment) (now (a .half))) (d .place-of .ensures))
+    ∙ ap isFound (found-told contractNo (d .place-of .result .found) (placeIn (now (a .list)) (a .segment) (now (a .half))) (d .place-of .ensures .place))
 
 pub half-listed-spec : {M : Type 1} → statement M
 half-listed-spec =

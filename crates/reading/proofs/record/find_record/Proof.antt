@@ -29,14 +29,14 @@ module _ (c : tie.After-find) where
   asked : AskedFor (lent start) (start .args .letter) segment
   asked = asked-segment _ _ _ (rw (c .before .before .segment .given .1) at (c .before .before .before .before .check-segment .ensures))
 
-  looked-up : {found : Found} → c .find .result ≡ found → placeIn (start .args .item) (lent start .lists) segment (start .args .key .now) ≡ placeOf found
-  looked-up e = sym (found-told contractNo (c .find .result) _ (c .find .ensures)) ∙ ap placeOf e
+  looked-up : {found : Found} → c .find .result .found ≡ found → placeIn (start .args .item) (lent start .lists) segment (start .args .key .now) ≡ placeOf found
+  looked-up e = sym (found-told contractNo (c .find .result .found) _ (c .find .ensures .place)) ∙ ap placeOf e
 
 record-at-requires : tie.Need-record-at-requires
 record-at-requires c κs =
     let f = c .before .before .before .before in
     let s = start f in
-    (c .fronts-of .ensures .small (s .args .item), place-few (s .args .item) (lent s) (s .args .letter) (s .args .key .now) (asked f .0) (segment f) (asked f .1) _ (looked-up f (c .before .before .place .given .1)))
+    (c .fronts-of .ensures .small (s .args .item), place-few (s .args .item) (lent s) (s .args .letter) (s .args .key .now) (asked f .0) (segment f) (asked f .1) _ (looked-up f (c .before .before .found .given .1)))
 
 returns : tie.Need-returns
 returns c =
@@ -44,8 +44,8 @@ returns c =
     let f = b .before .before .before .before in
     let s = start f in
     let a = s .args in
-    let found = looked-up f (b .before .before .place .given .1) in
-    let at = c .record-at .ensures ∙ ap (λ (n : ℕ). recordAt (a .item) n (b .before .before .place .given .0 .0) (a .level)) (b .fronts-of .ensures .are (a .item)) in
+    let found = looked-up f (b .before .before .found .given .1) in
+    let at = c .record-at .ensures ∙ ap (λ (n : ℕ). recordAt (a .item) n (b .before .before .found .given .0 .0) (a .level)) (b .fronts-of .ensures .are (a .item)) in
     finds-at (a .item) (lent s) (a .letter) (a .key .now) (a .level)
     (key-holds (a .item) (lent s) (a .letter) (a .key .now) (asked f .0) (segment f) (asked f .1) _ found)
     (at ∙ record-found (a .item) (lent s) (a .letter) (a .key .now) (asked f .0) (segment f) (asked f .1) _ found (a .level))

@@ -58,7 +58,7 @@ returns c =
     let wanted : runsWanted (a .list .now) ≡ 66 * c .before .before .before .segments .result = rw (c .before .before .before .segments .ensures) in
     sym
     (ap (λ (r : Refusal). inRuns (a .list .now) (a .lent) (refusalNumbers r)) (c .before .enum-told .given .1)
-    ∙ in-runs-short (a .list .now) (a .lent) _ (omega (arith, wanted, c .if1 .taken))
+    ∙ in-runs-short (a .list .now) (a .lent) _ [] (omega (arith, wanted, c .if1 .taken))
     ∙ ap (λ (n : ℕ). refusalNumbers (Memory n)) wanted)
 
 returns-2 : tie.Need-returns-2

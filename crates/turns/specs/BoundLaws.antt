@@ -5,13 +5,11 @@ use mathlib.Core.Bool.{Bool, true, false, cond}
 use mathlib.Core.List.{List}
 use mathlib.Core.Logic.{_⊎_, ⊎-elim}
 use native.Mathlib.Omega.{arith}
-use lib.Dec.{eqb}
 use lib.ListN.{length, drop, length-drop}
 use Rattle.laws.specs.Order.{order}
 use Rattle.forms.specs.Forms.{subjectOf}
 use Rattle.lookup.specs.Lookup.{segmentOf}
 use Rattle.pairs.specs.Lists.{Lists, Headers}
-use Rattle.head.specs.declared.head.Fault.{Fault}
 use Rattle.head.specs.declared.head.Head.the-variants.{Good}
 use Rattle.head.specs.Fields.{lengthOf}
 use Rattle.message.specs.declared.body.What.{What}

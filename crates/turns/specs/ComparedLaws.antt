@@ -1,6 +1,6 @@
 -- A message that passes has come to its lookup, if it has one; of one that is refused its refusal tells whether it has.
 use Prim.Native.Nat.{ℕ, _+_, _≤_}
-use mathlib.Core.Path.{_≡_, refl, ap, sym, _∙_}
+use mathlib.Core.Path.{_≡_, refl, ap, sym}
 use mathlib.Core.Bool.{Bool, true, false, cond}
 use mathlib.Core.List.{List}
 use mathlib.Core.Logic.{_⊎_, inl, inr}
@@ -20,7 +20,7 @@ use Rattle.message.specs.ComparedLaws.{message-most}
 use Rattle.state.specs.declared.refusal.Refusal.{Refusal}
 use Rattle.state.specs.declared.refusal.Refusal.the-variants.{Gaps}
 use Rattle.state.specs.Refusals.{ofFault}
-use Rattle.turns.specs.Turns.{Box, Acted, acted, refused, numberActs, updated, whatActs}
+use Rattle.turns.specs.Turns.{Box, acted, refused, numberActs, updated, whatActs}
 use Rattle.turns.specs.Compared.{reached}
 
 pub not-both : {refusal : Refusal} {box : Box} → refused refusal ≡ acted box → ⊥

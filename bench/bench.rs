@@ -18,6 +18,7 @@ use std::ptr;
 use std::time::Instant;
 
 const LETTER: u8 = b'D';
+const FUTURES: u8 = b'F';
 const MESSAGES: usize = 1_536; // of a feed; a mix has some more
 const BATCH: usize = 64; // messages in a batch of the table
 
@@ -88,7 +89,7 @@ struct Feed {
 }
 
 // An update as an exchange sends it: every row filled, prices to four places; of a spread's prices every second one lies below zero.
-fn an_update(r: &mut Random, form: &Form, number: u32, key: &[u8]) -> Vec<u8> {
+fn an_update(r: &mut Random, form: &Form, letter: u8, number: u32, key: &[u8]) -> Vec<u8> {
     let values: Vec<u64> = form
         .told()
         .iter()
@@ -101,7 +102,7 @@ fn an_update(r: &mut Random, form: &Form, number: u32, key: &[u8]) -> Vec<u8> {
         })
         .collect();
     let data = reference::write_data(form, key, &values).unwrap_or_else(|_| panic!("these can be written"));
-    feed::sealed([LETTER, form.code], number, &data)
+    feed::sealed([letter, form.code], number, &data)
 }
 
 // Late ones come eight behind their place, and one of forty never.
@@ -120,8 +121,8 @@ fn a_mix(r: &mut Random, keys: &[feed::Key]) -> Vec<Vec<u8>> {
         let key = r.pick(keys);
         match r.below(10) {
             0 => messages.extend([feed::sealed([LETTER, b'H'], 0, &[]), feed::sealed([LETTER, b'O'], number, b"N")]),
-            1..=5 => messages.push(an_update(r, reference::of_contract(1), number, &key)),
-            _ => messages.push(an_update(r, reference::of_contract(2), number, &key)),
+            1..=5 => messages.push(an_update(r, reference::of_contract(LETTER, 1), LETTER, number, &key)),
+            _ => messages.push(an_update(r, reference::of_contract(LETTER, 2), LETTER, number, &key)),
         }
     }
     messages
@@ -144,41 +145,51 @@ fn pairs(keys: &[feed::Key]) -> Vec<feed::Pair> {
     pairs
 }
 
-// In batches of so many messages. Every feed comes with both lists.
+// Every feed comes with both lists, cut into batches of so many messages.
+fn cut(book: &Book, batch: usize, messages: Vec<Vec<u8>>) -> Feed {
+    let (list, spreads) = (book.bytes(), book.spread_bytes());
+    let records = RECORD * book.contracts() + SPREAD_RECORD * book.number_of_pairs();
+    let mut started = Memory { rows: vec![0; GAP_ROW], records: vec![0; records] };
+    reference::start(&list, &spreads, &[1], &mut started.rows, &mut started.records).expect("the lists are sound");
+    let batches = messages.chunks(batch).map(feed::batch).collect();
+    Feed { list, spreads, started, batches, messages: messages.len(), piece: PIECE / batch }
+}
+
+// Updates of a form, each of one of the keys.
+fn updates<const N: usize>(r: &mut Random, form: &Form, letter: u8, keys: &[[u8; N]]) -> Vec<Vec<u8>> {
+    let update = |number| {
+        let key = r.pick(keys);
+        an_update(r, form, letter, number, &key)
+    };
+    (1..=MESSAGES as u32).map(update).collect()
+}
+
 fn feeds(contracts: usize, batch: usize) -> Vec<(&'static str, Feed)> {
     let mut r = Random::new(contracts as u64);
     let keys = feed::keys(&mut r, contracts);
     let pairs = pairs(&keys);
     let book = Book { segments: vec![(LETTER, keys.clone())], spreads: vec![(LETTER, pairs.clone())] };
     let numbers = || 1..=MESSAGES as u32;
-    let mut updates = |form: &Form| -> Vec<Vec<u8>> {
-        let update = |number| {
-            let key = if form.is_pair() { r.pick(&pairs).to_vec() } else { r.pick(&keys).to_vec() };
-            an_update(&mut r, form, number, &key)
-        };
-        numbers().map(update).collect()
-    };
     let all = [
-        ("level 1", updates(reference::of_contract(1))),
-        (LEVEL_2, updates(reference::of_contract(2))),
-        ("spreads, level 1", updates(reference::of_pair(1))),
-        ("spreads, level 2", updates(reference::of_pair(2))),
+        ("level 1", updates(&mut r, reference::of_contract(LETTER, 1), LETTER, &keys)),
+        (LEVEL_2, updates(&mut r, reference::of_contract(LETTER, 2), LETTER, &keys)),
+        ("spreads, level 1", updates(&mut r, reference::of_pair(1), LETTER, &pairs)),
+        ("spreads, level 2", updates(&mut r, reference::of_pair(2), LETTER, &pairs)),
         (HEARTBEATS, numbers().map(|_| feed::sealed([LETTER, b'H'], 0, &[])).collect()),
         ("a mix, late and missing", a_mix(&mut r, &keys)),
         (PASSED_OVER, numbers().map(|number| feed::sealed([LETTER, b'B'], number, &[b'x'; 494])).collect()),
     ];
-    let (list, spreads) = (book.bytes(), book.spread_bytes());
-    let mut started = Memory { rows: vec![0; GAP_ROW], records: vec![0; RECORD * contracts + SPREAD_RECORD * pairs.len()] };
-    reference::start(&list, &spreads, &[1], &mut started.rows, &mut started.records).expect("the lists are sound");
-    let cut = |messages: Vec<Vec<u8>>| Feed {
-        list: list.clone(),
-        spreads: spreads.clone(),
-        started: started.clone(),
-        batches: messages.chunks(batch).map(feed::batch).collect(),
-        messages: messages.len(),
-        piece: PIECE / batch,
-    };
-    all.into_iter().map(|(name, messages)| (name, cut(messages))).collect()
+    all.into_iter().map(|(name, messages)| (name, cut(&book, batch, messages))).collect()
+}
+
+// FN's updates, whose prices are narrower and which have a time stamp.
+fn futures(contracts: usize, batch: usize) -> Vec<(&'static str, Feed)> {
+    let mut r = Random::new(contracts as u64);
+    let keys = feed::keys(&mut r, contracts);
+    let book = Book::of(vec![(FUTURES, keys.clone())]);
+    let of_level = |level| updates(&mut r, reference::of_contract(FUTURES, level), FUTURES, &keys);
+    let names = ["futures, level 1", "futures, level 2"];
+    names.into_iter().zip([1, 2].map(of_level)).map(|(name, messages)| (name, cut(&book, batch, messages))).collect()
 }
 
 // Messages timed in one piece. On a busy machine a process is put aside every few milliseconds: a piece must be much shorter, or
@@ -278,7 +289,8 @@ fn main() {
     println!("{:<24} {:>9} {:>6} {:>8} {:>8} {:>8} {:>7} {:>7}", "messages", "contracts", "", "ours", "by 1", "by 16", "ratio 1", "16");
     let mut worst: (f64, f64) = (0.0, 0.0);
     for contracts in [1, 64, 4_096] {
-        let times: Vec<_> = feeds(contracts, BATCH).into_iter().map(|(name, feed)| (name, shown(name, &feed, contracts, rounds))).collect();
+        let all = feeds(contracts, BATCH).into_iter().chain(futures(contracts, BATCH));
+        let times: Vec<_> = all.map(|(name, feed)| (name, shown(name, &feed, contracts, rounds))).collect();
         for [ours, bytes, sixteens] in times.iter().flat_map(|(_, times)| *times) {
             worst = (worst.0.max(ours / bytes), worst.1.max(ours / sixteens));
         }

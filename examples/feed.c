@@ -1,5 +1,6 @@
-/* Writes a small feed with the library's own writers, two segments, five contracts and two spreads, as a bad line would bring it: a number
- * missing, one late, a damaged batch and a batch cut short.
+/* Writes a small feed with the library's own writers, three segments, seven contracts and two spreads, as a bad line would bring it: a number
+ * missing, one late, a damaged batch and a batch cut short. Of F's two contracts the pre-open session has updates, of one the normal market
+ * too.
  *   feed CONTRACTS BATCHES SPREADS */
 #include "quotebox.h"
 
@@ -14,6 +15,8 @@
 static const char EURO[] = "FUTCUREURINR    27MAR2026            XX";
 static const char DOLLAR[] = "FUTCURUSDINR    27MAR2026            XX";
 static const char FAR_DOLLAR[] = "FUTCURUSDINR    28APR2026            XX";
+static const char FAR_NIFTY[] = "FUTIDXNIFTY     27JAN2026            XX";
+static const char NIFTY[] = "FUTIDXNIFTY     30DEC2025            XX";
 static const char GOLD[] = "FUTCOMGOLD      05APR2026            XX";
 static const char FAR_GOLD[] = "FUTCOMGOLD      05JUN2026            XX";
 
@@ -47,29 +50,38 @@ static void put_number(size_t number, int width) {
     }
 }
 
+#define SEGMENTS 3
+
 /* The contents first: for each segment its letter, a zero byte, its count and where its keys begin. */
-static void write_contents(size_t d_count, size_t t_count, size_t key) {
-    put_number(2, 2);
-    put("D", 2);
-    put_number(d_count, 2);
-    put_number(18, 4);
-    put("T", 2);
-    put_number(t_count, 2);
-    put_number(18 + d_count * key, 4);
+static void write_contents(const size_t counts[SEGMENTS], size_t key) {
+    static const char letters[SEGMENTS] = {'D', 'F', 'T'};
+    size_t offset = 2 + 8 * SEGMENTS;
+    put_number(SEGMENTS, 2);
+    for (int i = 0; i < SEGMENTS; i++) {
+        put(&letters[i], 1);
+        put_number(0, 1);
+        put_number(counts[i], 2);
+        put_number(offset, 4);
+        offset += counts[i] * key;
+    }
 }
 
 static void write_contracts(void) {
-    write_contents(3, 2, QUOTEBOX_KEY);
+    static const size_t counts[SEGMENTS] = {3, 2, 2};
+    write_contents(counts, QUOTEBOX_KEY);
     put(EURO, QUOTEBOX_KEY);
     put(DOLLAR, QUOTEBOX_KEY);
     put(FAR_DOLLAR, QUOTEBOX_KEY);
+    put(FAR_NIFTY, QUOTEBOX_KEY);
+    put(NIFTY, QUOTEBOX_KEY);
     put(GOLD, QUOTEBOX_KEY);
     put(FAR_GOLD, QUOTEBOX_KEY);
 }
 
 /* The same habit: the same segments, and pairs of their contracts. */
 static void write_spreads(void) {
-    write_contents(1, 1, QUOTEBOX_PAIR);
+    static const size_t counts[SEGMENTS] = {1, 0, 1};
+    write_contents(counts, QUOTEBOX_PAIR);
     put(DOLLAR, QUOTEBOX_KEY);
     put(FAR_DOLLAR, QUOTEBOX_KEY);
     put(GOLD, QUOTEBOX_KEY);
@@ -99,12 +111,14 @@ static void add_heartbeat(struct batch *batch, const char *code) {
             answer);
 }
 
-/* An update with the best order of a side and `depth` more behind it, a step apart. */
-static void add_update(struct batch *batch, const char *code, uint32_t number, const char *key, uint64_t buy, uint64_t sell,
-                       uint64_t step, int depth) {
+/* An update with the best order of a side and `depth` more behind it, a step apart; for F with the seconds since 1970, for which D and T have
+ * no place. */
+static void add_stamped(struct batch *batch, const char *code, uint32_t number, const char *key, uint64_t stamp, uint64_t buy, uint64_t sell,
+                        uint64_t step, int depth) {
     uint64_t values[QUOTEBOX_VALUES], answer[4];
     for (int i = 0; i < QUOTEBOX_VALUES; i++) values[i] = QUOTEBOX_NONE;
     values[QUOTEBOX_MARKET_TYPE] = 'N';
+    values[QUOTEBOX_TIME_STAMP] = stamp;
     for (int level = 0; level <= depth; level++) {
         values[QUOTEBOX2_BUY + 2 * level] = buy - step * (uint64_t)level;
         values[QUOTEBOX2_BUY + 2 * level + 1] = 100 + 7 * (uint64_t)level;
@@ -118,6 +132,11 @@ static void add_update(struct batch *batch, const char *code, uint32_t number, c
             quotebox_write_level2((const uint8_t *)code, number, (const uint8_t *)key, values, batch->data + batch->length,
                                   MOST_DATA - batch->length, answer),
             answer);
+}
+
+static void add_update(struct batch *batch, const char *code, uint32_t number, const char *key, uint64_t buy, uint64_t sell,
+                       uint64_t step, int depth) {
+    add_stamped(batch, code, number, key, QUOTEBOX_NONE, buy, sell, step, depth);
 }
 
 /* A difference of prices as a value: below zero the amount with the minus beside it. */
@@ -154,6 +173,9 @@ static void end_batch(struct batch *batch) {
     batch->count = 0;
 }
 
+/* 29 December 2025, 3:30:00 UTC: the pre-open session of F. */
+#define MORNING UINT64_C(1766979000)
+
 static void write_batches(void) {
     static struct batch batch;
     add_heartbeat(&batch, "DH");
@@ -170,6 +192,12 @@ static void write_batches(void) {
     add_spread(&batch, "TP", 4, GOLD, FAR_GOLD, -125000000, -120000000, 5000000, 4);
     end_batch(&batch);
     add_spread(&batch, "DP", 6, DOLLAR, FAR_DOLLAR, -25000, 50000, 25000, 2);
+    end_batch(&batch);
+    add_heartbeat(&batch, "FH");
+    add_stamped(&batch, "PN", 1, NIFTY, MORNING + 61, PRICE(26150, 500000), PRICE(26151, 0), 500000, 3);
+    add_stamped(&batch, "PN", 2, FAR_NIFTY, MORNING + 75, PRICE(26310, 0), PRICE(26312, 0), 1000000, 2);
+    end_batch(&batch);
+    add_stamped(&batch, "FN", 3, NIFTY, MORNING + 900, PRICE(26148, 0), PRICE(26148, 500000), 500000, 4);
     end_batch(&batch);
     put_number(1, 1);
     put_number(505, 2);

@@ -1,5 +1,6 @@
 /* A small host: starts a box, takes a file of batches, one behind the other, and prints how many keys their lookups compared, what is
- * missing, and five prices a side of each listed contract and of each listed spread. Without a file of spreads there are none.
+ * missing, and five prices a side of each listed contract and of each listed spread; of a contract also the time of day that its update has, and
+ * whether it is of the pre-open session. Without a file of spreads there are none.
  *   screen CONTRACTS BATCHES [SPREADS] */
 #include "quotebox.h"
 
@@ -50,18 +51,18 @@ static size_t u16_at(const uint8_t *bytes) { return (size_t)bytes[0] << 8 | byte
 
 static size_t u32_at(const uint8_t *bytes) { return u16_at(bytes) << 16 | u16_at(bytes + 2); }
 
-/* The spread list without pairs, for the contract list's segments: 18 bytes are enough for two. Where the contract list is no list, start
+/* The spread list without pairs, for the contract list's segments: 26 bytes are enough for three. Where the contract list is no list, start
  * will say so. */
 static struct bytes no_spreads(struct bytes list) {
-    struct bytes none = {lend(18, 1), 0};
+    struct bytes none = {lend(26, 1), 0};
     uint64_t answer[4];
-    if (quotebox_no_spreads(list.at, list.length, none.at, 18, answer) == 0) none.length = answer[0];
+    if (quotebox_no_spreads(list.at, list.length, none.at, 26, answer) == 0) none.length = answer[0];
     return none;
 }
 
 static uint32_t start_with(struct box *box, uint64_t answer[4]) {
-    const uint32_t starts[2] = {1, 1};
-    return quotebox_start(box->list.at, box->list.length, box->spreads.at, box->spreads.length, starts, 2, box->rows,
+    const uint32_t starts[3] = {1, 1, 1};
+    return quotebox_start(box->list.at, box->list.length, box->spreads.at, box->spreads.length, starts, 3, box->rows,
                           box->rows_length, box->records, box->records_length, answer);
 }
 
@@ -149,14 +150,22 @@ static void show_orders(const uint64_t *buy, const uint64_t *sell, const char *(
     }
 }
 
+/* When the update was sent, as the time of day in UTC, and the session where it is not the normal market's. */
+static void show_moment(const uint64_t values[QUOTEBOX_VALUES]) {
+    uint64_t stamp = values[QUOTEBOX_TIME_STAMP], of_day = stamp % 86400;
+    if (stamp != QUOTEBOX_NONE) printf(" %02d:%02d:%02d", (int)(of_day / 3600), (int)(of_day / 60 % 60), (int)(of_day % 60));
+    if (values[QUOTEBOX_SESSION] == QUOTEBOX_PRE_OPEN) printf(" pre-open");
+}
+
 static void show_contract(const struct box *box, uint8_t letter, const uint8_t *key) {
     uint64_t values[QUOTEBOX_VALUES], answer[4];
     printf("%c", letter);
     show_key(key);
-    printf("\n");
     if (quotebox_read_level2(box->list.at, box->list.length, box->spreads.at, box->spreads.length, box->rows, box->rows_length,
                              box->records, box->records_length, letter, key, values, answer) != 0)
         fail("a listed contract is refused");
+    if (answer[0] != 0) show_moment(values);
+    printf("\n");
     if (answer[0] == 0) {
         printf("| no record\n");
     } else {

@@ -1,5 +1,6 @@
 //! A small host: starts a box, takes a file of batches, one behind the other, and prints how many keys their lookups compared, what is
-//! missing, and five prices a side of each listed contract and of each listed spread. Without a file of spreads there are none.
+//! missing, and five prices a side of each listed contract and of each listed spread; of a contract also the time of day that its update has,
+//! and whether it is of the pre-open session. Without a file of spreads there are none.
 //!   screen CONTRACTS BATCHES [SPREADS]
 use std::process::exit;
 
@@ -7,14 +8,17 @@ use std::process::exit;
 mod library {
     pub const KEY: usize = 39;
     pub const PAIR: usize = 78;
-    pub const VALUES: usize = 33;
+    pub const VALUES: usize = 35;
     pub const MOST_RUNS: usize = 64;
-    pub const BUY: usize = 2;
-    pub const SELL: usize = 12;
+    pub const SESSION: usize = 1;
+    pub const TIME_STAMP: usize = 3;
+    pub const BUY: usize = 4;
+    pub const SELL: usize = 14;
     pub const SPREAD_BUY: usize = 1;
     pub const SPREAD_SELL: usize = 11;
     pub const NONE: u64 = u64::MAX;
     pub const MINUS: u64 = 1 << 63;
+    pub const PRE_OPEN: u64 = 1;
     pub const MEMORY: u32 = 15;
 
     #[link(name = "host", kind = "static")]
@@ -130,10 +134,10 @@ impl QuoteBox {
     }
 }
 
-/// The spread list without pairs, for the contract list's segments: 18 bytes are enough for two. Where the contract list is no list, start
+/// The spread list without pairs, for the contract list's segments: 26 bytes are enough for three. Where the contract list is no list, start
 /// will say so.
 fn no_spreads(list: &[u8]) -> Vec<u8> {
-    let (mut out, mut answer) = (vec![0; 18], [0; 4]);
+    let (mut out, mut answer) = (vec![0; 26], [0; 4]);
     let refused = unsafe { library::quotebox_no_spreads(list.as_ptr(), list.len(), out.as_mut_ptr(), out.len(), &mut answer) };
     out.truncate(if refused == 0 { answer[0] as usize } else { 0 });
     out
@@ -155,14 +159,14 @@ fn u16_at(bytes: &[u8], at: usize) -> usize {
 /// A start that is lent too little says what it wants: the gap rows first, then the records.
 fn start(list: Vec<u8>, spreads: Vec<u8>) -> QuoteBox {
     let mut quotes = QuoteBox { list, spreads, rows: vec![], records: vec![] };
-    let mut told = quotes.start(&[1, 1]);
+    let mut told = quotes.start(&[1, 1, 1]);
     if told.0 == library::MEMORY {
         quotes.rows = vec![0; told.1[2] as usize];
-        told = quotes.start(&[1, 1]);
+        told = quotes.start(&[1, 1, 1]);
     }
     if told.0 == library::MEMORY {
         quotes.records = vec![0; told.1[2] as usize];
-        told = quotes.start(&[1, 1]);
+        told = quotes.start(&[1, 1, 1]);
     }
     if told.0 != 0 {
         println!("start refused {}", told.0);
@@ -234,15 +238,29 @@ fn show_orders(buy: &[u64], sell: &[u64], shown: fn(u64) -> String) {
     }
 }
 
+/// When the update was sent, as the time of day in UTC, and the session where it is not the normal market's.
+fn show_moment(values: &[u64; library::VALUES]) {
+    let (stamp, of_day) = (values[library::TIME_STAMP], values[library::TIME_STAMP] % 86_400);
+    if stamp != library::NONE {
+        print!(" {:02}:{:02}:{:02}", of_day / 3_600, of_day / 60 % 60, of_day % 60);
+    }
+    if values[library::SESSION] == library::PRE_OPEN {
+        print!(" pre-open");
+    }
+}
+
 fn show_contract(quotes: &QuoteBox, letter: u8, key: &[u8]) {
     print!("{}", letter as char);
     show_key(key);
-    println!();
     let mut values = [0; library::VALUES];
     let (refused, answer) = quotes.read_level2(letter, key.try_into().unwrap(), &mut values);
     if refused != 0 {
         fail("a listed contract is refused");
     }
+    if answer[0] != 0 {
+        show_moment(&values);
+    }
+    println!();
     if answer[0] == 0 {
         println!("| no record");
     } else {

@@ -2,7 +2,8 @@
  *
  * The box has no memory of its own. A host lends each call what it works on:
  *
- *   list      the contract list, a file's bytes; the same at every call.
+ *   list      the contract list, a file's bytes; the same at every call. It has one to three segments, letters D (currency), F (futures and
+ *             options) and T (commodity), ascending.
  *   spreads   the spread list, a file's bytes; the same at every call. It names pairs of listed contracts, 0 to 1,024 a segment, and is
  *             laid out as the contract list, with QUOTEBOX_PAIR bytes for each key: the same segments in the same order, and the
  *             pairs of each strictly ascending. A host without spreads has quotebox_no_spreads write it.
@@ -42,7 +43,7 @@ extern "C" {
 #define QUOTEBOX_ROW_CELLS 132
 
 /* The cells of a contract's two records. */
-#define QUOTEBOX_RECORD_CELLS 48
+#define QUOTEBOX_RECORD_CELLS 52
 
 /* The cells of a pair's two records. */
 #define QUOTEBOX_SPREAD_CELLS 38
@@ -69,12 +70,13 @@ enum {
     QUOTEBOX_FLAG = 3,       /* its flag is above 1 */
     QUOTEBOX_COUNT = 4,      /* it has no messages, or bytes after the last */
     QUOTEBOX_FRAME = 5,      /* message: under 8 bytes left, its length under 11 or over what is left */
-    QUOTEBOX_CODE = 6,       /* message: a letter that is not listed or not the first message's, or no letter A to Z behind it;
+    QUOTEBOX_CODE = 6,       /* message: of a segment that is not listed or not the first message's, or no letter A to Z stands second; where F
+                                is listed the codes PN, PO and PC are F's, and every other code with P is no segment's;
                                 of a call without a batch: the letter asked for is not listed, or the code is not one to be written */
     QUOTEBOX_TRAILER = 7,    /* message: its last byte is not 13 */
     QUOTEBOX_LENGTH = 8,     /* message: a known code with none of its lengths */
-    QUOTEBOX_CHECKSUM = 9,   /* message: its checksum is not the true one; a heartbeat's is not zero; that of a market
-                                status or an end of feed is neither */
+    QUOTEBOX_CHECKSUM = 9,   /* message: its checksum is not the true one; a heartbeat's is not zero; that of a market status, an end of feed
+                                or an FZ is neither */
     QUOTEBOX_NUMBERING = 10, /* message: its sequence number is 0 where it may not be, or a heartbeat's is not 0;
                                 at start: a listed segment's start number is 0 or missing */
     QUOTEBOX_FIELD = 11,     /* message, row: a number's text, market type, status or written key is malformed */
@@ -91,7 +93,7 @@ enum {
 
 /* Writes the spread list without pairs for a contract list: what a host without spreads hands to every other call. With it a batch
  * that has a message of a spread is refused (QUOTEBOX_CONTRACT), as any batch is that has an update of what is not listed.
- * out: written where it is accepted; 10 bytes for one segment, 18 for two.
+ * out: written where it is accepted; 10 bytes for one segment, 18 for two, 26 for three.
  * Accepted: its length.
  * Refused: QUOTEBOX_LIST (only contents, counts, offsets and size are looked at), QUOTEBOX_MEMORY (the bytes of out), in this order. */
 uint32_t quotebox_no_spreads(const uint8_t *list, size_t list_length, uint8_t *out, size_t out_length, uint64_t answer[4]);
@@ -112,7 +114,8 @@ uint32_t quotebox_start(const uint8_t *list, size_t list_length, const uint8_t *
  * lookups of the batch. Each update is looked up once, old ones too, when its rows have passed: a contract's among its segment's contracts, a
  * spread's among its segment's pairs. Of n keys left the one with (n - 1) / 2 below it, rounded down, is compared; a match ends the lookup, and
  * else it goes on in the half where the key belongs. So a lookup compares at most as many keys as its segment's number of them has binary
- * digits: 13 among 4,096 contracts, 11 among 1,024 pairs, 0 where there are none. Heartbeats and messages that are passed over have no lookup.
+ * digits: 13 among 4,096 contracts, 11 among 1,024 pairs, 0 where there are none. Heartbeats and messages that are passed over have no lookup,
+ * and among the latter are updates of F whose market type is another than N.
  * Refused, it is the lookups until then: with the refused message's own for QUOTEBOX_CONTRACT and QUOTEBOX_GAPS, all of them where bytes are
  * left over after the last message (QUOTEBOX_COUNT), and 0 where the batch is refused before its first message. */
 
@@ -146,45 +149,54 @@ uint32_t quotebox_list_gaps(const uint8_t *list, size_t list_length, const uint8
 uint32_t quotebox_write_off(const uint8_t *list, size_t list_length, const uint8_t *spreads, size_t spreads_length, uint32_t *rows,
                             size_t rows_length, const uint64_t *records, size_t records_length, uint8_t letter, uint64_t answer[4]);
 
-/* The values of an update: its sequence number, then one value a row from the market type on, QUOTEBOX_NONE for none. A price
- * counts ten-millionths, a quantity contracts or units, turnover hundredths; market type and status are a character, and a number above
- * 255 in their place is taken as 0. */
-#define QUOTEBOX_VALUES 33
+/* The values of an update of a contract: its sequence number, its session, then one value a row from the market type on, QUOTEBOX_NONE for
+ * none. A price counts ten-millionths, a quantity contracts or units, turnover hundredths; market type and status are a character, and a
+ * number above 255 in their place is taken as 0. The time stamp counts seconds from the beginning of 1970; D and T send none, so that theirs is
+ * always QUOTEBOX_NONE. */
+#define QUOTEBOX_VALUES 35
 
-/* Where each value stands: at level 1, the first 15 alone, */
+/* The sessions. An update of F is of the one that its code says, FN or PN; D and T know the normal market alone. */
+enum {
+    QUOTEBOX_NORMAL = 0,
+    QUOTEBOX_PRE_OPEN = 1
+};
+
+/* Where each value stands: at level 1, the first 17 alone, */
 enum {
     QUOTEBOX_NUMBER = 0,
-    QUOTEBOX_MARKET_TYPE = 1,
-    QUOTEBOX1_BUY_PRICE = 2,
-    QUOTEBOX1_BUY_QUANTITY = 3,
-    QUOTEBOX1_SELL_PRICE = 4,
-    QUOTEBOX1_SELL_QUANTITY = 5,
-    QUOTEBOX1_LAST_PRICE = 6,
-    QUOTEBOX1_TRADED_QUANTITY = 7,
-    QUOTEBOX1_STATUS = 8,
-    QUOTEBOX1_OPENING = 9,
-    QUOTEBOX1_HIGH = 10,
-    QUOTEBOX1_LOW = 11,
-    QUOTEBOX1_CLOSE = 12,
-    QUOTEBOX1_AVERAGE = 13,
-    QUOTEBOX1_TURNOVER = 14
+    QUOTEBOX_SESSION = 1,
+    QUOTEBOX_MARKET_TYPE = 2,
+    QUOTEBOX_TIME_STAMP = 3,
+    QUOTEBOX1_BUY_PRICE = 4,
+    QUOTEBOX1_BUY_QUANTITY = 5,
+    QUOTEBOX1_SELL_PRICE = 6,
+    QUOTEBOX1_SELL_QUANTITY = 7,
+    QUOTEBOX1_LAST_PRICE = 8,
+    QUOTEBOX1_TRADED_QUANTITY = 9,
+    QUOTEBOX1_STATUS = 10,
+    QUOTEBOX1_OPENING = 11,
+    QUOTEBOX1_HIGH = 12,
+    QUOTEBOX1_LOW = 13,
+    QUOTEBOX1_CLOSE = 14,
+    QUOTEBOX1_AVERAGE = 15,
+    QUOTEBOX1_TURNOVER = 16
 };
 
 /* and at level 2, where the best of a side is level 0 and the fifth level 4. */
 enum {
-    QUOTEBOX2_BUY = 2,   /* QUOTEBOX2_BUY + 2 * level: its price; one behind: its quantity */
-    QUOTEBOX2_SELL = 12, /* the same for the sellers */
-    QUOTEBOX2_LAST_PRICE = 22,
-    QUOTEBOX2_TRADED_QUANTITY = 23,
-    QUOTEBOX2_STATUS = 24,
-    QUOTEBOX2_OPENING = 25,
-    QUOTEBOX2_HIGH = 26,
-    QUOTEBOX2_LOW = 27,
-    QUOTEBOX2_CLOSE = 28,
-    QUOTEBOX2_AVERAGE = 29,
-    QUOTEBOX2_ALL_BUYERS = 30,
-    QUOTEBOX2_ALL_SELLERS = 31,
-    QUOTEBOX2_TURNOVER = 32
+    QUOTEBOX2_BUY = 4,   /* QUOTEBOX2_BUY + 2 * level: its price; one behind: its quantity */
+    QUOTEBOX2_SELL = 14, /* the same for the sellers */
+    QUOTEBOX2_LAST_PRICE = 24,
+    QUOTEBOX2_TRADED_QUANTITY = 25,
+    QUOTEBOX2_STATUS = 26,
+    QUOTEBOX2_OPENING = 27,
+    QUOTEBOX2_HIGH = 28,
+    QUOTEBOX2_LOW = 29,
+    QUOTEBOX2_CLOSE = 30,
+    QUOTEBOX2_AVERAGE = 31,
+    QUOTEBOX2_ALL_BUYERS = 32,
+    QUOTEBOX2_ALL_SELLERS = 33,
+    QUOTEBOX2_TURNOVER = 34
 };
 
 /* The values of a spread's update: its sequence number, then one value a row behind the pair's two keys, QUOTEBOX_NONE for none. Every
@@ -215,9 +227,10 @@ enum {
     QUOTEBOX_SPREAD2_ALL_SELLERS = 27
 };
 
-/* Reads a contract's record of level 1 or 2: the highest-numbered update taken.
+/* Reads a contract's record of level 1 or 2: the highest-numbered update taken, in F of both sessions' that of the one which has it.
+ * letter: the segment's, D, F or T; P is none.
  * key: QUOTEBOX_KEY bytes.
- * values: written where there is a record, the first 15 at level 1 and all 33 at level 2.
+ * values: written where there is a record, the first 17 at level 1 and all 35 at level 2.
  * Accepted: 1 where there is a record, 0 where no update was taken.
  * Refused: QUOTEBOX_CODE (the letter is not listed), QUOTEBOX_CONTRACT (the key is not). */
 uint32_t quotebox_read_level1(const uint8_t *list, size_t list_length, const uint8_t *spreads, size_t spreads_length,
@@ -228,7 +241,8 @@ uint32_t quotebox_read_level2(const uint8_t *list, size_t list_length, const uin
                               const uint32_t *rows, size_t rows_length, const uint64_t *records, size_t records_length,
                               uint8_t letter, const uint8_t key[QUOTEBOX_KEY], uint64_t values[QUOTEBOX_VALUES], uint64_t answer[4]);
 
-/* Reads a pair's record of level 1 or 2: the highest-numbered update of the pair taken.
+/* Reads a pair's record of level 1 or 2: the highest-numbered update of the pair taken. A pair of F never has one, since F's messages of pairs
+ * are passed over.
  * pair: QUOTEBOX_PAIR bytes.
  * values: written where there is a record, the first 10 at level 1 and the first 28 at level 2.
  * Accepted: 1 where there is a record, 0 where no update was taken.
@@ -242,14 +256,18 @@ uint32_t quotebox_read_spread2(const uint8_t *list, size_t list_length, const ui
                                uint8_t letter, const uint8_t pair[QUOTEBOX_PAIR], uint64_t values[QUOTEBOX_VALUES], uint64_t answer[4]);
 
 /* Writes a message for a test bench, an update of level 1 or 2 or a heartbeat, into out, from its first byte on.
- * code: "DN" or "TN" for an update, "DH" or "TH" for a heartbeat.
+ * code: "DN", "TN", "FN" or "PN" for an update, "DH", "TH" or "FH" for a heartbeat.
  * number: the sequence number, 1 or more; of a heartbeat 0.
- * key, values: as quotebox_read_level1 and 2 have them. values[QUOTEBOX_NUMBER] changes nothing, and for a heartbeat no byte of key and
- * values does, but both point to their memory all the same.
- * out: written where it is accepted, one byte for each of the message's; 505 are always enough.
+ * key, values: as quotebox_read_level1 and 2 have them. values[QUOTEBOX_NUMBER] and values[QUOTEBOX_SESSION] change nothing, nor does
+ * values[QUOTEBOX_TIME_STAMP] for D and T, and for a heartbeat no byte of key and values does, but both point to their memory all the same.
+ * The market type is 'N'; for F it may be 'O', 'S' or 'A' too, and then no box keeps the update.
+ * out: written where it is accepted, one byte for each of the message's: 249 at level 1 and 505 at level 2, for F 204 and 404; 505 are always
+ * enough.
  * Accepted: the message's length.
  * Refused: QUOTEBOX_CODE, QUOTEBOX_NUMBERING, QUOTEBOX_FIELD and QUOTEBOX_RANGE by row, QUOTEBOX_MEMORY (the bytes of out), in this order.
- * Rows count from 0 with the key's five first, so values[i] is row i + 4. */
+ * A price of F has 10 characters, so that one from 10,000,000,000 on, or with more digits than fit behind its point, is QUOTEBOX_RANGE; so is a
+ * time stamp of 12 digits. Rows count from 0 with the key's five first, so the market type is row 5; behind it values[i] is row i + 3 for F,
+ * and row i + 2 for D and T, which have no row for the time stamp. */
 uint32_t quotebox_write_level1(const uint8_t code[2], uint32_t number, const uint8_t key[QUOTEBOX_KEY],
                                const uint64_t values[QUOTEBOX_VALUES], uint8_t *out, size_t out_length, uint64_t answer[4]);
 

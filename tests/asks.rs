@@ -2,9 +2,9 @@
 #![allow(dead_code)] // each test uses a part
 
 use crate::feed::{Key, Pair};
-use crate::reference::{self, Counts, Form, Refusal, Row, GAP_ROW, MINUS, NONE, RECORD, SPREAD_RECORD};
+use crate::reference::{self, Counts, Form, Refusal, Row, GAP_ROW, MINUS, MOST_SEGMENTS, NONE, RECORD, SPREAD_RECORD};
 
-pub const MEMORY_ROWS: usize = 2 * GAP_ROW;
+pub const MEMORY_ROWS: usize = MOST_SEGMENTS * GAP_ROW;
 pub const MEMORY_RECORDS: usize = 128 * RECORD + 64 * SPREAD_RECORD;
 pub const LARGEST_LIST: usize = 16_384;
 pub const LARGEST_BATCH: usize = 40_000;
@@ -114,10 +114,11 @@ fn text(value: u64, row: Row) -> String {
     }
 }
 
-// The number of an update, and what its rows hold.
+// The number of an update, of a contract's also its session, and what is told of it.
 fn numbers(form: &Form, values: &[u64]) -> String {
-    let rows = values[1..].iter().zip(form.told()).map(|(&value, &(row, _))| text(value, row));
-    [values[0].to_string()].into_iter().chain(rows).collect::<Vec<String>>().join(" ")
+    let (front, told) = values.split_at(form.front());
+    let told = told.iter().zip(form.told()).map(|(&value, &(row, _))| text(value, row));
+    front.iter().map(u64::to_string).chain(told).collect::<Vec<String>>().join(" ")
 }
 
 impl Said {
@@ -196,7 +197,7 @@ impl Bench {
                 Said::WrittenOff { first, last }
             }
             Ask::Record { letter, level, key } => {
-                Said::Record(reference::of_contract(*level), reference::read_record(list, spreads, rows, records, *letter, key, *level)?)
+                Said::Record(reference::of_contract(*letter, *level), reference::read_record(list, spreads, rows, records, *letter, key, *level)?)
             }
             Ask::Spread { letter, level, pair } => {
                 Said::Record(reference::of_pair(*level), reference::read_spread(list, spreads, rows, records, *letter, pair, *level)?)
@@ -205,7 +206,7 @@ impl Bench {
                 Said::Written(reference::write_spread(*code, *level, *number, pair, values, (*room as usize).min(ROOM))?)
             }
             Ask::Write { code, level, number, key, room, values } => {
-                let values = reference::readings(reference::of_contract(*level), values);
+                let values = reference::readings(reference::of_contract(code[0], *level), values);
                 Said::Written(reference::write_message(*code, *level, *number, key, &values, (*room as usize).min(ROOM))?)
             }
             Ask::Lend { rows, records } => {

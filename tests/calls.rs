@@ -3,6 +3,7 @@
 // N times the usual number of histories; --keep leaves the last history's `contracts` and `input` in FOLDER.
 mod asks;
 mod feed;
+mod futures;
 mod halving;
 mod history;
 mod lookups;
@@ -17,7 +18,7 @@ use feed::Book;
 use history::{History, Seen};
 use program::{Contracts, Held, Options};
 use random::Random;
-use reference::{Form, GAP_ROW, KEY, NONE, PRICE, RECORD, SPREAD_RECORD};
+use reference::{of_contract, of_pair, Form, Row, GAP_ROW, KEY, NONE, PRICE, RECORD, SPREAD_RECORD};
 
 const HISTORIES: u64 = 80;
 
@@ -67,7 +68,7 @@ fn batch_cases() -> Vec<Case> {
     let start = || Ask::Start(vec![1]);
     let exchanged = [&HEARTBEAT[..1], &[0, 1, 0, 11], &HEARTBEAT[5..]].concat();
     let record = || Ask::Record { letter: b'D', level: 1, key: CASE_KEY };
-    let read = |buy: &str| format!("record ok 1 78 {buy} - - - - - 32 - - - - - -");
+    let read = |buy: &str| format!("record ok 1 0 78 - {buy} - - - - - 32 - - - - - -");
     let (too_large, malformed) = ("take refused 12 0 6 0 0", "take refused 11 0 6 0 0");
     vec![
         ("P5, P6", vec![start(), Ask::Take(HEARTBEAT.to_vec()), Ask::Take(exchanged)], lines(&["start ok", "take ok 0 0 1 0", "take refused 1 0 0 0 0"])),
@@ -87,8 +88,8 @@ fn gap_cases() -> Vec<Case> {
     let gaps = || Ask::Gaps { letter: b'D', cells: 128 };
     let take = |numbers: &[u32]| numbered(b'D', numbers.iter().copied());
     let odd = |to: u32| (1..=to).step_by(2).map(|n| format!(" {n}-{n}")).collect::<String>();
-    let mut values = vec![NONE; 14];
-    (values[0], values[1], values[7]) = (b'N' as u64, PRICE.largest, b' ' as u64);
+    let mut values = vec![NONE; 15];
+    (values[0], values[2], values[8]) = (b'N' as u64, PRICE.largest, b' ' as u64);
     vec![
         (
             "P11, P12",
@@ -121,17 +122,20 @@ fn gap_cases() -> Vec<Case> {
     ]
 }
 
-// Request 02 M-100 prints 227 bytes for TP's level 1 and 483 for DP's level 2; the widths must come to as much.
+// Request 02 M-100 prints 227 bytes for TP's level 1 and 483 for DP's level 2; the widths must come to as much, and those of 002's sections
+// 4.4 and 4.5 to 204 and 404.
 fn lengths(held: &mut Held) {
-    let forms = [1, 2].map(reference::of_contract).into_iter().chain([1, 2].map(reference::of_pair));
-    for (form, (rows, key, length)) in forms.zip([(19, 39, 249), (37, 39, 505), (19, 78, 227), (37, 78, 483)]) {
-        let widths = |rows: &[(reference::Row, usize)]| rows.iter().map(|&(_, width)| width).sum::<usize>();
-        let right = (form.rows.len(), widths(&form.rows[..form.key_rows]), widths(form.rows) + 11) == (rows, key, length);
+    let (currency, futures, pairs) = ([1, 2].map(|level| of_contract(b'D', level)), [1, 2].map(|level| of_contract(b'F', level)), [1, 2].map(of_pair));
+    let all = [(19, 39, 249), (37, 39, 505), (20, 39, 204), (38, 39, 404), (19, 78, 227), (37, 78, 483)];
+    for (form, (rows, key, length)) in [currency, futures, pairs].concat().into_iter().zip(all) {
+        let widths = |rows: &[(Row, usize)]| rows.iter().map(|&(_, width)| width).sum::<usize>();
+        let sent = form.rows.iter().filter(|(row, _)| *row != Row::Unsent).count();
+        let right = (sent, widths(&form.rows[..form.key_rows]), widths(form.rows) + 11) == (rows, key, length);
         held.hold(right && form.length == length, || format!("reference: the rows of {} bytes", form.length));
     }
-    let cells = |forms: [&Form; 2]| forms.map(|form| 1 + form.told().len());
-    held.hold(cells([1, 2].map(reference::of_contract)) == [15, 33] && RECORD == 15 + 33, || "reference: a contract's cells".into());
-    held.hold(cells([1, 2].map(reference::of_pair)) == [10, 28] && SPREAD_RECORD == 10 + 28, || "reference: a pair's cells".into());
+    let cells = |forms: [&Form; 2]| forms.map(|form| form.front() + form.told().len());
+    held.hold(cells(currency) == [17, 35] && cells(futures) == [17, 35] && RECORD == 17 + 35, || "reference: a contract's cells".into());
+    held.hold(cells(pairs) == [10, 28] && SPREAD_RECORD == 10 + 28, || "reference: a pair's cells".into());
 }
 
 // The cases that only the reference's own functions can be asked: sums, and texts as such.
@@ -160,7 +164,7 @@ fn paper(options: &Options, held: &mut Held) {
     reference_cases(held);
     let list = Book::of(vec![(b'D', vec![CASE_KEY])]).bytes();
     let cases = batch_cases().into_iter().chain(gap_cases()).map(|(name, asked, lines)| (name.to_string(), list.clone(), asked, lines));
-    for (name, list, asked, lines) in cases.chain(spreads::cases()).chain(sums::cases()).chain(lookups::cases()) {
+    for (name, list, asked, lines) in cases.chain(spreads::cases()).chain(sums::cases()).chain(lookups::cases()).chain(futures::cases()) {
         let mut bench = Bench::new(Some(&list));
         let by_reference: Vec<String> = asked.iter().filter_map(|ask| bench.line(ask)).collect();
         held.hold(by_reference == lines, || format!("reference: {name}: {by_reference:?}"));
@@ -173,7 +177,7 @@ fn paper(options: &Options, held: &mut Held) {
 // The file itself: missing, a folder, at its largest, one key too large to be read; and input that comes in pieces.
 fn files(options: &Options, held: &mut Held) {
     let mut r = Random::new(options.seed);
-    let mut lists: Vec<Vec<u8>> = [1usize, 178, 179, 419, 420].map(|n| Book::of(vec![(b'D', feed::keys(&mut r, n))]).bytes()).to_vec();
+    let mut lists: Vec<Vec<u8>> = [1usize, 174, 175, 419, 420].map(|n| Book::of(vec![(b'D', feed::keys(&mut r, n))]).bytes()).to_vec();
     lists.extend([vec![], vec![0; LARGEST_LIST], vec![0; LARGEST_LIST + 1]]);
     let all = lists.iter().map(|list| Contracts::File(list)).chain([Contracts::Missing, Contracts::Folder]);
     for (i, contracts) in all.enumerate() {
@@ -191,8 +195,8 @@ fn files(options: &Options, held: &mut Held) {
 // Lists and pairs at the largest that the bench's memory and its commands hold, and one more.
 fn pairs_at_the_most(options: &Options, held: &mut Held) {
     let mut r = Random::new(options.seed.wrapping_add(70));
-    // 128 contracts and 64 pairs fill the memory, 18 and 203 want two cells more; 209 pairs are the most in 16,384 bytes.
-    for (contracts, pairs) in [(128, 64), (18, 203), (128, 65), (129, 64), (178, 0), (179, 0), (14, 196), (15, 209), (15, 206)] {
+    // 128 contracts and 64 pairs fill the memory, 25 and 205 want two cells more; 209 pairs are the most in 16,384 bytes.
+    for (contracts, pairs) in [(128, 64), (25, 205), (128, 65), (129, 64), (174, 0), (175, 0), (14, 196), (22, 209), (23, 209)] {
         let keys = feed::keys(&mut r, contracts);
         let mut all: Vec<feed::Pair> = keys.iter().take(15).flat_map(|a| keys.iter().take(15).map(move |b| feed::pair(a, b))).collect();
         all.truncate(pairs);
@@ -202,7 +206,7 @@ fn pairs_at_the_most(options: &Options, held: &mut Held) {
         for (k, pair) in [first, last].into_iter().flatten().enumerate() {
             for level in 1..=2 {
                 let number = (1 + 2 * k + level) as u32;
-                asked.push(Ask::Take(feed::batch(&[feed::an_update(&mut r, reference::of_pair(level), b'T', number, &pair)])));
+                asked.push(Ask::Take(feed::batch(&[feed::an_update(&mut r, of_pair(level), b'T', number, &pair)])));
                 asked.push(Ask::Spread { letter: b'T', level, pair });
             }
         }
@@ -210,8 +214,8 @@ fn pairs_at_the_most(options: &Options, held: &mut Held) {
         let list = book.bytes();
         let mut bench = Bench::new(Some(&list));
         let lines: Vec<String> = asked.iter().filter_map(|ask| bench.line(ask)).chain(["end".into()]).collect();
-        let wanted = 48 * contracts + 38 * pairs;
-        let first = if wanted <= 8_576 { "start ok".into() } else { format!("start refused 15 0 0 {wanted}") };
+        let wanted = 52 * contracts + 38 * pairs;
+        let first = if wanted <= 9_088 { "start ok".into() } else { format!("start refused 15 0 0 {wanted}") };
         held.hold(lines[0] == first, || format!("reference: {contracts} contracts and {pairs} pairs: {}", lines[0]));
         let input: Vec<u8> = asked.iter().flat_map(|ask| ask.bytes()).collect();
         let said = options.run(Contracts::File(&list), &input);
@@ -231,15 +235,16 @@ fn from_hex(text: &str) -> Vec<u8> {
 // A quote of a contract, or of the pair of it with another.
 struct Quoted {
     form: &'static Form,
-    letter: u8,
+    code: [u8; 2],
     number: u32,
     contracts: Vec<feed::Key>, // ascending
     values: Vec<u64>,
 }
 
-fn a_quoted(r: &mut Random, form: &'static Form) -> Quoted {
-    let (letter, number) = (r.pick(b"DT"), 1 + r.below(4_294_967_295) as u32);
-    Quoted { form, letter, number, contracts: feed::keys(r, if form.is_pair() { 2 } else { 1 }), values: feed::values_of(r, form) }
+fn a_quoted(r: &mut Random, code: [u8; 2], level: usize) -> Quoted {
+    let form = if code[1] == b'P' { of_pair(level) } else { of_contract(code[0], level) };
+    let number = 1 + r.below(4_294_967_295) as u32;
+    Quoted { form, code, number, contracts: feed::keys(r, if form.is_pair() { 2 } else { 1 }), values: feed::values_of(r, form) }
 }
 
 impl Quoted {
@@ -248,18 +253,27 @@ impl Quoted {
     }
 
     fn ask(&self) -> Ask {
-        let Quoted { form: Form { level, length, .. }, letter, number, values, .. } = self;
-        let (level, number, room, values) = (*level, *number, *length as u16, values.clone());
+        let Quoted { form: Form { level, length, .. }, code, number, values, .. } = self;
+        let (code, level, number, room, values) = (*code, *level, *number, *length as u16, values.clone());
         if self.form.is_pair() {
-            Ask::WriteSpread { code: [*letter, b'P'], level, number, pair: self.pair(), room, values }
+            Ask::WriteSpread { code, level, number, pair: self.pair(), room, values }
         } else {
-            Ask::Write { code: [*letter, b'N'], level, number, key: self.contracts[0], room, values }
+            Ask::Write { code, level, number, key: self.contracts[0], room, values }
         }
     }
 
-    // What a box with just this contract or pair holds after it took the message.
-    fn read_back(&self, message: Vec<u8>) -> Option<Vec<u64>> {
-        let mut book = Book::of(vec![(self.letter, self.contracts.clone())]);
+    // Its number, of a contract its session, and its values, minus zero as zero; no record where the market type is another than N.
+    fn right(&self) -> Option<Vec<u64>> {
+        let values = reference::readings(self.form, &self.values);
+        let session = if self.form.is_pair() { vec![] } else { vec![(self.code[0] == b'P') as u64] };
+        let kept = self.form.is_pair() || values[0] == b'N' as u64;
+        kept.then(|| [vec![self.number as u64], session, values].concat())
+    }
+
+    // What a box with just this contract or pair holds after it took the message; None where it refuses it.
+    fn read_back(&self, message: Vec<u8>) -> Option<Option<Vec<u64>>> {
+        let letter = if self.code[0] == b'P' { b'F' } else { self.code[0] };
+        let mut book = Book::of(vec![(letter, self.contracts.clone())]);
         if self.form.is_pair() {
             book.spreads[0].1.push(self.pair());
         }
@@ -269,9 +283,9 @@ impl Quoted {
         reference::take(reference::sum_by_sixteens, &list, &spreads, &mut rows, &mut records, &feed::batch(&[message])).ok()?;
         let level = self.form.level;
         if self.form.is_pair() {
-            reference::read_spread(&list, &spreads, &rows, &records, self.letter, &self.pair(), level).ok()?
+            reference::read_spread(&list, &spreads, &rows, &records, letter, &self.pair(), level).ok()
         } else {
-            reference::read_record(&list, &spreads, &rows, &records, self.letter, &self.contracts[0], level).ok()?
+            reference::read_record(&list, &spreads, &rows, &records, letter, &self.contracts[0], level).ok()
         }
     }
 }
@@ -279,8 +293,8 @@ impl Quoted {
 fn writes(options: &Options, held: &mut Held) {
     let mut r = Random::new(options.seed.wrapping_add(50));
     for run in 0..WRITES / WRITES_A_RUN * options.times as usize {
-        let form = |i: usize| if i % 4 < 2 { reference::of_contract(1 + i % 2) } else { reference::of_pair(1 + i % 2) };
-        let quotes: Vec<Quoted> = (0..WRITES_A_RUN).map(|i| a_quoted(&mut r, form(i))).collect();
+        let codes = [b"DN", b"TN", b"FN", b"PN", b"DP", b"TP"];
+        let quotes: Vec<Quoted> = (0..WRITES_A_RUN).map(|i| a_quoted(&mut r, *codes[i / 2 % codes.len()], 1 + i % 2)).collect();
         let input: Vec<u8> = quotes.iter().flat_map(|quoted| quoted.ask().bytes()).collect();
         let said = options.run(Contracts::Missing, &input);
         let mut said = said.lines();
@@ -288,10 +302,9 @@ fn writes(options: &Options, held: &mut Held) {
             let line = said.next().unwrap_or("");
             let message = line.strip_prefix(&format!("write ok {} ", quoted.form.length)).map(from_hex);
             let back = message.and_then(|message| quoted.read_back(message));
-            // Minus zero comes back as zero.
-            let values = reference::readings(quoted.form, &quoted.values);
-            let right = back == Some([&[quoted.number as u64], &values[..]].concat());
-            held.hold(right, || format!("calls: seed {} write {run}/{i}: wrote {values:?}, the line {line:?} reads back as {back:?}", options.seed));
+            let right = quoted.right();
+            let otherwise = || format!("calls: seed {} write {run}/{i}: wrote {right:?}, the line {line:?} reads back as {back:?}", options.seed);
+            held.hold(back.as_ref() == Some(&right), otherwise);
         }
         held.hold(said.next() == Some("end"), || format!("calls: seed {} write {run}: no end", options.seed));
     }

@@ -2,7 +2,7 @@
 #![allow(dead_code)] // each test uses a part
 
 use crate::random::Random;
-use crate::reference::{self, Form, Kind, Row, KEY, LENGTHS, MINUS, NONE, PAIR, PRICE, QUANTITY, RUNS, SPREAD_LENGTHS};
+use crate::reference::{self, Form, Kind, Row, FUTURES_LENGTHS, KEY, LENGTHS, MINUS, NONE, PAIR, PRICE, QUANTITY, RUNS, SPREAD_LENGTHS};
 
 pub type Key = [u8; KEY];
 pub type Pair = [u8; PAIR];
@@ -151,9 +151,18 @@ pub fn keys(r: &mut Random, number: usize) -> Vec<Key> {
     keys
 }
 
+// The letters of a list's segments.
+pub fn some_letters(r: &mut Random) -> &'static [u8] {
+    r.pick(&[b"DFT".as_slice(), b"DFT", b"DF", b"FT", b"DT", b"DT", b"D", b"F", b"T"])
+}
+
 // At most `most` contracts a segment.
 pub fn a_book(r: &mut Random, most: u64) -> Book {
-    let letters: &[u8] = r.pick(&[b"DT".as_slice(), b"DT", b"D", b"T"]);
+    let letters = some_letters(r);
+    book_of(r, letters, most)
+}
+
+pub fn book_of(r: &mut Random, letters: &[u8], most: u64) -> Book {
     let segments = letters.iter().map(|&letter| {
         let number = if r.one_in(3) { 1 + r.below(3).min(most - 1) } else { 1 + r.below(most) };
         (letter, keys(r, number as usize))
@@ -166,9 +175,14 @@ pub fn damaged_list(r: &mut Random, list: &[u8]) -> Vec<u8> {
     damaged_file(r, list, KEY)
 }
 
+// The bytes before the bodies of a file that is sound so far.
+fn contents_of(list: &[u8]) -> usize {
+    2 + 8 * list[1] as usize
+}
+
 fn damaged_file(r: &mut Random, list: &[u8], key: usize) -> Vec<u8> {
     let mut list = list.to_vec();
-    let contents = if list[1] == 2 { 18 } else { 10 };
+    let contents = contents_of(&list);
     let keys = (list.len() - contents) / key;
     match r.below(8) {
         0 => list.push(r.next() as u8),
@@ -191,7 +205,7 @@ fn damaged_file(r: &mut Random, list: &[u8], key: usize) -> Vec<u8> {
         6 => list = list[..r.below(contents as u64 + 1) as usize].to_vec(),
         _ => {
             let at = r.below(contents as u64) as usize;
-            list[at] = r.pick(b"\x00\x01\x02\x03DFTZ\x10\xff");
+            list[at] = r.pick(b"\x00\x01\x02\x03\x04DFPTZ\x10\xff");
         }
     }
     list
@@ -217,11 +231,18 @@ pub const WRONG_PAIRS: [&str; 6] = [
     "a byte outside 32 to 126",
     "a first half that is not listed",
     "a second half that is not listed",
-    "a half that is listed for the other segment alone",
+    "a half that is listed for another segment alone",
 ];
 
 pub fn spread_wrongs() -> Vec<&'static str> {
     [&WRONG_CONTENTS[..], &WRONG_PAIRS].concat()
+}
+
+// All segments but one; None where there is no other.
+fn without(pairs: &[(u8, Vec<Pair>)], which: usize) -> Option<Vec<(u8, Vec<Pair>)>> {
+    let mut fewer = pairs.to_vec();
+    fewer.remove(which);
+    Some(fewer).filter(|fewer| !fewer.is_empty())
 }
 
 // The spread list of these pairs with just that wrong; None where there is no such segment, or nothing would be wrong.
@@ -233,9 +254,9 @@ fn with_wrong_contents(r: &mut Random, what: &str, pairs: &[(u8, Vec<Pair>)]) ->
     let at = 2 + 8 * which; // its contents: letter, zero byte, count, offset
     match what {
         "an empty file" => spreads.clear(),
-        "another number of segments" => put(0, &r.pick(&[0, 3, 0x0101, 0x0100, 0x0200u16]).to_be_bytes()),
-        "fewer segments than the contract list's" => spreads = file(&[pairs.get(1 - which)?.clone()]),
-        "another letter" => put(at, &[r.pick(if letter == b'D' { b"TFdU" } else { b"DFtU" })]),
+        "another number of segments" => put(0, &r.pick(&[0, 4, 0x0101, 0x0100, 0x0200, 0x0300u16]).to_be_bytes()),
+        "fewer segments than the contract list's" => spreads = file(&without(pairs, which)?),
+        "another letter" => put(at, &[r.pick(&b"DFTPdftU".iter().copied().filter(|&other| other != letter).collect::<Vec<u8>>())]),
         "a byte that should be zero" => put(at + 1, &[r.pick(&[1, 32, 255])]),
         "a count of 1,025" => put(at + 2, &1_025u16.to_be_bytes()),
         "a count that is off" => put(at + 2, &(if count > 0 && r.one_in(2) { count - 1 } else { count + 1 }).to_be_bytes()),
@@ -277,7 +298,8 @@ fn with_wrong_pairs(r: &mut Random, what: &str, book: &Book, pairs: &[(u8, Vec<P
         "a first half that is not listed" => pairs.push(pair(&not_listed(a_key(r))?, &r.pick(keys))),
         "a second half that is not listed" => pairs.push(pair(&r.pick(keys), &not_listed(a_key(r))?)),
         _ => {
-            let (listed, strange) = (r.pick(keys), not_listed(r.pick(&book.segments.get(1 - which)?.1))?);
+            let other = (which + 1 + r.below(2) as usize) % book.segments.len();
+            let (listed, strange) = (r.pick(keys), not_listed(r.pick(&book.segments[other].1))?);
             pairs.push(if r.one_in(2) { pair(&listed, &strange) } else { pair(&strange, &listed) });
         }
     }
@@ -310,7 +332,7 @@ pub fn shuffled_list(r: &mut Random, list: &[u8]) -> Vec<u8> {
 }
 
 pub fn shuffled_file(r: &mut Random, list: &[u8], key: usize) -> Vec<u8> {
-    let contents = if list[1] == 2 { 18 } else { 10 };
+    let contents = contents_of(list);
     let mut bodies: Vec<&[u8]> = list[contents..].chunks(key).collect();
     for i in (1..bodies.len()).rev() {
         bodies.swap(i, r.below(i as u64 + 1) as usize);
@@ -324,19 +346,35 @@ fn digits(r: &mut Random, number: u64) -> String {
     (0..number).map(|_| char::from(b'0' + if r.one_in(5) { 0 } else { r.below(10) as u8 })).collect()
 }
 
+// Texts at the edges of what is in range, in fields of either width.
+const GOOD_PRICES: [&str; 12] = [
+    "99999999999.99999", "0", "0.0000001", "0000000.0000001", "99999999999", "123456789.1234567", "00000099999999999", "9999999999", "99.9999999",
+    "99999999.9", "0000000000", "000.000000",
+];
+const GOOD_QUANTITIES: [&str; 6] = ["999999999999", "0", "000000000001", "1", "99999999999", "00000000000"];
+const GOOD_TURNOVERS: [&str; 7] = [
+    "9999999999999999.99", "0", "0.01", "0000009999999999999999.99", "0.00", "9999999999999999", "0000000000000000000000.10",
+];
+
+// One that the width holds.
+fn a_fitting<'a>(r: &mut Random, texts: &[&'a str], width: usize) -> &'a str {
+    let fitting: Vec<&str> = texts.iter().copied().filter(|text| text.len() <= width).collect();
+    r.pick(&fitting)
+}
+
 // A text that denotes an amount in range, not always the shortest one.
 pub fn a_text(r: &mut Random, kind: Kind, width: usize) -> Vec<u8> {
     let edges: &[&str] = match kind {
-        PRICE => &["99999999999.99999", "0", "0.0000001", "0000000.0000001", "99999999999", "123456789.1234567", "00000099999999999"],
-        QUANTITY => &["999999999999", "0", "000000000001", "1"],
-        _ => &["9999999999999999.99", "0", "0.01", "0000009999999999999999.99", "0.00", "9999999999999999", "0000000000000000000000.10"],
+        PRICE => &GOOD_PRICES,
+        QUANTITY => &GOOD_QUANTITIES,
+        _ => &GOOD_TURNOVERS,
     };
     let mut text = match r.below(12) {
         0 => String::new(),
-        1 => r.pick(edges).to_string(),
+        1 => a_fitting(r, edges, width).to_string(),
         _ => {
             let most = if kind == PRICE { 11 } else { 12 };
-            let whole = 1 + r.below(most);
+            let whole = 1 + r.below(most.min(width as u64));
             let mut text = digits(r, whole);
             if kind.places > 0 && r.below(3) > 0 {
                 let room = (width - text.len()).saturating_sub(1).min(kind.places) as u64;
@@ -407,7 +445,7 @@ pub fn a_wrong_difference(r: &mut Random, width: usize) -> Vec<u8> {
 }
 
 fn a_wrong_one(r: &mut Random, of_kind: &[&str], width: usize) -> Vec<u8> {
-    let text = if r.one_in(2) { r.pick(of_kind) } else { r.pick(&SHAPES) };
+    let text = if r.one_in(2) { a_fitting(r, of_kind, width) } else { r.pick(&SHAPES) };
     let mut text = format!("{text:>width$}").into_bytes();
     let spaces = text.iter().take_while(|&&b| b == b' ').count();
     if r.one_in(3) {
@@ -420,10 +458,15 @@ fn a_wrong_one(r: &mut Random, of_kind: &[&str], width: usize) -> Vec<u8> {
     text
 }
 
-fn a_field(r: &mut Random, row: Row, width: usize) -> Vec<u8> {
+// Of most updates N, where others may stand.
+fn a_market_type(r: &mut Random, form: &Form) -> u8 {
+    if !form.is_pair() && r.one_in(4) { r.pick(form.market_types) } else { b'N' }
+}
+
+fn a_field(r: &mut Random, market_type: u8, row: Row, width: usize) -> Vec<u8> {
     match row {
-        Row::Text => vec![],
-        Row::MarketType => vec![b'N'],
+        Row::Text | Row::Unsent => vec![],
+        Row::MarketType => vec![market_type],
         Row::Status => vec![r.pick(b"S ")],
         Row::Number(kind) => a_text(r, kind, width),
         Row::Difference => a_difference(r, width),
@@ -456,15 +499,27 @@ fn seal(message: &mut [u8]) {
     message[end..end + 2].copy_from_slice(&sum);
 }
 
-pub fn an_update(r: &mut Random, form: &Form, letter: u8, number: u32, key: &[u8]) -> Vec<u8> {
-    let mut data = key.to_vec();
-    for &(row, width) in form.told() {
-        data.extend(a_field(r, row, width));
-    }
-    sealed([letter, form.code], number, &data)
+// A code of a segment: where 002 prints one of the pre-open session beside F's, either.
+fn a_code(r: &mut Random, letter: u8, second: u8) -> [u8; 2] {
+    let pre_open = letter == b'F' && b"NOC".contains(&second) && r.one_in(2);
+    [if pre_open { b'P' } else { letter }, second]
 }
 
-// One whose rows behind the key are blank.
+// With that code; a pair's has no market type.
+pub fn update_of(r: &mut Random, form: &Form, code: [u8; 2], market_type: u8, number: u32, key: &[u8]) -> Vec<u8> {
+    let mut data = key.to_vec();
+    for &(row, width) in form.told() {
+        data.extend(a_field(r, market_type, row, width));
+    }
+    sealed(code, number, &data)
+}
+
+pub fn an_update(r: &mut Random, form: &Form, letter: u8, number: u32, key: &[u8]) -> Vec<u8> {
+    let (code, market_type) = (a_code(r, letter, form.code), a_market_type(r, form));
+    update_of(r, form, code, market_type, number, key)
+}
+
+// One whose rows behind the key are blank. The letter is a segment's, or P.
 pub fn a_blank_update(form: &Form, letter: u8, number: u32, key: &[u8]) -> Vec<u8> {
     let mut data = key.to_vec();
     for &(row, width) in form.told() {
@@ -473,16 +528,22 @@ pub fn a_blank_update(form: &Form, letter: u8, number: u32, key: &[u8]) -> Vec<u
     sealed([letter, form.code], number, &data)
 }
 
-// The second bytes of what is passed over: market status and end of feed, which may carry zero (000 and 003, 4.2 and 4.11), and the rest.
-pub const UNSUMMED: &[u8] = b"CEO";
-pub const SUMMED: &[u8] = b"ABDFGIJKLMQRSTUVWXYZ";
+// The second bytes of a segment's messages that are passed over: those which may carry zero (000, 002 and 003, 4.2 and 4.11; 002 4.10), and
+// the rest, to which F's messages of pairs belong.
+pub fn unsummed(letter: u8) -> &'static [u8] {
+    if letter == b'F' { b"CEOZ" } else { b"CEO" }
+}
+
+pub fn summed(letter: u8) -> &'static [u8] {
+    if letter == b'F' { b"ABDFGIJKLMPQRSTUVWXY" } else { b"ABDFGIJKLMQRSTUVWXYZ" }
+}
 
 fn passed_over(r: &mut Random, letter: u8, number: u32, seconds: &[u8]) -> Vec<u8> {
-    let code = r.pick(seconds);
-    let length = if r.one_in(6) { r.pick(&[LENGTHS, SPREAD_LENGTHS].concat()) as u64 - 11 } else { r.below(60) };
+    let second = r.pick(seconds);
+    let length = if r.one_in(6) { r.pick(&[LENGTHS, SPREAD_LENGTHS, FUTURES_LENGTHS].concat()) as u64 - 11 } else { r.below(60) };
     let data: Vec<u8> = (0..length).map(|_| r.next() as u8).collect();
-    let zero = UNSUMMED.contains(&code) && r.one_in(2);
-    (if zero { unsealed } else { sealed })([letter, code], number, &data)
+    let zero = unsummed(letter).contains(&second) && r.one_in(2);
+    (if zero { unsealed } else { sealed })(a_code(r, letter, second), number, &data)
 }
 
 // A sound message. A heartbeat looks at no number; pairs have updates where there are any.
@@ -490,52 +551,66 @@ pub fn a_message(r: &mut Random, book: &Book, letter: u8, number: u32) -> Vec<u8
     let level = 1 + r.below(5) as usize / 3;
     match r.below(10) {
         0 => sealed([letter, b'H'], 0, &[]),
-        1 => passed_over(r, letter, number, UNSUMMED),
-        2 => passed_over(r, letter, number, SUMMED),
-        3..=5 if !book.listed_pairs(letter).is_empty() => {
+        1 => passed_over(r, letter, number, unsummed(letter)),
+        2 => passed_over(r, letter, number, summed(letter)),
+        3..=5 if letter != b'F' && !book.listed_pairs(letter).is_empty() => {
             let pair = book.a_pair(r, letter);
             an_update(r, reference::of_pair(level), letter, number, &pair)
         }
         _ => {
             let key = book.a_key(r, letter);
-            an_update(r, reference::of_contract(level), letter, number, &key)
+            an_update(r, reference::of_contract(letter, level), letter, number, &key)
         }
     }
 }
 
-fn field_of(form: &Form, row: usize) -> (usize, usize) {
-    let before: usize = form.rows[..row].iter().map(|&(_, width)| width).sum();
-    (8 + before, form.rows[row].1)
+// The form of an update of a segment: of a pair now and then, where such messages have one.
+pub fn a_form(r: &mut Random, letter: u8, level: usize) -> &'static Form {
+    if letter != b'F' && r.one_in(3) { reference::of_pair(level) } else { reference::of_contract(letter, level) }
+}
+
+// Where the field of what is told in the k-th place begins in a message, and its width.
+fn field_of(form: &Form, k: usize) -> (usize, usize) {
+    let before: usize = form.told()[..k].iter().map(|&(_, width)| width).sum();
+    (8 + form.key + before, form.told()[k].1)
+}
+
+// The places of what is told that a field is sent for and that pass a test.
+fn places(form: &Form, test: impl Fn(Row) -> bool) -> Vec<usize> {
+    (0..form.told().len()).filter(|&k| form.told()[k].0 != Row::Unsent && test(form.told()[k].0)).collect()
 }
 
 // Makes a wrong row in an update, so that 11 or 12 is due.
 fn damage_row(r: &mut Random, form: &Form, message: &mut [u8]) {
-    let any = form.key_rows + r.below(form.told().len() as u64) as usize;
-    let row = match r.below(8) {
-        0 => form.key_rows,
-        1 => form.rows.iter().position(|&(row, _)| row == Row::Status).unwrap_or(any),
-        2 => form.rows.len() - 1,
+    let all = places(form, |_| true);
+    let any = r.pick(&all);
+    let k = match r.below(8) {
+        0 => all[0],
+        1 => places(form, |row| row == Row::Status).first().copied().unwrap_or(any),
+        2 => all[all.len() - 1],
+        3 => all[1],
         _ => any,
     };
-    let (at, width) = field_of(form, row);
+    let (at, width) = field_of(form, k);
     let field = &mut message[at..at + width];
-    match form.rows[row].0 {
+    match form.told()[k].0 {
         Row::Number(kind) => field.copy_from_slice(&a_wrong_text(r, kind, width)),
         Row::Difference => field.copy_from_slice(&a_wrong_difference(r, width)),
-        _ => field[0] = r.pick(b"nOSA `s\x00\xff"),
+        _ => field[0] = r.pick(b"nXBosa`OSA \x00\xff"),
     }
 }
 
 // A number that is only too large or too fine, so that 12 is due. No quantity of its width is either.
 fn damage_range(r: &mut Random, form: &Form, message: &mut [u8]) {
-    let rows: Vec<usize> = (form.key_rows..form.rows.len()).filter(|&row| form.rows[row].1 > 12).collect();
-    let row = r.pick(&rows);
-    let (at, width) = field_of(form, row);
-    let text = match form.rows[row].0 {
-        Row::Difference => r.pick(&["-100000000000", "-1.00000000", "-0.00000000", "-9999999999999999", "100000000000", "1.00000000"]),
-        Row::Number(PRICE) => r.pick(&["100000000000", "1.00000000", "0.00000000", "99999999999999999"]),
-        _ => r.pick(&["10000000000000000", "1.000", "18446744073709551616", "9999999999999999999999999"]),
+    let numbers = places(form, |row| row == Row::Difference || matches!(row, Row::Number(kind) if kind != QUANTITY));
+    let k = r.pick(&numbers);
+    let (at, width) = field_of(form, k);
+    let texts: &[&str] = match form.told()[k].0 {
+        Row::Difference => &["-100000000000", "-1.00000000", "-0.00000000", "-9999999999999999", "100000000000", "1.00000000"],
+        Row::Number(PRICE) => &["100000000000", "1.00000000", "0.00000000", "99999999999999999", "0.12345678"],
+        _ => &["10000000000000000", "1.000", "18446744073709551616", "9999999999999999999999999"],
     };
+    let text = a_fitting(r, texts, width);
     message[at..at + width].copy_from_slice(format!("{text:>width$}").as_bytes());
 }
 
@@ -560,7 +635,7 @@ fn damage_sum(r: &mut Random, message: &mut [u8]) {
 
 // An update whose sum has a byte that is lowered, made by trying contents.
 fn a_lowered_update(r: &mut Random, book: &Book, letter: u8, number: u32) -> Vec<u8> {
-    let form = if r.one_in(3) { reference::of_pair(1) } else { reference::of_contract(1) };
+    let form = a_form(r, letter, 1);
     let key = book.a_key_for(r, form, letter);
     loop {
         let message = an_update(r, form, letter, number, &key);
@@ -573,11 +648,11 @@ fn a_lowered_update(r: &mut Random, book: &Book, letter: u8, number: u32) -> Vec
 
 // The form of an update that stands; anything else is made into one first.
 fn as_update(r: &mut Random, book: &Book, letter: u8, number: u32, message: &mut Vec<u8>) -> &'static Form {
-    if let Some(form) = reference::form_of(message[1], message.len()) {
+    if let Some(form) = reference::form_of([message[0], message[1]], message.len()) {
         return form;
     }
     let level = 1 + r.below(2) as usize;
-    let form = if r.one_in(3) { reference::of_pair(level) } else { reference::of_contract(level) };
+    let form = a_form(r, letter, level);
     let key = book.a_key_for(r, form, letter);
     *message = an_update(r, form, letter, number, &key);
     form
@@ -599,8 +674,13 @@ pub fn damage(r: &mut Random, rule: u8, book: &Book, letter: u8, number: u32, me
             message[2..4].copy_from_slice(&length.to_be_bytes());
         }
         6 => {
-            let at = r.below(2) as usize;
-            message[at] = if at == 0 { r.pick(b"DTFdt\x00\xff") } else { r.pick(b"@[an`{\x00\xff1 h") };
+            match r.below(5) {
+                0 | 1 => message[0] = r.pick(b"DDTTFFPdtfp\x00\xff"),
+                2 => message[1] = r.pick(b"@[an`{\x00\xff1 h"),
+                // Codes with P that no segment has, and those that are F's and so of no other batch.
+                3 => message[..2].copy_from_slice(&[b'P', r.pick(b"ABDEFGHIJKLMPQRSTUVWXYZ")]),
+                _ => message[..2].copy_from_slice(&[b'P', r.pick(b"NOC")]),
+            }
             reseal(r, message);
         }
         7 => *message.last_mut().unwrap() = r.pick(&[0, 10, 12, 14, 141, 255]),
@@ -609,8 +689,8 @@ pub fn damage(r: &mut Random, rule: u8, book: &Book, letter: u8, number: u32, me
             match r.below(6) {
                 0 => *message = sealed([letter, b'H'], 0, &[]),
                 1 => *message = a_lowered_update(r, book, letter, number),
-                2 => *message = passed_over(r, letter, number, SUMMED),
-                3 => *message = passed_over(r, letter, number, UNSUMMED),
+                2 => *message = passed_over(r, letter, number, summed(letter)),
+                3 => *message = passed_over(r, letter, number, unsummed(letter)),
                 _ => {}
             }
             damage_sum(r, message);
@@ -645,15 +725,18 @@ pub fn damage(r: &mut Random, rule: u8, book: &Book, letter: u8, number: u32, me
     }
 }
 
-// A length that is none of its code's, with all else as it should be: the other code's lengths too.
+// A length that is none of its code's, with all else as it should be: other codes' lengths too, and those that 002's messages once had.
 fn damage_length(r: &mut Random, book: &Book, letter: u8, number: u32, message: &mut Vec<u8>) {
     let form = as_update(r, book, letter, number, message);
     if r.one_in(4) {
         message[1] = b'H';
     }
     let near = form.length as u64 - 1 + 2 * r.below(2);
-    let others = if form.is_pair() { LENGTHS } else { SPREAD_LENGTHS };
-    let length = r.pick(&[11, 12, near as usize, near as usize, others[0], others[1], 260]);
+    let code = [message[0], form.code];
+    let all = [LENGTHS, SPREAD_LENGTHS, FUTURES_LENGTHS].concat();
+    let others: Vec<usize> = all.into_iter().filter(|&length| reference::form_of(code, length).is_none()).collect();
+    let other = r.pick(&others);
+    let length = r.pick(&[11, 12, near as usize, near as usize, other, other, other, other, 193, 260]);
     message.resize(length, b' ');
     message[2..4].copy_from_slice(&(length as u16).to_be_bytes());
     *message.last_mut().unwrap() = 13;
@@ -831,7 +914,8 @@ fn a_signed_amount(r: &mut Random, width: usize) -> u64 {
 
 pub fn values_of(r: &mut Random, form: &Form) -> Vec<u64> {
     let values = form.told().iter().map(|&(row, width)| match row {
-        Row::MarketType => b'N' as u64,
+        Row::MarketType => a_market_type(r, form) as u64,
+        Row::Unsent => r.next(), // which is not looked at
         Row::Status => r.pick(b"S ") as u64,
         Row::Number(_) | Row::Difference if r.one_in(5) => NONE,
         Row::Number(kind) => an_amount(r, kind, width),
@@ -841,17 +925,14 @@ pub fn values_of(r: &mut Random, form: &Form) -> Vec<u64> {
     values.collect()
 }
 
-pub fn a_quote(r: &mut Random, level: usize) -> Vec<u64> {
-    values_of(r, reference::of_contract(level))
-}
-
 pub fn damage_quote(r: &mut Random, values: &mut [u64]) {
     let at = r.below(values.len() as u64 + 6);
-    let at = if at < values.len() as u64 { at as usize } else { r.pick(&[0, 7, 23]).min(values.len() - 1) };
+    let at = if at < values.len() as u64 { at as usize } else { r.pick(&[0, 1, 8, 24]).min(values.len() - 1) };
     let value = r.pick(&[
-        0, 32, 78, 83, 255, 256, 78 + 256, 83 + 256, 999_999_999_999, 1_000_000_000_000, 99_999_999_999_999_999, 999_999_999_999_999_999,
+        0, 32, 65, 78, 79, 83, 88, 255, 256, 78 + 256, 83 + 256, 999_999_999_999, 1_000_000_000_000, 99_999_999_999_999_999, 999_999_999_999_999_999,
         1_000_000_000_000_000_000, NONE - 1, NONE, 999_999_999_999_999_990, 999_999_999_999_999_900, 999_999_999_999_999_000, 1_234_567_891_234_567,
-        12_345_678_912_345_678, 123_456_789_123_456_789, 12_345_678_912_345_670,
+        12_345_678_912_345_678, 123_456_789_123_456_789, 12_345_678_912_345_670, 99_999_999_999, 100_000_000_000, 99_999_999_990_000_000,
+        100_000_000_000_000_000, 12_345_678_910_000, 123_456_789_100_000,
     ]);
     values[at] = value | if r.one_in(3) { MINUS } else { 0 };
 }

@@ -8,7 +8,7 @@ mod reference;
 use feed::{Book, Pace};
 use program::{Contracts, Held, Options};
 use random::Random;
-use reference::{GAP_ROW, RECORD};
+use reference::{GAP_ROW, MOST_SEGMENTS, RECORD};
 use std::collections::BTreeMap;
 
 const MOST_KEYS: usize = 64;
@@ -31,8 +31,9 @@ impl Reader {
             return Err(15);
         }
         let spreads = reference::no_spreads(&list, usize::MAX).unwrap_or_default();
-        let mut reader = Reader { list, spreads, rows: vec![0; 2 * GAP_ROW], records: vec![0; 2 * 4096 * RECORD], batches: 0, lines: vec![] };
-        reference::start(&reader.list, &reader.spreads, &[1, 1], &mut reader.rows, &mut reader.records).map_err(|refusal| refusal.number)?;
+        let (rows, records) = (vec![0; MOST_SEGMENTS * GAP_ROW], vec![0; MOST_SEGMENTS * 4096 * RECORD]);
+        let mut reader = Reader { list, spreads, rows, records, batches: 0, lines: vec![] };
+        reference::start(&reader.list, &reader.spreads, &[1; MOST_SEGMENTS], &mut reader.rows, &mut reader.records).map_err(|refusal| refusal.number)?;
         let header = reference::header(&reader.list).unwrap();
         if header.segments().iter().any(|s| s.count > MOST_KEYS) { Err(15) } else { Ok(reader) }
     }
@@ -85,7 +86,7 @@ fn a_stream(r: &mut Random, book: &Book, batches: u64) -> Vec<u8> {
     let mut reader = Reader::start(Some(&list)).ok();
     let pace = r.pick(&[Pace::Smooth, Pace::Mixed, Pace::Holes, Pace::Holes, Pace::Far]);
     for _ in 0..batches {
-        let letter = if r.one_in(15) { r.pick(b"DTF") } else { r.pick(&book.letters()) };
+        let letter = if r.one_in(15) { r.pick(b"DTFP") } else { r.pick(&book.letters()) };
         let place = book.letters().iter().position(|&l| l == letter).unwrap_or(0);
         let row = reader.as_ref().map_or(vec![0; GAP_ROW], |reader| reader.rows[GAP_ROW * place..GAP_ROW * (place + 1)].to_vec());
         let mut batch = feed::a_batch(r, book, letter, pace, &row);
@@ -147,11 +148,45 @@ fn spreads(options: &Options, held: &mut Held) {
     held.lines(&lines, &options.run(Contracts::File(&list), &input), |line| format!("gaps: pairs, line {line}"));
 }
 
+// Three segments and a line for each, F's with what the pre-open session sent: FN and PN share its numbers.
+fn futures(options: &Options, held: &mut Held) {
+    const NIFTY: feed::Key = *b"FUTIDXNIFTY     30-DEC-2025          XX";
+    let list = Book::of(b"DFT".iter().map(|&letter| (letter, vec![NIFTY])).collect()).bytes();
+    let update = |code: &[u8; 2], number, market_type: &[u8]| feed::sealed(*code, number, &[&NIFTY[..], market_type, &[b' '; 153]].concat());
+    let batches = [
+        vec![feed::sealed(*b"FH", 0, &[]), feed::unsealed(*b"PO", 1, b"N"), update(b"PN", 2, b"N"), feed::unsealed(*b"FO", 5, b"N")],
+        vec![update(b"FN", 4, b"O"), feed::sealed(*b"PP", 3, b"N")],
+        vec![update(b"FN", 8, b"N"), update(b"PN", 4, b"A")],
+        vec![feed::unsealed(*b"DO", 2, b"N"), update(b"PN", 9, b"N")],
+        vec![update(b"FN", 9, b"X")],
+    ];
+    let input: Vec<u8> = batches.into_iter().flat_map(|messages| feed::batch(&messages)).collect();
+    let lines = [
+        "batch 1 refused 6 message 1",
+        "batch 3 refused 6 message 1",
+        "batch 4 refused 11 message 0",
+        "segment highest missing",
+        "D 0 0",
+        "F 8 3",
+        "F gap 3-3",
+        "F gap 6-7",
+        "T 0 0",
+        "end",
+    ];
+    let lines = lines.map(String::from).to_vec();
+    held.hold(printed(Some(&list), &input) == lines, || "reference: futures in `gaps`".into());
+    held.lines(&lines, &options.run(Contracts::File(&list), &input), |line| format!("gaps: futures, line {line}"));
+}
+
 // Files that are refused, and the largest that are not.
 fn files(options: &Options, held: &mut Held) {
     let mut r = Random::new(options.seed);
-    let mut book = |counts: &[usize]| Book::of(b"DT".iter().zip(counts).map(|(&letter, &n)| (letter, feed::keys(&mut r, n))).collect()).bytes();
+    let mut book = |counts: &[usize]| {
+        let letters = if counts.len() == MOST_SEGMENTS { "DFT" } else { "DT" };
+        Book::of(letters.bytes().zip(counts).map(|(letter, &n)| (letter, feed::keys(&mut r, n))).collect()).bytes()
+    };
     let mut lists = vec![book(&[64, 64]), book(&[64]), book(&[65]), book(&[1, 65]), book(&[65, 1]), book(&[419]), book(&[420]), book(&[4096])];
+    lists.extend([book(&[64, 64, 64]), book(&[1, 65, 1]), book(&[64, 64, 65])]);
     lists.extend([vec![], vec![0; LARGEST_FILE], vec![0; LARGEST_FILE + 1]]);
     let mut swapped = book(&[65, 2]);
     swapped[19] = 7; // over 64 keys and not sound: 16 comes first
@@ -205,6 +240,7 @@ fn main() {
     let mut held = Held { passed: 0, failed: 0 };
     example(&options, &mut held);
     spreads(&options, &mut held);
+    futures(&options, &mut held);
     files(&options, &mut held);
     streams(&options, &mut held);
     held.end();

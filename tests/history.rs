@@ -1,11 +1,13 @@
 // Histories of calls that look random, each with the lines that the reference answers: both lists and memory as they should be and
-// otherwise, rows handed back unsound, batches and quotes of every kind, of contracts and of pairs.
+// otherwise, rows handed back unsound, batches and quotes of every kind, of contracts and of pairs, in one to three segments.
 #![allow(dead_code)] // each test uses a part
 
 use crate::asks::{Ask, Bench, LARGEST_BATCH, LARGEST_LIST};
 use crate::feed::{self, Book, Pace, WRONG_CONTENTS};
 use crate::random::Random;
-use crate::reference::{self, Form, GAP_ROW, KEY, LENGTHS, MOST_RUNS, PAIR, RECORD, RUNS, SPREAD_LENGTHS, SPREAD_RECORD};
+use crate::reference::{
+    self, of_contract, of_pair, Form, FUTURES_LENGTHS, GAP_ROW, KEY, LENGTHS, MOST_RUNS, MOST_SEGMENTS, PAIR, RECORD, RUNS, SPREAD_LENGTHS, SPREAD_RECORD,
+};
 use std::collections::BTreeMap;
 
 const STEPS: u64 = 220;
@@ -48,10 +50,12 @@ fn refusal_of(line: &str) -> Option<(u8, usize)> {
 impl History {
     fn new(seed: u64, number: u64) -> History {
         let mut r = Random::new(seed.wrapping_mul(1_000_003).wrapping_add(number));
-        let most = r.pick(&[1, 4, 12, 64]);
-        // The bench has memory for all of them.
-        let pairs = r.pick(&[0, 1, 6, 32, if most > 12 { 32 } else { 90 }]);
-        let book = feed::a_book(&mut r, most).with_pairs(&mut r, pairs);
+        let letters = feed::some_letters(&mut r);
+        // The bench has memory for all of them: 128 contracts and 64 pairs, or few contracts and 180 pairs.
+        let share = |all: u64| all / letters.len() as u64;
+        let most = r.pick(&[1, 4, 12, share(128)]);
+        let pairs = r.pick(&[0, 1, 6, share(64), share(if most > 12 { 64 } else { 180 })]);
+        let book = feed::book_of(&mut r, letters, most).with_pairs(&mut r, pairs);
         let contracts = match r.below(8) {
             0 => None,
             1 => Some(feed::damaged_list(&mut r, &book.bytes())),
@@ -95,14 +99,14 @@ impl History {
 
     fn ask(&mut self, ask: Ask, seen: &mut Seen) -> Option<String> {
         self.input.extend(ask.bytes());
-        let (rows, letters) = (self.bench.rows.clone(), self.book.letters());
+        let rows = self.bench.rows.clone();
         let line = self.bench.line(&ask);
         if let Some(line) = &line {
             self.lines.push((self.asked.len(), line.clone()));
             note(&ask, line, seen);
             if let (Ask::Take(batch), None) = (&ask, refusal_of(line)) {
-                let place = letters.iter().position(|&l| l == batch[5]).unwrap_or(0);
-                note_taken(batch, &mut rows[GAP_ROW * place..GAP_ROW * (place + 1)].to_vec(), seen);
+                let place = self.place(segment_of(&batch[5..]));
+                note_taken(batch, &self.book, &mut rows[GAP_ROW * place..GAP_ROW * (place + 1)].to_vec(), seen);
             }
         }
         self.asked.push(ask);
@@ -112,11 +116,15 @@ impl History {
     // A letter that is mostly listed.
     fn letter(&mut self) -> u8 {
         let listed = self.book.letters();
-        if self.r.one_in(12) { self.r.pick(b"DTFHN\x00d") } else { self.r.pick(&listed) }
+        if self.r.one_in(12) { self.r.pick(b"DTFPPHN\x00d") } else { self.r.pick(&listed) }
+    }
+
+    fn place(&self, letter: u8) -> usize {
+        self.book.letters().iter().position(|&l| l == letter).unwrap_or(0)
     }
 
     fn row(&self, letter: u8) -> &[u32] {
-        let place = self.book.letters().iter().position(|&l| l == letter).unwrap_or(0);
+        let place = self.place(letter);
         &self.bench.rows[GAP_ROW * place..GAP_ROW * (place + 1)]
     }
 
@@ -124,11 +132,14 @@ impl History {
         let far = 4_294_967_295 - self.r.below(300) as u32;
         let any = 1 + self.r.below(4_294_967_295) as u32;
         let starts = (0..self.book.segments.len() as u64 + self.r.below(2)).map(|_| self.r.pick(&[1, 1, 1, 2, 1000, far, any])).collect();
-        self.ask(Ask::Start(starts), seen);
+        let line = self.ask(Ask::Start(starts), seen);
+        if line.as_deref() == Some("start ok") && self.book.segments.len() == MOST_SEGMENTS {
+            *seen.entry("a start with three segments".into()).or_default() += 1;
+        }
     }
 
     fn begin_wrongly(&mut self, seen: &mut Seen) {
-        let mut starts = vec![self.r.pick(&[0, 1, 7]); self.r.pick(&[0, 1, 2, 3, 255])];
+        let mut starts = vec![self.r.pick(&[0, 1, 7]); self.r.pick(&[0, 1, 2, 3, 4, 255])];
         if let (Some(last), true) = (starts.last_mut(), self.r.one_in(2)) {
             *last = 0;
         }
@@ -177,8 +188,7 @@ impl History {
         }
         let mut messages = vec![];
         let update = |h: &mut History, number| {
-            let pair = !h.book.listed_pairs(letter).is_empty() && h.r.one_in(3);
-            let form = if pair { reference::of_pair(1) } else { reference::of_contract(1) };
+            let form = if h.book.listed_pairs(letter).is_empty() { of_contract(letter, 1) } else { feed::a_form(&mut h.r, letter, 1) };
             let key = h.book.a_key_for(&mut h.r, form, letter);
             feed::an_update(&mut h.r, form, letter, number, &key)
         };
@@ -233,9 +243,9 @@ impl History {
 
     fn write(&mut self, seen: &mut Seen) {
         let level = 1 + self.r.below(2) as usize;
-        let mut code = [self.r.pick(b"DT"), self.r.pick(b"NNNNH")];
+        let mut code = *self.r.pick(&[b"DN", b"TN", b"FN", b"FN", b"PN", b"PN", b"DH", b"FH", b"TH"]);
         if self.r.one_in(12) {
-            code[self.r.below(2) as usize] = self.r.pick(b"AFHNPDThn\x00");
+            code[self.r.below(2) as usize] = self.r.pick(b"AFHNOPDThn\x00");
         }
         let mut number = if code[1] == b'H' { 0 } else { 1 + self.r.below(4_294_967_295) as u32 };
         if self.r.one_in(12) {
@@ -246,11 +256,12 @@ impl History {
             let at = self.r.below(KEY as u64) as usize;
             key[at] = self.r.pick(&[0, 31, 127, 255, 32, 126]);
         }
-        let mut values = feed::a_quote(&mut self.r, level);
+        let form = of_contract(code[0], level);
+        let mut values = feed::values_of(&mut self.r, form);
         for _ in 0..self.r.pick(&[0, 0, 0, 1, 2]) {
             feed::damage_quote(&mut self.r, &mut values);
         }
-        let exact = if code[1] == b'H' { 11 } else { reference::LENGTHS[level - 1] as u16 };
+        let exact = if code[1] == b'H' { 11 } else { form.length as u16 };
         let room = self.r.pick(&[1_024, 65_535, exact, exact, exact - 1, 0, 1_025]);
         self.ask(Ask::Write { code, level, number, key, room, values }, seen);
     }
@@ -268,7 +279,7 @@ impl History {
             let at = self.r.below(PAIR as u64) as usize;
             pair[at] = self.r.pick(&[0, 31, 127, 255, 32, 126]);
         }
-        let mut values = feed::values_of(&mut self.r, reference::of_pair(level));
+        let mut values = feed::values_of(&mut self.r, of_pair(level));
         for _ in 0..self.r.pick(&[0, 0, 0, 1, 2]) {
             feed::damage_quote(&mut self.r, &mut values);
         }
@@ -327,7 +338,7 @@ impl History {
             0 => feed::a_book(&mut self.r, 64).bytes(),
             1 | 2 => feed::shuffled_list(&mut self.r, &list),
             3 => vec![0; self.r.below(20) as usize],
-            4 => Book::of(vec![(b'T', feed::keys(&mut self.r, 179))]).bytes(),
+            4 => Book::of(vec![(b'T', feed::keys(&mut self.r, 175))]).bytes(),
             _ => feed::damaged_list(&mut self.r, &list),
         };
         self.ask(Ask::List(other), seen);
@@ -361,7 +372,7 @@ impl History {
         let line = self.ask(Ask::Gaps { letter, cells: 128 }, seen);
         let looked = line.as_deref() == Some("gaps refused 16 0 0 0");
         assert_eq!(looked, WRONG_CONTENTS.contains(&wrong), "{wrong}");
-        let line = self.ask(Ask::Start(vec![1, 1]), seen);
+        let line = self.ask(Ask::Start(vec![1; MOST_SEGMENTS]), seen);
         assert_eq!(line.as_deref(), Some("start refused 16 0 0 0"), "{wrong}");
         *seen.entry(format!("16 for {wrong}")).or_default() += 1;
     }
@@ -452,7 +463,7 @@ impl History {
     }
 
     fn hand_back_sound(&mut self, seen: &mut Seen) {
-        let place = self.r.below(2) as usize;
+        let place = self.r.below(MOST_SEGMENTS as u64) as usize;
         let cells = self.a_sound_row();
         self.poke_row(place, &cells, seen);
         if let Some(&letter) = self.book.letters().get(place) {
@@ -476,7 +487,7 @@ impl History {
             8 => self.hand_back_sound(seen),
             9 => self.overfill(seen),
             10 => {
-                let cell = self.r.pick(&[264, 265, 10_000, u32::MAX]);
+                let cell = self.r.pick(&[396, 397, 10_000, u32::MAX]);
                 self.ask(Ask::Poke { cell, value: 5 }, seen);
             }
             11 => self.send_large(seen),
@@ -540,25 +551,58 @@ fn messages(batch: &[u8]) -> Vec<&[u8]> {
 }
 
 fn form_of(message: &[u8]) -> Option<&'static Form> {
-    reference::form_of(message[1], message.len())
+    reference::form_of([message[0], message[1]], message.len())
+}
+
+// The letter of the segment that a message counts to; of one that counts to none, its own.
+fn segment_of(message: &[u8]) -> u8 {
+    message.get(..2).map_or(0, |code| reference::segment_of([code[0], code[1]]).unwrap_or(code[0]))
+}
+
+fn may_carry_zero(message: &[u8]) -> bool {
+    feed::unsummed(segment_of(message)).contains(&message[1])
 }
 
 fn carries_zero(message: &[u8]) -> bool {
     message[message.len() - 3..message.len() - 1] == [0, 0]
 }
 
-// How pairs' messages of an accepted batch stand to what came before them, by the gap row of before.
-fn note_taken(batch: &[u8], row: &mut [u32], seen: &mut Seen) {
-    let all = messages(batch);
+fn code_text(message: &[u8]) -> String {
+    message[..2].iter().map(|&b| b as char).collect()
+}
+
+// What a refused message with P is beside: nothing, where it is the first, or a batch's segment.
+fn refused_p(all: &[&[u8]], message: usize) -> String {
+    let code = if reference::segment_of([b'P', all[message][1]]).is_some() { code_text(all[message]) } else { "another code with P".into() };
+    match (message, segment_of(all[0])) {
+        (0, _) => format!("6 for {code}, the first"),
+        (_, b'F') => format!("6 for {code} beside F"),
+        _ => format!("6 for {code} beside D or T"),
+    }
+}
+
+// What messages of an accepted batch stand beside each other.
+fn note_mixed(all: &[&[u8]], seen: &mut Seen) {
     let mut met = |what: &str| *seen.entry(what.into()).or_default() += 1;
     let has = |pair: bool| all.iter().any(|m| form_of(m).map_or(false, |form| form.is_pair() == pair));
     if has(true) && has(false) {
         met("contracts and pairs in one batch");
     }
+    let letters = |letter: u8| all.iter().any(|m| m[0] == letter);
+    if letters(b'F') && letters(b'P') {
+        met(if all[0][0] == b'F' { "F and P in one batch, F first" } else { "F and P in one batch, P first" });
+    }
+}
+
+// How messages of an accepted batch stand to what came before them, by the gap row of before.
+fn note_taken(batch: &[u8], book: &Book, row: &mut [u32], seen: &mut Seen) {
+    let all = messages(batch);
+    note_mixed(&all, seen);
     for message in all.iter().filter(|m| m[1] != b'H') {
         let (number, before) = (u32::from_be_bytes(message[4..8].try_into().unwrap()), row[1]);
         let taken = matches!(reference::take_number(row, number), reference::Taking::Taken);
-        if feed::UNSUMMED.contains(&message[1]) {
+        let mut met = |what: &str| *seen.entry(what.into()).or_default() += 1;
+        if may_carry_zero(message) {
             met(if carries_zero(message) { "market status or end of feed with zero" } else { "market status or end of feed with its sum" });
         }
         if let Some(form) = form_of(message).filter(|form| form.is_pair()) {
@@ -570,6 +614,25 @@ fn note_taken(batch: &[u8], row: &mut [u32], seen: &mut Seen) {
             });
             met(&format!("{}P of level {} taken", message[0] as char, form.level));
         }
+        if taken && segment_of(message) == b'F' {
+            note_future(message, book, seen);
+        }
+    }
+}
+
+// A message of F that was taken, by what it is.
+fn note_future(message: &[u8], book: &Book, seen: &mut Seen) {
+    let mut met = |what: String| *seen.entry(what).or_default() += 1;
+    let code = code_text(message);
+    let form = match form_of(message) {
+        Some(form) => form,
+        None => return met(format!("{code} taken")),
+    };
+    let market_type = message[8 + KEY];
+    met(format!("{code} of level {} and market type {} taken", form.level, market_type as char));
+    let listed = book.segments.iter().any(|(letter, keys)| *letter == b'F' && keys.iter().any(|key| key[..] == message[8..8 + KEY]));
+    if market_type != b'N' && !listed {
+        met("another market type of what is not listed".into());
     }
 }
 
@@ -578,26 +641,33 @@ fn note_refused(number: u8, message: usize, batch: &[u8], seen: &mut Seen) {
     let count = u16::from_be_bytes([batch[3], batch[4]]) as usize;
     let place = if message == 0 { 0 } else if message + 1 == count { 2 } else { 1 };
     met(format!("{number} at {} message", PLACES[place]));
-    let refused = match messages(batch).get(message) {
+    let all = messages(batch);
+    let refused = match all.get(message) {
         Some(&refused) => refused,
         None => return,
     };
-    let (code, length) = (refused[1] as char, refused.len());
-    let zero = carries_zero(refused);
-    if code == 'P' {
+    let (length, zero) = (refused.len(), carries_zero(refused));
+    if matches!(&refused[..2], b"DP" | b"TP") {
         met(format!("{number} for a pair's message"));
         if number == 9 && zero {
             met("9 for a pair's message with zero for its sum".into());
         }
     }
-    if number == 9 && feed::SUMMED.contains(&refused[1]) {
+    if segment_of(refused) == b'F' {
+        met(format!("{number} for a message of F"));
+    }
+    if number == 6 && refused[0] == b'P' {
+        met(refused_p(&all, message));
+    }
+    if number == 9 && feed::summed(segment_of(refused)).contains(&refused[1]) {
         met(format!("9 for what is passed over, {}", if zero { "zero" } else { "wrong" }));
     }
-    if number == 9 && feed::UNSUMMED.contains(&refused[1]) {
+    if number == 9 && may_carry_zero(refused) {
         met("9 for market status or end of feed".into());
     }
     if number == 8 {
-        met(format!("8 for {code} of {length} bytes"));
+        let of = if segment_of(refused) == b'F' { " of F" } else { "" };
+        met(format!("8 for {}{of} of {length} bytes", refused[1] as char));
     }
 }
 
@@ -614,9 +684,17 @@ fn note(ask: &Ask, line: &str, seen: &mut Seen) {
     }
     let mut met = |what: String| *seen.entry(what).or_default() += 1;
     match (refusal_of(line), ask) {
-        (None, Ask::Write { level, .. }) => met(format!("a message of level {level} written")),
+        (None, Ask::Write { code, .. }) if code[1] == b'H' => met(format!("{} written", code_text(code))),
+        (None, Ask::Write { code, level, .. }) => met(format!("{} of level {level} written", code_text(code))),
         (None, Ask::WriteSpread { level, .. }) => met(format!("a spread's message of level {level} written")),
-        (None, Ask::Record { level, .. }) if line != "record none" => met(format!("a record of level {level} read")),
+        (None, Ask::Record { letter, level, .. }) if line != "record none" => {
+            let words: Vec<&str> = line.split(' ').collect();
+            met(format!("a record of {} of level {level} and session {} read", *letter as char, words[3]));
+            if words[5] != "-" {
+                met(format!("a time stamp of {} of level {level} read", *letter as char));
+            }
+        }
+        (None, Ask::Spread { letter: b'F', .. }) if line == "spread none" => met("no record of a pair of F".into()),
         (None, Ask::Spread { level, .. }) if line != "spread none" => {
             met(format!("a spread's record of level {level} read"));
             if line.split(' ').any(|word| word.len() > 1 && word.starts_with('-')) {
@@ -635,9 +713,35 @@ fn note(ask: &Ask, line: &str, seen: &mut Seen) {
         (None, Ask::Take(_)) => met("a batch taken".into()),
         (Some((number, message)), Ask::Judge(batch) | Ask::Take(batch)) if (5..=14).contains(&number) => note_refused(number, message, batch, seen),
         (Some((number, _)), Ask::WriteSpread { .. }) => met(format!("write of a spread refused {number}")),
+        (Some((number, _)), Ask::Write { code: [b'F' | b'P', _], .. }) => {
+            met(format!("write refused {number}"));
+            met(format!("write for F refused {number}"));
+        }
         (Some((number, _)), _) => met(format!("{} refused {number}", ask.name())),
         _ => {}
     }
+}
+
+// The same of F alone.
+fn futures_wanted() -> Vec<String> {
+    let mut all: Vec<String> = (6..=14).map(|number| format!("{number} for a message of F")).collect();
+    all.extend(["DH", "FH", "TH"].map(|code| format!("{code} written")));
+    all.extend([&[193][..], &LENGTHS, &SPREAD_LENGTHS].concat().iter().map(|length| format!("8 for N of F of {length} bytes")));
+    all.extend(["PO", "PC", "FO", "FC", "FE", "FZ", "FP", "FS"].map(|code| format!("{code} taken")));
+    for place in [", the first", " beside D or T"] {
+        all.extend(["PN", "PO", "PC", "another code with P"].map(|code| format!("6 for {code}{place}")));
+    }
+    for what in [
+        "6 for another code with P beside F",
+        "F and P in one batch, F first",
+        "F and P in one batch, P first",
+        "another market type of what is not listed",
+        "no record of a pair of F",
+        "a start with three segments",
+    ] {
+        all.push(what.into());
+    }
+    all
 }
 
 // What one usual run must meet.
@@ -657,6 +761,7 @@ pub fn wanted() -> Vec<String> {
         ("record", vec![6, 13, 15, 16, 18]),
         ("spread", vec![6, 13, 15, 16, 18]),
         ("write", vec![6, 10, 11, 12, 15]),
+        ("write for F", vec![6, 10, 11, 12, 15]),
         ("write of a spread", vec![6, 10, 11, 12, 15]),
     ];
     for (name, numbers) in calls {
@@ -664,13 +769,19 @@ pub fn wanted() -> Vec<String> {
     }
     all.extend([6, 7, 8, 9, 10, 11, 12, 13, 14].map(|number| format!("{number} for a pair's message")));
     all.extend(feed::spread_wrongs().iter().map(|wrong| format!("16 for {wrong}")));
-    all.extend(LENGTHS.map(|length| format!("8 for P of {length} bytes")));
-    all.extend(SPREAD_LENGTHS.map(|length| format!("8 for N of {length} bytes")));
+    all.extend([LENGTHS, FUTURES_LENGTHS].concat().iter().map(|length| format!("8 for P of {length} bytes")));
+    all.extend([SPREAD_LENGTHS, FUTURES_LENGTHS].concat().iter().map(|length| format!("8 for N of {length} bytes")));
     for level in 1..=2 {
-        all.extend(["a message of", "a spread's message of"].map(|what| format!("{what} level {level} written")));
-        all.extend(["a record of", "a spread's record of", "a negative difference of"].map(|what| format!("{what} level {level} read")));
+        all.push(format!("a spread's message of level {level} written"));
+        all.extend(["a spread's record of", "a negative difference of"].map(|what| format!("{what} level {level} read")));
         all.extend(["DP", "TP"].map(|code| format!("{code} of level {level} taken")));
+        all.extend(["DN", "FN", "PN", "TN"].map(|code| format!("{code} of level {level} written")));
+        all.extend(["D", "T", "F"].map(|letter| format!("a record of {letter} of level {level} and session 0 read")));
+        all.push(format!("a record of F of level {level} and session 1 read"));
+        all.push(format!("a time stamp of F of level {level} read"));
+        all.extend(["FN", "PN"].into_iter().flat_map(|code| ["N", "O", "S", "A"].map(|of| format!("{code} of level {level} and market type {of} taken"))));
     }
+    all.extend(futures_wanted());
     for what in [
         "64 runs",
         "the highest number of all",

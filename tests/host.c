@@ -118,7 +118,7 @@ static void write_update(uint8_t batch[FRONT + LEVEL1]) {
     told("write: number", quotebox_write_level1(code, 0, key, values, out, LEVEL1, answer), QUOTEBOX_NUMBERING, 0, 0, 0);
     told("write: no status at level 2", quotebox_write_level2(code, 4, key, values, out, LEVEL1, answer), QUOTEBOX_FIELD, 0, 28, 0);
     values[QUOTEBOX1_SELL_PRICE] = QUOTEBOX_NONE - 1;
-    told("write: price", quotebox_write_level1(code, 4, key, values, out, LEVEL1, answer), QUOTEBOX_RANGE, 0, QUOTEBOX1_SELL_PRICE + 4, 0);
+    told("write: price", quotebox_write_level1(code, 4, key, values, out, LEVEL1, answer), QUOTEBOX_RANGE, 0, QUOTEBOX1_SELL_PRICE + 2, 0);
     values[QUOTEBOX1_SELL_PRICE] = QUOTEBOX_NONE;
     told("write: room", quotebox_write_level1(code, 4, key, values, out, LEVEL1 - 1, answer), QUOTEBOX_MEMORY, 0, 0, LEVEL1);
     held("write: nothing written by a refusal", out[0] == 0xee);
@@ -171,6 +171,8 @@ static void read(void) {
     held("read: nothing written where there is none", values[QUOTEBOX_NUMBER] == 7);
     told("read: a record", quotebox_read_level1(BOX, 'T', key, values, answer), 0, 1, 0, 0);
     held("read: its number", values[QUOTEBOX_NUMBER] == 4);
+    held("read: its session", values[QUOTEBOX_SESSION] == QUOTEBOX_NORMAL);
+    held("read: no time stamp", values[QUOTEBOX_TIME_STAMP] == QUOTEBOX_NONE);
     held("read: its price", values[QUOTEBOX1_BUY_PRICE] == 1002500000);
     held("read: none", values[QUOTEBOX1_TURNOVER] == QUOTEBOX_NONE);
     held("read: nothing past level 1's", values[QUOTEBOX1_TURNOVER + 1] == 7);
@@ -240,6 +242,103 @@ static void gaps(void) {
     told("write off: none", quotebox_write_off(BOX, 'T', answer), QUOTEBOX_NO_GAP, 0, 0, 0);
 }
 
+#define THREE 143
+#define FUTURES1 204
+#define FUTURES2 404
+
+/* A box with one contract in each of three segments, and no spreads. */
+static uint8_t three[THREE] = {0, 3, 'D', 0, 0, 1, 0, 0, 0, 26, 'F', 0, 0, 1, 0, 0, 0, 65, 'T', 0, 0, 1, 0, 0, 0, 104};
+static uint8_t three_spreads[26];
+static uint32_t three_rows[3 * QUOTEBOX_ROW_CELLS];
+static uint64_t three_records[3 * QUOTEBOX_RECORD_CELLS];
+
+#define THREE_LISTS three, THREE, three_spreads, 26
+#define THREE_BOX THREE_LISTS, three_rows, 3 * QUOTEBOX_ROW_CELLS, three_records, 3 * QUOTEBOX_RECORD_CELLS
+
+static void start_three(void) {
+    const uint32_t starts[3] = {1, 1, 1};
+    const uint8_t none[26] = {0, 3, 'D', 0, 0, 0, 0, 0, 0, 26, 'F', 0, 0, 0, 0, 0, 0, 26, 'T', 0, 0, 0, 0, 0, 0, 26};
+    for (int i = 0; i < 3; i++) memcpy(three + 26 + i * QUOTEBOX_KEY, key, QUOTEBOX_KEY);
+    told("three: room", quotebox_no_spreads(three, THREE, three_spreads, 25, answer), QUOTEBOX_MEMORY, 0, 0, 26);
+    told("three: no spreads", quotebox_no_spreads(three, THREE, three_spreads, 26, answer), 0, 26, 0, 0);
+    held("three: its bytes", memcmp(three_spreads, none, 26) == 0);
+    told("three: rows", quotebox_start(THREE_LISTS, starts, 3, three_rows, 3 * QUOTEBOX_ROW_CELLS - 1, NULL, 0, answer), QUOTEBOX_MEMORY, 0, 0,
+         3 * QUOTEBOX_ROW_CELLS);
+    told("three: starts", quotebox_start(THREE_LISTS, starts, 2, NULL, 0, NULL, 0, answer), QUOTEBOX_NUMBERING, 0, 0, 0);
+    told("three: start",
+         quotebox_start(THREE_LISTS, starts, 3, three_rows, 3 * QUOTEBOX_ROW_CELLS, three_records, 3 * QUOTEBOX_RECORD_CELLS, answer), 0, 0, 0, 0);
+}
+
+/* A batch of one update of F at level 1: its code, number and market type, and its number for the price too. */
+static void write_future(uint8_t batch[FRONT + FUTURES1], const char *code, uint32_t number, char market_type) {
+    const uint8_t front[FRONT] = {1, 0, FUTURES1, 0, 1};
+    uint64_t values[QUOTEBOX_VALUES];
+    for (int i = 0; i < QUOTEBOX_VALUES; i++) values[i] = QUOTEBOX_NONE;
+    values[QUOTEBOX_MARKET_TYPE] = (uint64_t)market_type;
+    values[QUOTEBOX_TIME_STAMP] = 1766979900 + number;
+    values[QUOTEBOX1_BUY_PRICE] = number * UINT64_C(10000000);
+    values[QUOTEBOX1_STATUS] = ' ';
+    memcpy(batch, front, FRONT);
+    told("future: written", quotebox_write_level1((const uint8_t *)code, number, key, values, batch + FRONT, FUTURES1, answer), 0, FUTURES1, 0, 0);
+}
+
+static void write_futures(void) {
+    const uint8_t *code = (const uint8_t *)"PN";
+    uint8_t out[FUTURES2];
+    uint64_t values[QUOTEBOX_VALUES];
+    for (int i = 0; i < QUOTEBOX_VALUES; i++) values[i] = QUOTEBOX_NONE;
+    values[QUOTEBOX_MARKET_TYPE] = 'X';
+    values[QUOTEBOX2_STATUS] = 'S';
+    told("future: no such code", quotebox_write_level2((const uint8_t *)"PO", 1, key, values, out, FUTURES2, answer), QUOTEBOX_CODE, 0, 0, 0);
+    told("future: market type", quotebox_write_level2(code, 1, key, values, out, FUTURES2, answer), QUOTEBOX_FIELD, 0, 5, 0);
+    values[QUOTEBOX_MARKET_TYPE] = 'A';
+    values[QUOTEBOX_TIME_STAMP] = UINT64_C(100000000000);
+    told("future: time stamp", quotebox_write_level2(code, 1, key, values, out, FUTURES2, answer), QUOTEBOX_RANGE, 0, QUOTEBOX_TIME_STAMP + 3, 0);
+    values[QUOTEBOX_TIME_STAMP] = 0;
+    values[QUOTEBOX2_TURNOVER] = QUOTEBOX_NONE - 1;
+    told("future: turnover", quotebox_write_level2(code, 1, key, values, out, FUTURES2, answer), QUOTEBOX_RANGE, 0, QUOTEBOX2_TURNOVER + 3, 0);
+    values[QUOTEBOX2_TURNOVER] = QUOTEBOX_NONE;
+    values[QUOTEBOX2_SELL] = UINT64_C(100000000000000000);
+    told("future: price", quotebox_write_level2(code, 1, key, values, out, FUTURES2, answer), QUOTEBOX_RANGE, 0, QUOTEBOX2_SELL + 3, 0);
+    values[QUOTEBOX2_SELL] = UINT64_C(99999999990000000);
+    told("future: level 2", quotebox_write_level2(code, 1, key, values, out, FUTURES2, answer), 0, FUTURES2, 0, 0);
+    held("future: its price", memcmp(out + 8 + 161, "9999999999", 10) == 0);
+    told("future: heartbeat", quotebox_write_level2((const uint8_t *)"FH", 0, key, values, out, FUTURES2, answer), 0, 11, 0, 0);
+}
+
+/* What the last level 1 update of F left: its number and session. */
+static void shows(const char *what, uint64_t number, uint64_t session) {
+    uint64_t values[QUOTEBOX_VALUES];
+    for (int i = 0; i < QUOTEBOX_VALUES; i++) values[i] = 7;
+    told(what, quotebox_read_level1(THREE_BOX, 'F', key, values, answer), 0, 1, 0, 0);
+    held(what, values[QUOTEBOX_NUMBER] == number && values[QUOTEBOX_SESSION] == session && values[QUOTEBOX_MARKET_TYPE] == 'N');
+    held(what, values[QUOTEBOX_TIME_STAMP] == 1766979900 + number && values[QUOTEBOX1_BUY_PRICE] == number * 10000000);
+    held(what, values[QUOTEBOX1_TURNOVER] == QUOTEBOX_NONE && values[QUOTEBOX1_TURNOVER + 1] == 7);
+}
+
+/* The pre-open session and the normal market share F's numbers and records; another market type is counted and not kept. */
+static void futures(void) {
+    uint8_t batch[FRONT + FUTURES1];
+    uint64_t values[QUOTEBOX_VALUES];
+    start_three();
+    write_futures();
+    write_future(batch, "PN", 2, 'N');
+    judged("future: PN", quotebox_take(THREE_BOX, batch, sizeof batch, answer), 0, 1, 0, 0, 1);
+    shows("future: pre-open", 2, QUOTEBOX_PRE_OPEN);
+    write_future(batch, "FN", 3, 'O');
+    judged("future: another market type", quotebox_take(THREE_BOX, batch, sizeof batch, answer), 0, 1, 0, 0, 0);
+    shows("future: still pre-open", 2, QUOTEBOX_PRE_OPEN);
+    write_future(batch, "FN", 4, 'N');
+    judged("future: FN", quotebox_take(THREE_BOX, batch, sizeof batch, answer), 0, 1, 0, 0, 1);
+    write_future(batch, "PN", 1, 'N');
+    judged("future: a late PN", quotebox_take(THREE_BOX, batch, sizeof batch, answer), 0, 1, 0, 0, 1);
+    shows("future: normal", 4, QUOTEBOX_NORMAL);
+    told("future: P is no letter", quotebox_read_level1(THREE_BOX, 'P', key, values, answer), QUOTEBOX_CODE, 0, 0, 0);
+    told("future: none at level 2", quotebox_read_level2(THREE_BOX, 'F', key, values, answer), 0, 0, 0, 0);
+    told("future: none of T", quotebox_read_level1(THREE_BOX, 'T', key, values, answer), 0, 0, 0, 0);
+    told("future: where F is not listed", quotebox_take(BOX, batch, sizeof batch, answer), QUOTEBOX_CODE, 0, 0, 0);
+}
+
 int main(void) {
     uint8_t batch[FRONT + LEVEL1];
     memcpy(key, "FUTCOMGOLD      05APR2026            XX", QUOTEBOX_KEY);
@@ -257,6 +356,7 @@ int main(void) {
     read();
     spread();
     gaps();
+    futures();
     printf("%d passed, %d failed\n", passed, failed);
     return failed != 0;
 }

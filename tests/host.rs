@@ -17,10 +17,11 @@ use history::{History, Seen};
 use library::{Answer, Lists, Values};
 use program::{Held, Options};
 use random::Random;
-use reference::{Form, Refusal, GAP_ROW, LEVEL1_CELLS, MINUS, NONE, PRICE, RECORD, SPREAD_LEVEL1_CELLS, SPREAD_RECORD};
+use reference::{of_contract, of_pair, Form, Refusal, GAP_ROW, LEVEL1_CELLS, MINUS, NONE, PRICE, RECORD, SPREAD_LEVEL1_CELLS, SPREAD_RECORD};
 use std::fmt::Debug;
 
 const UNTOUCHED: u64 = 0x5AFE_5AFE_5AFE_5AFE;
+const UNREAD: Values = [UNTOUCHED; 35];
 
 // What a host sees of a call but its gap rows and records: `lent` is what it lends for cells, values or bytes.
 struct Told {
@@ -46,7 +47,7 @@ fn expected(ask: &Ask, said: &Result<Said, Refusal>) -> Told {
     };
     let mut lent = match ask {
         Ask::Gaps { cells, .. } => vec![UNTOUCHED as u32 as u64; *cells as usize + 1],
-        Ask::Record { .. } | Ask::Spread { .. } => vec![UNTOUCHED; 33],
+        Ask::Record { .. } | Ask::Spread { .. } => UNREAD.to_vec(),
         Ask::Write { room, .. } | Ask::WriteSpread { room, .. } => vec![UNTOUCHED as u8 as u64; *room as usize + 1],
         _ => vec![],
     };
@@ -54,10 +55,11 @@ fn expected(ask: &Ask, said: &Result<Said, Refusal>) -> Told {
     Told { number, answer, lent }
 }
 
-// The writer looks neither at the first value nor at those past its level's.
-fn to_write(rows: &[u64]) -> Values {
-    let mut values: Values = [UNTOUCHED; 33];
-    values[1..=rows.len()].copy_from_slice(rows);
+// The writer looks neither at the values in front of the rows, a contract's number and session or a pair's number, nor at those past its
+// level's.
+fn to_write(front: usize, rows: &[u64]) -> Values {
+    let mut values = UNREAD;
+    values[front..front + rows.len()].copy_from_slice(rows);
     values
 }
 
@@ -84,22 +86,22 @@ fn called(bench: &mut Bench, ask: &Ask) -> Told {
             told
         }
         Ask::Record { letter, level, key } => {
-            let mut values: Values = [UNTOUCHED; 33];
+            let mut values = UNREAD;
             let told = lists.read(*level, rows, records, *letter, key, &mut values);
             lent.extend(values);
             told
         }
         Ask::Spread { letter, level, pair } => {
-            let mut values: Values = [UNTOUCHED; 33];
+            let mut values = UNREAD;
             let told = lists.read_spread(*level, rows, records, *letter, pair, &mut values);
             lent.extend(values);
             told
         }
         Ask::Write { code, level, number, key, room, values } => {
-            written(*room, &|out| library::write(*level, *code, *number, key, &to_write(values), out))
+            written(*room, &|out| library::write(*level, *code, *number, key, &to_write(2, values), out))
         }
         Ask::WriteSpread { code, level, number, pair, room, values } => {
-            written(*room, &|out| library::write_spread(*level, *code, *number, pair, &to_write(values), out))
+            written(*room, &|out| library::write_spread(*level, *code, *number, pair, &to_write(1, values), out))
         }
         Ask::Lend { .. } | Ask::List(_) | Ask::Poke { .. } | Ask::Spreads(_) => unreachable!("these make no call"),
     };
@@ -108,7 +110,7 @@ fn called(bench: &mut Bench, ask: &Ask) -> Told {
 
 // The spread list without pairs, with as many bytes lent as are wanted, one fewer and more.
 fn no_spreads(held: &mut Held, list: &[u8], origin: impl Fn() -> String) {
-    for room in [0, 1, 9, 10, 11, 17, 18, 19, 64] {
+    for room in [0, 1, 9, 10, 11, 17, 18, 19, 25, 26, 27, 64] {
         let mut out = vec![UNTOUCHED as u8; room + 1];
         let told = library::no_spreads(list, &mut out[..room]);
         let mut right = vec![UNTOUCHED as u8; room + 1];
@@ -127,7 +129,7 @@ fn no_spreads(held: &mut Held, list: &[u8], origin: impl Fn() -> String) {
 // The place of the gap row that a call changed.
 fn changed_row(ask: &Ask, said: &Result<Said, Refusal>, list: &[u8]) -> Option<usize> {
     let letter = match (ask, said) {
-        (Ask::Take(batch), Ok(Said::Judged(counts))) if counts.taken > 0 => batch[5],
+        (Ask::Take(batch), Ok(Said::Judged(counts))) if counts.taken > 0 => reference::segment_of([batch[5], batch[6]])?,
         (Ask::Off { letter }, Ok(_)) => *letter,
         _ => return None,
     };
@@ -177,26 +179,28 @@ fn hold(held: &mut Held, bench: &mut Bench, ask: &Ask, origin: impl Fn() -> Stri
 const NUMBER: u32 = 7;
 const NUMBERS: [u64; 10] = [0, 1, 6, 7, 8, 1 << 32, (1 << 32) + 6, (1 << 32) + 8, NONE - 1, NONE];
 #[rustfmt::skip]
-const CELLS: [u64; 16] = [
-    0, b'N' as u64, b'S' as u64, 255, 256, 256 + b'N' as u64, 1 << 32, PRICE.largest + 1, NONE - 1, NONE,
+const CELLS: [u64; 18] = [
+    0, 1, 2, b'N' as u64, b'S' as u64, 255, 256, 256 + b'N' as u64, 1 << 32, PRICE.largest + 1, NONE - 1, NONE,
     MINUS, MINUS + 1, MINUS - 1, MINUS | PRICE.largest, MINUS | (PRICE.largest + 1), MINUS | (1 << 60),
 ];
 
-// A record with any number and any cells is read, meets an update, and is read again: of a contract and of a pair, at both levels.
+// A record with any number and any cells is read, meets an update, and is read again: of a contract and of a pair, at both levels, in each
+// segment and session.
 fn damaged_records(held: &mut Held) {
     let mut r = Random::new(1);
     let key = feed::a_key(&mut r);
     let pair = feed::pair(&key, &key);
-    let book = Book { segments: vec![(b'D', vec![key])], spreads: vec![(b'D', vec![pair])] };
-    let forms = [1, 2].map(reference::of_contract).into_iter().chain([1, 2].map(reference::of_pair));
-    for form in forms {
-        let level = form.level;
-        let batch = feed::batch(&[feed::an_update(&mut r, form, b'D', NUMBER, &pair[..form.key])]);
-        let read = if form.is_pair() { Ask::Spread { letter: b'D', level, pair } } else { Ask::Record { letter: b'D', level, key } };
+    for (code, level) in [b"DN", b"FN", b"PN", b"TN", b"DP", b"TP"].into_iter().flat_map(|code| [(code, 1), (code, 2)]) {
+        let letter = if code[0] == b'P' { b'F' } else { code[0] };
+        let book = Book { segments: vec![(letter, vec![key])], spreads: vec![(letter, vec![pair])] };
+        let form = if code[1] == b'P' { of_pair(level) } else { of_contract(letter, level) };
+        let batch = feed::batch(&[feed::update_of(&mut r, form, *code, b'N', NUMBER, &pair[..form.key])]);
+        let read = if form.is_pair() { Ask::Spread { letter, level, pair } } else { Ask::Record { letter, level, key } };
         let at = if form.is_pair() { RECORD + SPREAD_LEVEL1_CELLS * (level - 1) } else { LEVEL1_CELLS * (level - 1) };
         for (number, cell) in NUMBERS.iter().flat_map(|&number| CELLS.map(|cell| (number, cell))) {
             let mut bench = Bench::new(Some(&book.bytes()));
-            let mut hold = |bench: &mut Bench, ask: &Ask| hold(held, bench, ask, || format!("a record numbered {number} of cells {cell}"));
+            let origin = || format!("{code:?} of level {level} on a record numbered {number} of cells {cell}");
+            let mut hold = |bench: &mut Bench, ask: &Ask| hold(held, bench, ask, &origin);
             hold(&mut bench, &Ask::Spreads(book.spread_bytes()));
             hold(&mut bench, &Ask::Start(vec![1]));
             bench.records.fill(cell);
@@ -228,7 +232,7 @@ fn most_pairs(held: &mut Held) {
             let mut asked = vec![Ask::Start(vec![1, 1])];
             for (k, pair) in [pairs[0], pairs[511], pairs[number - 1]].into_iter().enumerate() {
                 for level in 1..=2 {
-                    let update = feed::an_update(&mut r, reference::of_pair(level), letters[0], (2 * k + level) as u32, &pair);
+                    let update = feed::an_update(&mut r, of_pair(level), letters[0], (2 * k + level) as u32, &pair);
                     asked.extend([Ask::Take(feed::batch(&[update])), Ask::Spread { letter: letters[0], level, pair }]);
                 }
             }
@@ -260,16 +264,16 @@ impl Largest {
         Largest { contracts, pairs, rows, records: vec![0; RECORD * MOST_CONTRACTS + SPREAD_RECORD * MOST_PAIRS] }
     }
 
-    fn lists(&self, contracts: usize, pairs: usize) -> (Vec<u8>, Vec<u8>) {
-        (feed::file(&[(b'T', self.contracts[..contracts].to_vec())]), feed::file(&[(b'T', self.pairs[..pairs].to_vec())]))
+    fn lists(&self, letter: u8, contracts: usize, pairs: usize) -> (Vec<u8>, Vec<u8>) {
+        (feed::file(&[(letter, self.contracts[..contracts].to_vec())]), feed::file(&[(letter, self.pairs[..pairs].to_vec())]))
     }
 
     // Each place is judged in a batch of its own: the library and the reference answer what the rule on numbers says.
-    fn hold(&self, held: &mut Held, form: &Form, keys: usize, places: impl IntoIterator<Item = Place>) {
-        let (list, spreads) = if form.is_pair() { self.lists(1, keys) } else { self.lists(keys, 0) };
+    fn hold(&self, held: &mut Held, letter: u8, form: &Form, keys: usize, places: impl IntoIterator<Item = Place>) {
+        let (list, spreads) = if form.is_pair() { self.lists(letter, 1, keys) } else { self.lists(letter, keys, 0) };
         let lists = Lists { list: &list, spreads: &spreads };
         for place in places {
-            let batch = feed::batch(&[halving::update(form, b'T', 1, place.number())]);
+            let batch = feed::batch(&[halving::update(form, letter, 1, place.number())]);
             let got = lists.judge(&self.rows, &self.records, &batch);
             let by_reference = reference::told(reference::judge(reference::sum_by_sixteens, &list, &spreads, &self.rows, &self.records, &batch));
             let compared = halving::compared(keys, place);
@@ -283,27 +287,32 @@ impl Largest {
 // Every size; at every place where a segment is small, or as large as its number of binary digits changes.
 fn lookups(held: &mut Held) {
     let largest = Largest::new();
-    for (form, sizes) in [(reference::of_contract(1), 1..=MOST_CONTRACTS), (reference::of_pair(1), 0..=MOST_PAIRS)] {
+    for (form, sizes) in [(of_contract(b'T', 1), 1..=MOST_CONTRACTS), (of_pair(1), 0..=MOST_PAIRS)] {
         for keys in halving::sizes(*sizes.end()).filter(|keys| sizes.contains(keys)) {
-            largest.hold(held, form, keys, halving::everywhere(keys));
+            largest.hold(held, b'T', form, keys, halving::everywhere(keys));
         }
         for keys in sizes {
-            largest.hold(held, form, keys, halving::here_and_there(keys));
+            largest.hold(held, b'T', form, keys, halving::here_and_there(keys));
         }
     }
-    worst_batches(held, &largest);
+    for keys in halving::sizes(MOST_CONTRACTS).skip(1) {
+        largest.hold(held, b'F', of_contract(b'F', 1), keys, halving::here_and_there(keys));
+    }
+    worst_batches(held, &largest, b'T', &[(131, 0, 1_703), (0, 144, 1_584), (127, 5, 1_706)]);
+    worst_batches(held, &largest, b'F', &[(160, 0, 2_080)]);
 }
 
-// As many updates of the last contract as a batch has room for, at 13 keys each, or of the last pair, at 11; and both, so that no batch has more.
-fn worst_batches(held: &mut Held, largest: &Largest) {
-    let (list, spreads) = largest.lists(MOST_CONTRACTS, MOST_PAIRS);
+// As many updates of the last contract as a batch has room for, at 13 keys each, or of the last pair, at 11; and both, so that no batch has
+// more. F's are shortest, and it has none of pairs.
+fn worst_batches(held: &mut Held, largest: &Largest, letter: u8, batches: &[(u32, u32, u64)]) {
+    let (list, spreads) = largest.lists(letter, MOST_CONTRACTS, MOST_PAIRS);
     let (rows, records) = (largest.rows.clone(), largest.records.clone());
     let (lent_rows, lent_records) = (rows.len(), records.len());
     let mut bench = Bench { list, spreads, rows, records, lent_rows, lent_records };
     hold(held, &mut bench, &Ask::Start(vec![1]), || "a start with the largest segments".into());
-    let last = |form, keys: usize| move |sequence| halving::update(form, b'T', sequence, Place { below: keys - 1, listed: true }.number());
-    let (contract, pair) = (last(reference::of_contract(1), MOST_CONTRACTS), last(reference::of_pair(1), MOST_PAIRS));
-    for (contracts, pairs, compared) in [(131, 0, 1_703), (0, 144, 1_584), (127, 5, 1_706)] {
+    let last = |form, keys: usize| move |sequence| halving::update(form, letter, sequence, Place { below: keys - 1, listed: true }.number());
+    let (contract, pair) = (last(of_contract(letter, 1), MOST_CONTRACTS), last(of_pair(1), MOST_PAIRS));
+    for &(contracts, pairs, compared) in batches {
         let messages: Vec<Vec<u8>> = (1..=contracts).map(contract).chain((contracts + 1..=contracts + pairs).map(pair)).collect();
         let batch = feed::batch(&messages);
         let lists = Lists { list: &bench.list, spreads: &bench.spreads };
@@ -319,7 +328,7 @@ fn damage_records(r: &mut Random, bench: &mut Bench) {
     let one_in = r.pick(&[1, 4, 40]);
     for cell in &mut bench.records {
         if r.one_in(one_in) {
-            let near = r.pick(&[bench.rows[1], bench.rows[GAP_ROW + 1]]) as u64 + r.below(6);
+            let near = r.pick(&[bench.rows[1], bench.rows[GAP_ROW + 1], bench.rows[2 * GAP_ROW + 1]]) as u64 + r.below(6);
             let any = [r.next(), r.next() >> 32, r.pick(&CELLS), r.pick(&NUMBERS), near, near + (1 << 32)];
             *cell = r.pick(&any);
         }

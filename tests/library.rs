@@ -3,7 +3,7 @@
 #![allow(dead_code)] // each user needs a part
 
 pub type Answer = [u64; 4];
-pub type Values = [u64; 33];
+pub type Values = [u64; 35];
 
 #[rustfmt::skip]
 extern "C" {

@@ -10,7 +10,7 @@ mod reference;
 
 use program::{Contracts, Held, Options};
 use random::Random;
-use reference::{layout, Kind, Sought, KEY, MARKET_TYPE_ROW, MOST_CELLS, NONE, PRICE, QUANTITY, TURNOVER};
+use reference::{of_contract, Form, Kind, Row, Sought, KEY, MOST_CELLS, NONE, PRICE, QUANTITY, TURNOVER};
 use std::collections::BTreeSet;
 
 #[derive(Clone, Copy)]
@@ -236,7 +236,7 @@ fn lists(asked: &mut Asked, r: &mut Random, count: usize) {
         let whole = matches!(&header, Some(h) if reference::bodies_sound(&list, h));
         asked.ask(b'L', &list, format!("sound {whole} header {}", header.is_some()), "lists");
         for _ in 0..4 {
-            let letter = r.pick(b"DTDTF");
+            let letter = r.pick(b"DTDTFFP");
             let mut key = if r.one_in(4) { feed::a_key(r) } else { book.a_key(r, letter) };
             if r.one_in(5) {
                 key[KEY - 1] ^= 1;
@@ -418,39 +418,42 @@ fn faulty((number, row): (u8, usize)) -> String {
     format!("{} {row}", if number == 11 { "field" } else { "range" })
 }
 
-fn read_rows(level: usize, data: &[u8]) -> String {
+// One cell for each row, the key's among them: what is unsent is no row.
+fn rows_in(form: &Form, told: &[u64]) -> Vec<u64> {
+    let sent = told.iter().zip(form.told()).filter(|(_, (row, _))| *row != Row::Unsent).map(|(&cell, _)| cell);
+    vec![0; form.key_rows].into_iter().chain(sent).collect()
+}
+
+fn read_rows(form: &Form, data: &[u8]) -> String {
     let mut cells = [0; MOST_CELLS];
-    match reference::read_rows(level, data, &mut cells) {
+    match reference::read_cells(form, data, &mut cells) {
         Err(fault) => faulty(fault),
-        Ok(()) => {
-            let all = [0; MARKET_TYPE_ROW].iter().chain(&cells[..layout(level).len() - MARKET_TYPE_ROW]);
-            all.fold("good".into(), |line, cell| format!("{line} {cell}"))
-        }
+        Ok(()) => rows_in(form, &cells).iter().fold("good".into(), |line, cell| format!("{line} {cell}")),
     }
 }
 
 fn rows(asked: &mut Asked, r: &mut Random, count: usize) {
     for _ in 0..count {
-        let level = 1 + r.below(2) as usize;
+        let asked_form = 1 + r.below(4) as u8; // D's form of each level, and then F's
+        let form = of_contract(if asked_form < 3 { b'D' } else { b'F' }, 1 + (asked_form as usize + 1) % 2);
         let mut key = feed::a_key(r);
-        let mut values = feed::a_quote(r, level);
+        let mut values = feed::values_of(r, form);
         if r.one_in(3) {
             feed::damage_quote(r, &mut values);
         }
         if r.one_in(8) {
             key[r.below(KEY as u64) as usize] = r.pick(&[0, 31, 127, 255]);
         }
-        let written = reference::write_rows(level, &key, &values);
+        let written = reference::write_data(form, &key, &values);
         let line = written.as_ref().map_or_else(|&fault| faulty(fault), |data| format!("[{}]", String::from_utf8_lossy(data)));
-        let cells: Vec<u64> = [0; MARKET_TYPE_ROW].into_iter().chain(values).chain([0; MOST_CELLS]).take(MARKET_TYPE_ROW + MOST_CELLS).collect();
-        let bytes: Vec<u8> = cells.iter().flat_map(|c| c.to_be_bytes()).collect();
-        asked.ask(b'W', &[&[level as u8], &key[..], &bytes].concat(), line, "rows written");
-        let mut data = written.unwrap_or_else(|_| vec![b' '; reference::LENGTHS[level - 1] - 11]);
+        let bytes: Vec<u8> = rows_in(form, &values).iter().flat_map(|c| c.to_be_bytes()).collect();
+        asked.ask(b'W', &[&[asked_form], &key[..], &bytes].concat(), line, "rows written");
+        let mut data = written.unwrap_or_else(|_| vec![b' '; form.length - 11]);
         for _ in 0..r.below(3) {
             let i = r.below(data.len() as u64) as usize;
             data[i] = r.pick(b" .0959NS-\x00\xff");
         }
-        asked.ask(b'U', &[&[level as u8], &data[..]].concat(), read_rows(level, &data), "rows read");
+        asked.ask(b'U', &[&[asked_form], &data[..]].concat(), read_rows(form, &data), "rows read");
     }
 }
 

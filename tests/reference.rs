@@ -1,4 +1,4 @@
-// The box by document 01 and requests M-100 to M-102, written from the papers and from nothing else of this project: what each call
+// The box by document 01 and requests M-100 to M-102 and M-104, written from the papers and from nothing else of this project: what each call
 // answers and leaves in lent memory. The tests hold the compiled programs against it, and the benchmark the compiled library's time against its own.
 #![allow(dead_code)] // each test uses a part
 
@@ -10,12 +10,17 @@ pub const PAIR: usize = 2 * KEY;
 pub const GAP_ROW: usize = 132;
 pub const RUNS: usize = 4; // where a gap row's runs begin
 pub const MOST_RUNS: usize = 64;
-pub const RECORD: usize = 48;
-pub const LEVEL1_CELLS: usize = 15;
+pub const RECORD: usize = 52;
+pub const LEVEL1_CELLS: usize = 17;
 pub const SPREAD_RECORD: usize = 38;
 pub const SPREAD_LEVEL1_CELLS: usize = 10;
 pub const NONE: u64 = u64::MAX; // as a cell: no amount
 pub const MINUS: u64 = 1 << 63; // beside the amount, in the cell of a difference
+pub const MOST_SEGMENTS: usize = 3;
+
+// Which session an update came from, as its record says.
+pub const NORMAL: u64 = 0;
+pub const PRE_OPEN: u64 = 1;
 
 #[derive(Clone, Copy, Debug, PartialEq)]
 pub struct Refusal {
@@ -210,14 +215,19 @@ pub enum Row {
     Status,
     Number(Kind),
     Difference,
+    Unsent, // no row: another segment's messages have a field for it, and in this one's records it is always none
 }
 
 pub const MARKET_TYPE_ROW: usize = 5;
 pub const LENGTHS: [usize; 2] = [249, 505];
 pub const SPREAD_LENGTHS: [usize; 2] = [227, 483];
-pub const MOST_CELLS: usize = 32; // the rows of a contract's level 2 behind the key, which no other form passes
+pub const FUTURES_LENGTHS: [usize; 2] = [204, 404];
+pub const MOST_CELLS: usize = 33; // what a contract's level 2 has behind the key, which no other form passes
 
 const P: (Row, usize) = (Row::Number(PRICE), 17);
+const NARROW: (Row, usize) = (Row::Number(PRICE), 10);
+const STAMP: (Row, usize) = (Row::Number(QUANTITY), 11);
+const NO_STAMP: (Row, usize) = (Row::Unsent, 0);
 const Q: (Row, usize) = (Row::Number(QUANTITY), 12);
 const T: (Row, usize) = (Row::Number(TURNOVER), 25);
 const D: (Row, usize) = (Row::Difference, 17);
@@ -228,18 +238,35 @@ const fn text(width: usize) -> (Row, usize) {
 }
 
 #[rustfmt::skip]
-static LEVEL1: [(Row, usize); 19] = [
-    text(6), text(10), text(11), text(10), text(2), M,
+static LEVEL1: [(Row, usize); 20] = [
+    text(6), text(10), text(11), text(10), text(2), M, NO_STAMP,
     P, Q, P, Q,
     P, Q, S, P, P, P, P, P, T,
 ];
 
 #[rustfmt::skip]
-static LEVEL2: [(Row, usize); 37] = [
-    text(6), text(10), text(11), text(10), text(2), M,
+static LEVEL2: [(Row, usize); 38] = [
+    text(6), text(10), text(11), text(10), text(2), M, NO_STAMP,
     P, Q, P, Q, P, Q, P, Q, P, Q,
     P, Q, P, Q, P, Q, P, Q, P, Q,
     P, Q, S, P, P, P, P, P, Q, Q, T,
+];
+
+// 002 4.4: a time stamp behind the market type, and prices 10 wide.
+#[rustfmt::skip]
+static FUTURES1: [(Row, usize); 20] = [
+    text(6), text(10), text(11), text(10), text(2), M, STAMP,
+    NARROW, Q, NARROW, Q,
+    NARROW, Q, S, NARROW, NARROW, NARROW, NARROW, NARROW, T,
+];
+
+// 002 4.5.
+#[rustfmt::skip]
+static FUTURES2: [(Row, usize); 38] = [
+    text(6), text(10), text(11), text(10), text(2), M, STAMP,
+    NARROW, Q, NARROW, Q, NARROW, Q, NARROW, Q, NARROW, Q,
+    NARROW, Q, NARROW, Q, NARROW, Q, NARROW, Q, NARROW, Q,
+    NARROW, Q, S, NARROW, NARROW, NARROW, NARROW, NARROW, Q, Q, T,
 ];
 
 // 000 4.6, 003 4.3: both contracts' keys, and no market type, status, close, average or turnover.
@@ -262,44 +289,75 @@ static SPREAD2: [(Row, usize); 37] = [
 // A message with rows: an update of a contract or of a pair, at a level.
 #[derive(PartialEq)]
 pub struct Form {
-    pub code: u8, // behind the segment's letter
+    pub code: u8, // behind the first letter
     pub level: usize,
     pub key: usize, // the bytes of the key, which come first
     pub key_rows: usize,
     pub rows: &'static [(Row, usize)],
     pub length: usize,
+    pub market_types: &'static [u8], // that a row of it may hold
 }
 
+// Of D and T, whose papers have one market type.
 static CONTRACTS: [Form; 2] = [
-    Form { code: b'N', level: 1, key: KEY, key_rows: MARKET_TYPE_ROW, rows: &LEVEL1, length: LENGTHS[0] },
-    Form { code: b'N', level: 2, key: KEY, key_rows: MARKET_TYPE_ROW, rows: &LEVEL2, length: LENGTHS[1] },
+    Form { code: b'N', level: 1, key: KEY, key_rows: MARKET_TYPE_ROW, rows: &LEVEL1, length: LENGTHS[0], market_types: b"N" },
+    Form { code: b'N', level: 2, key: KEY, key_rows: MARKET_TYPE_ROW, rows: &LEVEL2, length: LENGTHS[1], market_types: b"N" },
+];
+
+// Of F: FN and PN alike.
+static FUTURES: [Form; 2] = [
+    Form { code: b'N', level: 1, key: KEY, key_rows: MARKET_TYPE_ROW, rows: &FUTURES1, length: FUTURES_LENGTHS[0], market_types: b"NOSA" },
+    Form { code: b'N', level: 2, key: KEY, key_rows: MARKET_TYPE_ROW, rows: &FUTURES2, length: FUTURES_LENGTHS[1], market_types: b"NOSA" },
 ];
 
 static PAIRS: [Form; 2] = [
-    Form { code: b'P', level: 1, key: PAIR, key_rows: 2 * MARKET_TYPE_ROW, rows: &SPREAD1, length: SPREAD_LENGTHS[0] },
-    Form { code: b'P', level: 2, key: PAIR, key_rows: 2 * MARKET_TYPE_ROW, rows: &SPREAD2, length: SPREAD_LENGTHS[1] },
+    Form { code: b'P', level: 1, key: PAIR, key_rows: 2 * MARKET_TYPE_ROW, rows: &SPREAD1, length: SPREAD_LENGTHS[0], market_types: b"" },
+    Form { code: b'P', level: 2, key: PAIR, key_rows: 2 * MARKET_TYPE_ROW, rows: &SPREAD2, length: SPREAD_LENGTHS[1], market_types: b"" },
 ];
 
-pub fn of_contract(level: usize) -> &'static Form {
-    &CONTRACTS[level - 1]
+// The letter of the segment that a code belongs to: of the codes of the pre-open session those that 002 prints, which are F's. Whether the
+// segment is listed is another matter, and for other letters so is the second byte.
+pub fn segment_of(code: [u8; 2]) -> Option<u8> {
+    match code {
+        [letter @ (b'D' | b'F' | b'T'), _] => Some(letter),
+        [b'P', b'N' | b'O' | b'C'] => Some(b'F'),
+        _ => None,
+    }
+}
+
+fn session_of(code: [u8; 2]) -> u64 {
+    if code[0] == b'P' { PRE_OPEN } else { NORMAL }
+}
+
+// By the letter of a segment or the first of a code.
+fn contract_forms(letter: u8) -> &'static [Form; 2] {
+    if matches!(letter, b'F' | b'P') { &FUTURES } else { &CONTRACTS }
+}
+
+pub fn of_contract(letter: u8, level: usize) -> &'static Form {
+    &contract_forms(letter)[level - 1]
 }
 
 pub fn of_pair(level: usize) -> &'static Form {
     &PAIRS[level - 1]
 }
 
+// The forms of a code; none where it is a heartbeat's or passed over, as F's messages of pairs are.
+pub fn forms_of(code: [u8; 2]) -> Option<&'static [Form; 2]> {
+    match code {
+        [letter, b'N'] => Some(contract_forms(letter)),
+        [b'D' | b'T', b'P'] => Some(&PAIRS),
+        _ => None,
+    }
+}
+
 // By code and length; the length tells the levels apart.
-pub fn form_of(code: u8, length: usize) -> Option<&'static Form> {
-    let forms = match code {
-        b'N' => &CONTRACTS,
-        b'P' => &PAIRS,
-        _ => return None,
-    };
-    forms.iter().find(|form| form.length == length)
+pub fn form_of(code: [u8; 2], length: usize) -> Option<&'static Form> {
+    forms_of(code)?.iter().find(|form| form.length == length)
 }
 
 impl Form {
-    // The rows behind the key: one cell each.
+    // What is told of an update besides its key: one value each.
     pub fn told(&self) -> &'static [(Row, usize)] {
         &self.rows[self.key_rows..]
     }
@@ -307,10 +365,17 @@ impl Form {
     pub fn is_pair(&self) -> bool {
         self.key == PAIR
     }
-}
 
-pub fn layout(level: usize) -> &'static [(Row, usize)] {
-    of_contract(level).rows
+    // The cells in front of these in a record: the number, and of a contract the session.
+    pub fn front(&self) -> usize {
+        if self.is_pair() { 1 } else { 2 }
+    }
+
+    // The row of what is told in the k-th place: what is unsent is no row. Only a refusal asks for it.
+    #[cold]
+    pub fn row(&self, k: usize) -> usize {
+        self.key_rows + self.told()[..k].iter().filter(|(row, _)| *row != Row::Unsent).count()
+    }
 }
 
 // Of a difference; a minus beside 0 is none.
@@ -322,7 +387,7 @@ fn read_difference_cell(field: &[u8]) -> Result<u64, u8> {
     Ok(read_difference(field)?.map_or(NONE, |(below, units)| difference_cell(below, units)))
 }
 
-// The cells of the rows behind the key; else 11 or 12 and the row.
+// The cells of what is told; else 11 or 12 and the row.
 pub fn read_cells(form: &Form, data: &[u8], cells: &mut [u64; MOST_CELLS]) -> Result<(), (u8, usize)> {
     let mut rest = &data[form.key..];
     for (k, &(row, width)) in form.told().iter().enumerate() {
@@ -331,58 +396,61 @@ pub fn read_cells(form: &Form, data: &[u8], cells: &mut [u64; MOST_CELLS]) -> Re
         let read = match row {
             Row::Number(kind) => read_number(kind, field),
             Row::Difference => read_difference_cell(field),
-            Row::MarketType if field[0] == b'N' => Ok(field[0] as u64),
+            Row::MarketType if form.market_types.contains(&field[0]) => Ok(field[0] as u64),
             Row::Status if field[0] == b'S' || field[0] == b' ' => Ok(field[0] as u64),
+            Row::Unsent => Ok(NONE),
             _ => Err(FIELD),
         };
-        cells[k] = read.map_err(|number| (number, form.key_rows + k))?;
+        match read {
+            Ok(cell) => cells[k] = cell,
+            Err(number) => return Err((number, form.row(k))),
+        }
     }
     Ok(())
 }
 
-pub fn read_rows(level: usize, data: &[u8], cells: &mut [u64; MOST_CELLS]) -> Result<(), (u8, usize)> {
-    read_cells(of_contract(level), data, cells)
-}
-
-// What any cells of the rows behind the key stand for: a market type or status is a byte's number, above 255 as 0; of a
-// difference minus zero is zero.
+// What any cells of what is told stand for: a market type or status is a byte's number, above 255 as 0; of a difference minus zero is zero.
 pub fn readings(form: &Form, cells: &[u64]) -> Vec<u64> {
     let reading = |(&cell, &(row, _)): (&u64, &(Row, usize))| match row {
         Row::Number(_) => cell,
         Row::Difference if cell == MINUS => 0,
         Row::Difference => cell,
+        Row::Unsent => NONE,
         _ if cell > 255 => 0,
         _ => cell,
     };
     cells.iter().zip(form.told()).map(reading).collect()
 }
 
-// The data of a message, by the values of the rows behind the key; else 11 or 12 and the row.
-pub fn write_data(form: &Form, key: &[u8], values: &[u64]) -> Result<Vec<u8>, (u8, usize)> {
+fn write_key(form: &Form, key: &[u8]) -> Result<Vec<u8>, (u8, usize)> {
     let mut data = vec![];
-    for (i, &(row, width)) in form.rows.iter().enumerate() {
-        let value = if i < form.key_rows { 0 } else { values[i - form.key_rows] };
-        match row {
-            Row::Text => {
-                let part = &key[data.len()..data.len() + width];
-                if part.iter().any(|b| !(32..=126).contains(b)) {
-                    return Err((FIELD, i));
-                }
-                data.extend(part);
-            }
-            Row::MarketType if value == b'N' as u64 => data.push(b'N'),
-            Row::Status if value == b'S' as u64 || value == b' ' as u64 => data.push(value as u8),
-            Row::MarketType | Row::Status => return Err((FIELD, i)),
-            Row::Number(_) | Row::Difference if value == NONE => data.extend(vec![b' '; width]),
-            Row::Number(kind) => data.extend(write_number(kind, value, width).ok_or((RANGE, i))?.bytes()),
-            Row::Difference => data.extend(write_difference(value & MINUS != 0, value & !MINUS, width).ok_or((RANGE, i))?.bytes()),
+    for (row, &(_, width)) in form.rows[..form.key_rows].iter().enumerate() {
+        let part = &key[data.len()..data.len() + width];
+        if part.iter().any(|b| !(32..=126).contains(b)) {
+            return Err((FIELD, row));
         }
+        data.extend(part);
     }
     Ok(data)
 }
 
-pub fn write_rows(level: usize, key: &[u8; KEY], values: &[u64]) -> Result<Vec<u8>, (u8, usize)> {
-    write_data(of_contract(level), key, values)
+// The data of a message, by the values of what is told; else 11 or 12 and the row.
+pub fn write_data(form: &Form, key: &[u8], values: &[u64]) -> Result<Vec<u8>, (u8, usize)> {
+    let mut data = write_key(form, key)?;
+    for (k, (&(row, width), &value)) in form.told().iter().zip(values).enumerate() {
+        let wrong = |number| (number, form.row(k));
+        let is_one_of = |letters: &[u8]| letters.iter().any(|&letter| letter as u64 == value);
+        match row {
+            Row::MarketType if is_one_of(form.market_types) => data.push(value as u8),
+            Row::Status if is_one_of(b"S ") => data.push(value as u8),
+            Row::MarketType | Row::Status => return Err(wrong(FIELD)),
+            Row::Number(_) | Row::Difference if value == NONE => data.extend(vec![b' '; width]),
+            Row::Number(kind) => data.extend(write_number(kind, value, width).ok_or(wrong(RANGE))?.bytes()),
+            Row::Difference => data.extend(write_difference(value & MINUS != 0, value & !MINUS, width).ok_or(wrong(RANGE))?.bytes()),
+            Row::Text | Row::Unsent => {}
+        }
+    }
+    Ok(data)
 }
 
 // ---- the contract list
@@ -396,7 +464,7 @@ pub struct Segment {
 
 pub struct Header {
     number: usize,
-    all: [Segment; 2],
+    all: [Segment; MOST_SEGMENTS],
 }
 
 impl Header {
@@ -434,15 +502,15 @@ fn contents(file: &[u8], key: usize, counts: RangeInclusive<usize>) -> Option<He
     }
     let number = two(file, 0);
     let mut next = 2 + 8 * number;
-    if !(1..=2).contains(&number) || file.len() < next {
+    if !(1..=MOST_SEGMENTS).contains(&number) || file.len() < next {
         return None;
     }
-    let mut all = [Segment { letter: 0, count: 0, offset: 0 }; 2];
+    let mut all = [Segment { letter: 0, count: 0, offset: 0 }; MOST_SEGMENTS];
     for i in 0..number {
         let at = 2 + 8 * i;
         let (letter, zero, count, offset) = (file[at], file[at + 1], two(file, at + 2), four(file, at + 4) as usize);
         let ascends = i == 0 || letter > all[i - 1].letter;
-        if !matches!(letter, b'D' | b'T') || !ascends || zero != 0 || !counts.contains(&count) || offset != next {
+        if !matches!(letter, b'D' | b'F' | b'T') || !ascends || zero != 0 || !counts.contains(&count) || offset != next {
             return None;
         }
         all[i] = Segment { letter, count, offset };
@@ -637,7 +705,7 @@ pub fn take_number(row: &mut [u32], number: u32) -> Taking {
 enum Told {
     Heartbeat,
     PassedOver,
-    Update { form: &'static Form, place: usize },
+    Update { form: &'static Form, place: usize, session: u64 },
 }
 
 // Refusal 5.
@@ -649,50 +717,57 @@ fn framed(rest: &[u8]) -> Result<&[u8], (u8, usize)> {
     if length < 11 || length > rest.len() { Err((5, 0)) } else { Ok(&rest[..length]) }
 }
 
+// Whether the trailer has what it should. Zero may stand where the code's section says that the sum isn't calculated: 000, 002 and 003, 3.1
+// (H), 4.2 (O and C) and 4.11 (E), and 002 4.10 (FZ).
+fn sum_right(sum: Sum, code: [u8; 2], message: &[u8]) -> bool {
+    let (summed, trailer) = message[..message.len() - 1].split_at(message.len() - 3);
+    let zero = trailer == [0, 0];
+    match code {
+        [_, b'H'] => zero,
+        [_, b'C' | b'E' | b'O'] | [b'F', b'Z'] => zero || trailer == sum(summed),
+        _ => trailer == sum(summed),
+    }
+}
+
 // Refusals 6 to 13, in order, of a framed message in a batch of one segment; an update leaves its cells, and adds the keys that its lookup
-// compared, found or not.
+// compared, found or not. One of another market type than N is none, and not looked up.
 #[rustfmt::skip]
 fn checked(
     sum: Sum, lists: &Lists, segment: Option<(usize, u8)>, message: &[u8], cells: &mut [u64; MOST_CELLS], compared: &mut u64,
 ) -> Result<Told, (u8, usize)> {
-    let (code, length) = (message[1], message.len());
+    let (code, length) = ([message[0], message[1]], message.len());
     let segment = match segment {
-        Some((place, letter)) if letter == message[0] && code.is_ascii_uppercase() => place,
+        Some((place, letter)) if segment_of(code) == Some(letter) && code[1].is_ascii_uppercase() => place,
         _ => return Err((6, 0)),
     };
     if message[length - 1] != 13 {
         return Err((7, 0));
     }
-    let form = match code {
-        b'H' if length != 11 => return Err((8, 0)),
-        b'N' | b'P' => Some(form_of(code, length).ok_or((8, 0))?),
-        _ => None,
-    };
-    let (summed, trailer) = (&message[..length - 3], [message[length - 3], message[length - 2]]);
-    let zero = trailer == [0, 0];
-    // Zero where the code's section says that the sum isn't calculated: 000 and 003, 3.1 (H), 4.2 (O and C) and 4.11 (E).
-    let right = match code {
-        b'H' => zero,
-        b'C' | b'E' | b'O' => zero || trailer == sum(summed),
-        _ => trailer == sum(summed),
-    };
-    if !right {
+    let beats = code[1] == b'H';
+    let form = form_of(code, length);
+    if (forms_of(code).is_some() && form.is_none()) || (beats && length != 11) {
+        return Err((8, 0));
+    }
+    if !sum_right(sum, code, message) {
         return Err((9, 0));
     }
-    if (four(message, 4) == 0) != (code == b'H') {
+    if (four(message, 4) == 0) != beats {
         return Err((10, 0));
     }
     let form = match form {
         Some(form) => form,
-        None if code == b'H' => return Ok(Told::Heartbeat),
+        None if beats => return Ok(Told::Heartbeat),
         None => return Ok(Told::PassedOver),
     };
     let data = &message[8..length - 3];
     read_cells(form, data, cells)?;
+    if !form.is_pair() && cells[0] != b'N' as u64 {
+        return Ok(Told::PassedOver);
+    }
     let sought = lists.find(segment, form, &data[..form.key]);
     *compared += sought.compared;
     let place = sought.place.ok_or((13, 0))?;
-    Ok(Told::Update { form, place })
+    Ok(Told::Update { form, place, session: session_of(code) })
 }
 
 // ---- the calls
@@ -717,12 +792,27 @@ pub fn told(judged: Result<Counts, Refusal>) -> (u32, [u64; 4]) {
     judged.map_or_else(|refusal| refusal.told(), |counts| counts.told())
 }
 
-// An update taken: where its record begins, its number and rows.
+// An update taken: where its record begins, its number and session, and what is told of it.
 struct Update {
     at: usize,
-    cells: usize,
+    form: &'static Form,
     number: u64,
-    rows: [u64; MOST_CELLS],
+    session: u64,
+    cells: [u64; MOST_CELLS],
+}
+
+impl Update {
+    // An older one than the record's leaves it.
+    fn store(&self, records: &mut [u64]) {
+        let record = &mut records[self.at..];
+        if self.number <= record[0] {
+            return;
+        }
+        record[0] = self.number;
+        let (front, cells) = (self.form.front(), self.form.told().len());
+        record[1..front].fill(self.session);
+        record[front..front + cells].copy_from_slice(&self.cells[..cells]);
+    }
 }
 
 // What a batch does, found before anything lent is written.
@@ -800,7 +890,8 @@ fn opened(batch: &[u8]) -> Result<usize, Refusal> {
 fn outcome(sum: Sum, lists: &Lists, rows: &[u32], batch: &[u8], keep: bool) -> Result<Outcome, Refusal> {
     let count = opened(batch)?;
     let mut rest = &batch[5..];
-    let segment = rest.first().and_then(|&letter| Some((lists.contracts.place(letter)?, letter)));
+    let letter = rest.get(..2).and_then(|code| segment_of([code[0], code[1]]));
+    let segment = letter.and_then(|letter| Some((lists.contracts.place(letter)?, letter)));
     let mut out = Outcome { counts: Counts::default(), segment: segment.map_or(0, |s| s.0), row: [0; GAP_ROW], updates: vec![] };
     out.row.copy_from_slice(&rows[GAP_ROW * out.segment..GAP_ROW * (out.segment + 1)]);
     let mut cells = [0; MOST_CELLS];
@@ -819,9 +910,9 @@ fn outcome(sum: Sum, lists: &Lists, rows: &[u32], batch: &[u8], keep: bool) -> R
             Taking::Old => out.counts.old += 1,
             Taking::Taken => {
                 out.counts.taken += 1;
-                if let (Told::Update { form, place }, true) = (told, keep) {
+                if let (Told::Update { form, place, session }, true) = (told, keep) {
                     let at = lists.record(out.segment, form, place);
-                    out.updates.push(Update { at, cells: form.told().len(), number: number as u64, rows: cells });
+                    out.updates.push(Update { at, form, number: number as u64, session, cells });
                 }
             }
         }
@@ -838,19 +929,14 @@ pub fn take(sum: Sum, list: &[u8], spreads: &[u8], rows: &mut [u32], records: &m
     let lists = handed_back(list, spreads, rows, records)?;
     let out = outcome(sum, &lists, rows, batch, true)?;
     rows[GAP_ROW * out.segment..GAP_ROW * (out.segment + 1)].copy_from_slice(&out.row);
-    for update in &out.updates {
-        if update.number > records[update.at] {
-            records[update.at] = update.number;
-            records[update.at + 1..update.at + 1 + update.cells].copy_from_slice(&update.rows[..update.cells]);
-        }
-    }
+    out.updates.iter().for_each(|update| update.store(records));
     Ok(out.counts)
 }
 
 // Highest, and the runs for which there must be room.
 pub fn list_gaps(list: &[u8], spreads: &[u8], rows: &[u32], records: &[u64], letter: u8, room: usize) -> Result<(u32, Vec<(u32, u32)>), Refusal> {
     let lists = handed_back(list, spreads, rows, records)?;
-    let place = lists.contracts.place(letter).ok_or(Refusal::plain(6))?;
+    let place = segment(&lists, letter)?;
     let row = &rows[GAP_ROW * place..];
     let runs = runs(row);
     if room < 2 * runs.len() { Err(Refusal::memory(2 * runs.len())) } else { Ok((row[1], runs)) }
@@ -858,7 +944,7 @@ pub fn list_gaps(list: &[u8], spreads: &[u8], rows: &[u32], records: &[u64], let
 
 pub fn write_off(list: &[u8], spreads: &[u8], rows: &mut [u32], records: &[u64], letter: u8) -> Result<(u32, u32), Refusal> {
     let lists = handed_back(list, spreads, rows, records)?;
-    let place = lists.contracts.place(letter).ok_or(Refusal::plain(6))?;
+    let place = segment(&lists, letter)?;
     let row = &mut rows[GAP_ROW * place..GAP_ROW * (place + 1)];
     if row[2] == 0 {
         return Err(Refusal::plain(17));
@@ -869,30 +955,39 @@ pub fn write_off(list: &[u8], spreads: &[u8], rows: &mut [u32], records: &[u64],
     Ok(lowest)
 }
 
-// The update's number and its rows behind the key, or no record.
-fn read_form(lists: Lists, form: &Form, records: &[u64], letter: u8, key: &[u8]) -> Result<Option<Vec<u64>>, Refusal> {
-    let segment = lists.contracts.place(letter).ok_or(Refusal::plain(6))?;
+// The update's number, of a contract's also its session, and what is told of it; or no record.
+fn read_form(lists: Lists, form: &Form, records: &[u64], segment: usize, key: &[u8]) -> Result<Option<Vec<u64>>, Refusal> {
     let place = lists.find(segment, form, key).place.ok_or(Refusal::plain(13))?;
-    let at = lists.record(segment, form, place);
-    let cells = &records[at + 1..at + 1 + form.told().len()];
-    Ok(if records[at] == 0 { None } else { Some([&[records[at]], &readings(form, cells)[..]].concat()) })
+    let (front, cells) = records[lists.record(segment, form, place)..].split_at(form.front());
+    // A session cell of anything but 1 is the normal market's.
+    let session = front[1..].iter().map(|&cell| if cell == PRE_OPEN { PRE_OPEN } else { NORMAL });
+    let values = [front[0]].into_iter().chain(session).chain(readings(form, cells)).collect();
+    Ok(if front[0] == 0 { None } else { Some(values) })
+}
+
+fn segment(lists: &Lists, letter: u8) -> Result<usize, Refusal> {
+    lists.contracts.place(letter).ok_or(Refusal::plain(6))
 }
 
 #[rustfmt::skip]
 pub fn read_record(
     list: &[u8], spreads: &[u8], rows: &[u32], records: &[u64], letter: u8, key: &[u8; KEY], level: usize,
 ) -> Result<Option<Vec<u64>>, Refusal> {
-    read_form(handed_back(list, spreads, rows, records)?, of_contract(level), records, letter, key)
+    let lists = handed_back(list, spreads, rows, records)?;
+    let segment = segment(&lists, letter)?;
+    read_form(lists, of_contract(letter, level), records, segment, key)
 }
 
 #[rustfmt::skip]
 pub fn read_spread(
     list: &[u8], spreads: &[u8], rows: &[u32], records: &[u64], letter: u8, pair: &[u8; PAIR], level: usize,
 ) -> Result<Option<Vec<u64>>, Refusal> {
-    read_form(handed_back(list, spreads, rows, records)?, of_pair(level), records, letter, pair)
+    let lists = handed_back(list, spreads, rows, records)?;
+    let segment = segment(&lists, letter)?;
+    read_form(lists, of_pair(level), records, segment, pair)
 }
 
-// A message of a form, or a heartbeat; `values` are its rows behind the key.
+// A message of a form, or a heartbeat; `values` are what is told behind the key.
 fn write_form(code: [u8; 2], form: Option<&Form>, number: u32, key: &[u8], values: &[u64], room: usize) -> Result<Vec<u8>, Refusal> {
     if (number == 0) != form.is_none() {
         return Err(Refusal::plain(10));
@@ -916,8 +1011,8 @@ fn write_form(code: [u8; 2], form: Option<&Form>, number: u32, key: &[u8], value
 // An update of a contract or a heartbeat.
 pub fn write_message(code: [u8; 2], level: usize, number: u32, key: &[u8; KEY], values: &[u64], room: usize) -> Result<Vec<u8>, Refusal> {
     let form = match code {
-        [b'D' | b'T', b'H'] => None,
-        [b'D' | b'T', b'N'] => Some(of_contract(level)),
+        [b'D' | b'F' | b'T', b'H'] => None,
+        [letter @ (b'D' | b'F' | b'P' | b'T'), b'N'] => Some(of_contract(letter, level)),
         _ => return Err(Refusal::plain(6)),
     };
     write_form(code, form, number, key, values, room)

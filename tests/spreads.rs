@@ -206,44 +206,44 @@ fn lists() -> Vec<Case> {
     all
 }
 
-// Three contracts want 144 cells and three pairs 114.
+// Three contracts want 156 cells and three pairs 114.
 fn memory() -> Case {
     let start = || Ask::Start(vec![1, 1]);
     let lend = |rows, records| Ask::Lend { rows, records };
     let asked = vec![
         Ask::Spreads(pairs()),
-        lend(263, 257),
+        lend(263, 269),
         start(),
-        lend(264, 257),
+        lend(264, 269),
         start(),
         Ask::Start(vec![1]),
-        lend(264, 144),
+        lend(264, 156),
         start(),
-        lend(264, 258),
+        lend(264, 270),
         start(),
-        lend(264, 257),
+        lend(264, 269),
         read(b'T', 2, pair(&GOLD, &GOLD)),
         Ask::Take(vec![]),
-        lend(263, 257),
+        lend(263, 269),
         Ask::Off { letter: b'D' },
         Ask::Spreads(NO_PAIRS.to_vec()),
-        lend(264, 144),
+        lend(264, 156),
         Ask::Off { letter: b'D' },
-        lend(264, 143),
+        lend(264, 155),
         Ask::Off { letter: b'D' },
     ];
     let short = |name: &str, cells: usize| format!("{name} refused 15 0 0 {cells}");
     let said = vec![
         short("start", 264),
-        short("start", 258),
+        short("start", 270),
         "start refused 10 0 0 0".into(),
-        short("start", 258),
+        short("start", 270),
         "start ok".into(),
-        short("spread", 258),
-        format!("{} 0", short("take", 258)),
+        short("spread", 270),
+        format!("{} 0", short("take", 270)),
         short("off", 264),
         "off refused 17 0 0 0".into(),
-        short("off", 144),
+        short("off", 156),
     ];
     ("the cells wanted".into(), contracts(), asked, said)
 }
@@ -286,7 +286,7 @@ fn records() -> Vec<Case> {
                 "spread none".into(),
                 record(2, 3, &[(28, "-2500000"), (36, "9")]),
                 "spread none".into(),
-                "record ok 2 78 - - - - 835000000 - 32 - - - - - -".into(),
+                "record ok 2 0 78 - - - - - 835000000 - 32 - - - - - -".into(),
             ],
         ),
         (
@@ -435,7 +435,7 @@ fn writer() -> Case {
         ]);
         said.extend([format!("write refused 15 0 0 {length}"), "write refused 10 0 0 0".into()]);
         said.push(format!("write ok {length} {}", hex(&feed::sealed(*b"DP", 4_294_967_295, &data(level, &of, &[])))));
-        for code in [b"DN", b"TN", b"DH", b"TH", b"FP", b"PP", b"DE", b"dP", b"Dp", b"PD", b"\x00\x00"] {
+        for code in [b"DN", b"TN", b"DH", b"TH", b"FN", b"PN", b"FP", b"PP", b"DE", b"dP", b"Dp", b"PD", b"\x00\x00"] {
             asked.push(writing(code, level, 0, &of, 0, &[]));
             said.push("write refused 6 0 0 0".into());
         }
@@ -451,7 +451,7 @@ fn writer() -> Case {
     }
     // A contract's writer writes no pair.
     for code in [b"DP", b"TP"] {
-        asked.push(Ask::Write { code: *code, level: 1, number: 1, key: NEAR, room: 1_024, values: vec![NONE; 14] });
+        asked.push(Ask::Write { code: *code, level: 1, number: 1, key: NEAR, room: 1_024, values: vec![NONE; 15] });
         said.push("write refused 6 0 0 0".into());
     }
     ("the writer of pairs".into(), contracts(), asked, said)

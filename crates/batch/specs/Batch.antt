@@ -5,7 +5,7 @@ use mathlib.Core.List.{List, [], _∷_}
 use lib.Dec.{leb, ltb, eqb}
 use lib.ListN.{length, drop}
 use Rattle.wire.specs.Number.{numberAt}
-use Rattle.head.specs.Fields.{letterOf}
+use Rattle.head.specs.Fields.{segmentLetterOf}
 use Rattle.state.specs.declared.refusal.Refusal.the-variants.{Size, Packed, Flag, Count}
 use Rattle.state.specs.Refusals.{Rule}
 
@@ -36,6 +36,6 @@ batchRules batch =
     ∷ record { holds = ltb 0 (countOf batch); refusal = Count }
     ∷ []
 
--- 01, the table's row 6: the first message's letter is the batch's
+-- 01, the table's row 6, M-104: the segment of the first message is the batch's
 abbrev pub batchLetter : List ℕ → ℕ
-batchLetter batch = letterOf (batchData batch)
+batchLetter batch = segmentLetterOf (batchData batch)

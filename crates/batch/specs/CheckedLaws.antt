@@ -7,7 +7,7 @@ use lib.ListN.{length, take, drop, length-drop}
 use Rattle.laws.specs.Rules.{firstBroken, Hold}
 use Rattle.laws.specs.RulesLaws.{none-hold, hold-append}
 use Rattle.wire.specs.Number.{numberAt}
-use Rattle.head.specs.Fields.{letterOf}
+use Rattle.head.specs.Fields.{segmentLetterOf}
 use Rattle.state.specs.declared.answers.Judged.{Judged}
 use Rattle.state.specs.declared.answers.Judged.the-variants.{Refused}
 use Rattle.state.specs.declared.refusal.Refusal.{Refusal}
@@ -100,5 +100,5 @@ module _ (lent : Lent) (batch : List ℕ) (checked : Checked) (is : checkedNumbe
         took-batch lent′ t =
             record {
               answers = t .answers ∙ same-numbers;
-              left = t .left ∙ ap₂ (lentAfter lent) (ap letterOf bytes-are) same;
+              left = t .left ∙ ap₂ (lentAfter lent) (ap segmentLetterOf bytes-are) same;
             }

@@ -8,7 +8,7 @@ use lib.ListN.{length}
 use Rattle.files.specs.File.{segmentsOf}
 use Rattle.contracts.specs.Sound.{Header}
 use Rattle.pairs.specs.Lists.{Lists, Headers}
-use Rattle.head.specs.Fields.{letterOf}
+use Rattle.head.specs.Fields.{segmentLetterOf}
 use Rattle.sequence.specs.RowLaid.{soundGapRow}
 use Rattle.state.specs.declared.answers.Judged.{Judged}
 use Rattle.state.specs.Answers.{judgedNumbers}
@@ -41,12 +41,12 @@ pub record DataReady (lists : Lists) (rows : List ℕ) (count : ℕ) : Type 0 wh
 
 -- a word of our own: what the messages of a batch do
 abbrev pub dataActs : Lent → List ℕ → ℕ → Acted
-dataActs lent bytes count = messagesAct count (lent .lists) (letterOf bytes) 0 (boxOf lent (letterOf bytes)) bytes
+dataActs lent bytes count = messagesAct count (lent .lists) (segmentLetterOf bytes) 0 (boxOf lent (segmentLetterOf bytes)) bytes
 
 -- a word of our own: the numbers of that, and of the keys compared
 abbrev pub dataNumbers : Lent → List ℕ → ℕ → List ℕ
 dataNumbers lent bytes count =
-    countedNumbers (dataActs lent bytes count) (comparedIn (reachedBy count (dataActs lent bytes count)) (lent .lists) (letterOf bytes) bytes)
+    countedNumbers (dataActs lent bytes count) (comparedIn (reachedBy count (dataActs lent bytes count)) (lent .lists) (segmentLetterOf bytes) bytes)
 
 -- a word of our own: they are judged, whatever the records are
 pub record JudgedData (lists : Lists) (rows bytes : List ℕ) (count : ℕ) (answer : Judged) : Type 0 where
@@ -55,4 +55,4 @@ pub record JudgedData (lists : Lists) (rows bytes : List ℕ) (count : ℕ) (ans
 -- a word of our own: they are taken
 pub record TookData (lent : Lent) (bytes : List ℕ) (count : ℕ) (answer : Judged) (lent′ : Lent) : Type 0 where
   pub answers : judgedNumbers answer ≡ dataNumbers lent bytes count
-  pub left : lent′ ≡ lentAfter lent (letterOf bytes) (dataActs lent bytes count)
+  pub left : lent′ ≡ lentAfter lent (segmentLetterOf bytes) (dataActs lent bytes count)

@@ -17,7 +17,7 @@ use Rattle.slots.specs.declared.records.Fronts.{Fronts}
 use Rattle.message.specs.declared.body.What.{What}
 use Rattle.message.specs.declared.body.What.the-variants as what
 use Rattle.head.specs.declared.head.Head.the-variants.{Good}
-use Rattle.head.specs.Fields.{letterOf}
+use Rattle.head.specs.Fields.{segmentLetterOf}
 use Rattle.head.specs.HeadLaws.{listed-exact}
 use Rattle.message.specs.Reads.{messageOf}
 use Rattle.message.specs.Numbers.{verdictOf}
@@ -95,7 +95,7 @@ module _ (rows : List ℕ) (segment : Option ℕ) where
 
 module _ (lists : Lists) (rows : List ℕ) (letter : ℕ) where
   -- on scratch the messages do what they do to the box
-  module _ (row bytes : List ℕ) (count : ℕ) (s : ScratchRow rows (segmentOf (lists .contracts) letter) row) (h : 0 < count) (e : letter ≡ letterOf bytes) where
+  module _ (row bytes : List ℕ) (count : ℕ) (s : ScratchRow rows (segmentOf (lists .contracts) letter) row) (h : 0 < count) (e : letter ≡ segmentLetterOf bytes) where
     scratch-acts : (records : List ℕ) → messagesAct count lists letter 0 (boxAt row records noCounts) bytes ≡ dataActs (lends lists rows records) bytes count
     scratch-acts records = go (segmentOf (lists .contracts) letter) refl ∙ ap (λ (l : ℕ). messagesAct count lists l 0 (boxOf (lends lists rows records) l) bytes) e
       where
@@ -122,7 +122,7 @@ module _ (lists : Lists) (rows : List ℕ) (letter : ℕ) where
             let r = refused-is (dataActs (lends lists rows records) bytes count) _ refusal _ (answered f) in
             record {
               answers = scratch-judged .answers records;
-              left = ap (lentAfter (lends lists rows records) (letterOf bytes)) (sym (r .1));
+              left = ap (lentAfter (lends lists rows records) (segmentLetterOf bytes)) (sym (r .1));
             }
 
         module _ {taken old heartbeats compared : ℕ} (f : turn .answer ≡ Accepted taken old heartbeats compared) where
@@ -134,9 +134,9 @@ module _ (lists : Lists) (rows : List ℕ) (letter : ℕ) where
               → TookData (lends lists rows records) bytes count (turn .answer) (lends lists (withGapRowOfLetter lists letter rows row′) (made (turn .kept) stores′ records))
           scratch-taken room =
               let l = scratch-left in
-              let put : withGapRowOfLetter lists letter rows row′ ≡ withGapRowOfLetter lists (letterOf bytes) rows (l .0 .row) =
+              let put : withGapRowOfLetter lists letter rows row′ ≡ withGapRowOfLetter lists (segmentLetterOf bytes) rows (l .0 .row) =
               ap (withGapRowOfLetter lists letter rows) (sym (l .2 .row-is)) ∙ ap (λ (n : ℕ). withGapRowOfLetter lists n rows (l .0 .row)) e in
               record {
                 answers = scratch-judged .answers records;
-                left = ap₂ (lends lists) put (sym (l .2 .records-are room)) ∙ ap (lentAfter (lends lists rows records) (letterOf bytes)) (sym (l .1));
+                left = ap₂ (lends lists) put (sym (l .2 .records-are room)) ∙ ap (lentAfter (lends lists rows records) (segmentLetterOf bytes)) (sym (l .1));
               }

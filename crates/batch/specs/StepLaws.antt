@@ -33,8 +33,8 @@ use Rattle.forms.specs.declared.forms.Named.the-variants as is
 use Rattle.forms.specs.Forms.{subjectOf}
 use Rattle.head.specs.declared.head.Head.the-variants.{Good}
 use Rattle.message.specs.CallerLaws.{contents-good}
-use Rattle.head.specs.Fields.{formIn, numberOf}
-use Rattle.message.specs.Message.{messagePlace, ofNamed, ofPlace, ofSubject}
+use Rattle.head.specs.Fields.{formIn, numberOf, dataOf}
+use Rattle.message.specs.Message.{messagePlace, marketIn, updates, actingFor, acting, actsAs, ofNamed, ofPlace, ofSubject}
 use Rattle.message.specs.Reads.{rowsRead, ofVerdict, contentsBy, messageOf}
 use Rattle.message.specs.Numbers.{verdictOf}
 use Rattle.head.specs.RulesLaws.{unlike}
@@ -132,12 +132,12 @@ module _ (wanted : ℕ) (box : Box) (i number : ℕ) (changed : List ℕ → Lis
 
 -- an update changes nothing behind the cells wanted
 update-behind : (lists : Lists) → Headers lists → (letter : ℕ) (bytes : List ℕ) {number : ℕ} {form : Form} {place : ℕ} → messageOf lists letter bytes .what ≡ what.Update number form place
-    → (cells records : List ℕ) → KeptBehind (recordsWanted lists) records (updated lists (segmentOf (lists .contracts) letter) place (subjectOf form) number cells records)
+    → (cells records : List ℕ) → KeptBehind (recordsWanted lists) records (updated lists (segmentOf (lists .contracts) letter) place (subjectOf form) form number cells records)
 update-behind lists headers letter bytes {number} {form} {place} e cells records =
     let item : Item = item-of lists headers letter bytes e in
     let level = tells-of lists headers letter bytes e in
     rw (level .1)
-    (stored-behind (recordsWanted lists) (slotAt lists (slotIn item (segmentOf (lists .contracts) letter) place (level .0))) number (recordOf item (level .0) cells) records (record-wanted lists headers letter bytes e cells))
+    (stored-behind (recordsWanted lists) (slotAt lists (slotIn item (segmentOf (lists .contracts) letter) place (level .0))) number (recordOf item form cells) records (record-wanted lists headers letter bytes e cells))
 
 -- what a message is tells what its number does to gaps
 abbrev Tells : What → (Gaps → ℕ → Gaps) → ℕ → Type 0
@@ -154,19 +154,28 @@ subject-tells (Of item level) form n p = go (p item)
     go none = tt
     go (some q) = ((λ g. refl), refl)
 
-tells : (v : Verdict) (k : Named) (n : ℕ) (p : Item → Option ℕ) → Tells (ofVerdict v (ofNamed k n p)) (arrivedAs k) n
-tells verdict.Good (is.Form form) n p = subject-tells (subjectOf form) form n p
-tells verdict.Good is.NoLength n p = ((λ g. refl), refl)
-tells verdict.Good is.PassedOver n p = ((λ g. refl), refl)
-tells (verdict.Field row) k n p = tt
-tells (verdict.Range row) k n p = tt
+-- what is passed over by its market type counts in the sequence as an update does
+acting-tells : (s : Subject) (form : Form) → subjectOf form ≡ s → (market n : ℕ) (p : Item → Option ℕ) → Tells (ofNamed (actingFor s form market) n p) (arrivedFor s) n
+acting-tells Nothing form e market n p = rw e (λ g. refl)
+acting-tells (Of item level) form e market n p = go (updates item market)
+  where
+    go : (t : Bool) → Tells (ofNamed (cond t (is.Form form) is.PassedOver) n p) arrived n
+    go true = rw e (subject-tells (Of item level) form n p)
+    go false = ((λ g. refl), refl)
+
+tells : (v : Verdict) (k : Named) (market n : ℕ) (p : Item → Option ℕ) → Tells (ofVerdict v (ofNamed (acting k market) n p)) (arrivedAs k) n
+tells verdict.Good (is.Form form) market n p = acting-tells (subjectOf form) form refl market n p
+tells verdict.Good is.NoLength market n p = ((λ g. refl), refl)
+tells verdict.Good is.PassedOver market n p = ((λ g. refl), refl)
+tells (verdict.Field row) k market n p = tt
+tells (verdict.Range row) k market n p = tt
 
 module _ (lists : Lists) (headers : Headers lists) (letter : ℕ) (box : Box) (i : ℕ) (bytes : List ℕ) (good : verdictOf (messageOf lists letter bytes .what) ≡ Good) where
   told : Tells (messageOf lists letter bytes .what) (arrivedAs (formIn bytes)) (numberOf bytes)
-  unfolding contentsBy
+  unfolding contentsBy actsAs
   told =
       rw (contents-good lists letter bytes good)
-      (tells (rowsRead bytes .verdict) (formIn bytes) (numberOf bytes) (messagePlace lists letter bytes))
+      (tells (rowsRead bytes .verdict) (formIn bytes) (marketIn (dataOf bytes)) (numberOf bytes) (messagePlace lists letter bytes))
 
   abbrev Goes : Type 0
   Goes = Went (recordsWanted lists) box (messageActs lists letter box i bytes) (gapsAfter (gapsOf (box .row)) bytes) ⊎ Fell i (messageActs lists letter box i bytes) (gapsAfter (gapsOf (box .row)) bytes)
@@ -194,5 +203,5 @@ module _ (lists : Lists) (headers : Headers lists) (letter : ℕ) (box : Box) (i
           (number-goes (recordsWanted lists) box i number (λ records. records) (all-kept (recordsWanted lists) (box .records)) s)
       go (what.Update number form place) e t =
           rw (t .0 (gapsOf (box .row)), ← t .1, acts-as lists letter bytes (messageOf lists letter bytes) refl e box i)
-          (number-goes (recordsWanted lists) box i number (updated lists (segmentOf (lists .contracts) letter) place (subjectOf form) number (messageOf lists letter bytes .cells))
+          (number-goes (recordsWanted lists) box i number (updated lists (segmentOf (lists .contracts) letter) place (subjectOf form) form number (messageOf lists letter bytes .cells))
           (update-behind lists headers letter bytes e (messageOf lists letter bytes .cells) (box .records)) s)

@@ -91,11 +91,11 @@ module _ (lent : Lent) (batch : List ℕ) where
       let told = keys-told answer p in
       told .0 ∙ ap (λ (n : ℕ). comparedIn n (lent .lists) (batchLetter batch) (batchData batch)) (sym (told .1))
 
-  -- M-102, the worst case: at most 13 keys for each 249 bytes of the data
-  keys-few : 249 * keys ≤ 13 * length (batchData batch)
+  -- M-102, the worst case: at most 13 keys for each 204 bytes of the data
+  keys-few : 204 * keys ≤ 13 * length (batchData batch)
   keys-few = go (firstBroken (stateRules lent ++ batchRules batch)) refl
     where
-      go : (o : Option Refusal) → firstBroken (stateRules lent ++ batchRules batch) ≡ o → 249 * keys ≤ 13 * length (batchData batch)
+      go : (o : Option Refusal) → firstBroken (stateRules lent ++ batchRules batch) ≡ o → 204 * keys ≤ 13 * length (batchData batch)
       go (some refusal) e = rw (rule-refuses lent batch refusal e, front-reached lent batch refusal e) (omega arith)
       go none e =
           let held = hold-append (stateRules lent) (batchRules batch) .0 (none-hold (stateRules lent ++ batchRules batch) e) in
@@ -103,7 +103,7 @@ module _ (lent : Lent) (batch : List ℕ) where
           all-fits (lent .lists) (state-exact lent .0 (held .0) .headers) (batchLetter batch) (countOf batch) 0 _ (batchData batch) (sym (messages-decide lent batch (held .0) (held .1)))
           (reachedBy (countOf batch) acts) (ap (λ (n : ℕ). reachedBy n acts) start ∙ omega arith)
 
-  pub compared-few : (answer : Judged) → JudgedBatch lent batch answer → 249 * comparedOf answer ≤ 13 * length (batchData batch)
+  pub compared-few : (answer : Judged) → JudgedBatch lent batch answer → 204 * comparedOf answer ≤ 13 * length (batchData batch)
   compared-few answer p = rw (keys-told answer p .0) keys-few
 
   -- ---- what is left

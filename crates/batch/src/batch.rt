@@ -27,8 +27,8 @@ const FRONT: usize = 5;
 
 const MOST_DATA: usize = 32767;
 
-// The bytes of a pair's level 1 update, the shortest.
-const LEAST_UPDATE: usize = 227;
+// The bytes of FN's level 1 update, the shortest.
+const LEAST_UPDATE: usize = 204;
 
 // The updates whose stores find room in the scratch memory of a short batch, and of a longer one.
 const FEW: usize = 4;
@@ -98,7 +98,7 @@ fn judge_data(list: &[u8], spreads: &[u8], rows: &[u32], data: &[u8], count: usi
     requires { ⌜ DataReady (lists (now list) (now spreads)) (now rows) count ⌝ }
     ensures { λ r. ⌜ JudgedData (lists (now (list .entry)) (now (spreads .entry))) (now (rows .entry)) (now («data» .entry)) count r ⌝ }
 {
-    let letter = head::letter_of(data);
+    let letter = head::segment_letter_of(data);
     let segment = lookup::segment_of(list, letter);
     let fronts = fronts_in(list, spreads, segment);
     let mut row = [0u32; sequence::CELLS];
@@ -143,7 +143,7 @@ fn take_on(
     requires { ⌜ DataReady (lists (now list) (now spreads)) (now rows) count × (recordsWanted (lists (now list) (now spreads)) ≤ length (now records)) × Room (length (now stores)) (length (now «data»)) ⌝ }
     ensures { λ r. ⌜ TookData (lends (lists (now (list .entry)) (now (spreads .entry))) (now (rows .entry)) (now (records .entry))) (now («data» .entry)) count r (lends (lists (now (list .entry)) (now (spreads .entry))) (now (rows .exit)) (now (records .exit))) ⌝ }
 {
-    let letter = head::letter_of(data);
+    let letter = head::segment_letter_of(data);
     let segment = lookup::segment_of(list, letter);
     let fronts = fronts_in(list, spreads, segment);
     let mut row = [0u32; sequence::CELLS];

@@ -8,8 +8,11 @@ ghost use Rattle.calls.specs.Lent.{Within};
 use console::Desk;
 use keep::Lent;
 
-// The records of 128 contracts, and of 64 pairs with 38 cells each.
-const RECORD_CELLS: usize = console::RECORD_CELLS + 64 * 38;
+// A gap row for each of as many segments as a list may have.
+const ROW_CELLS: usize = contracts::MOST_SEGMENTS * sequence::CELLS;
+
+// The records of 128 contracts, and of 64 pairs.
+const RECORD_CELLS: usize = 128 * slots::CONTRACT + 64 * slots::PAIR;
 
 // Where the program stands: in what it reads and says, with what is lent, and whether there may be another turn.
 struct Turn {
@@ -156,12 +159,12 @@ fn bench(list: &mut [u8], size: usize, page: &mut [u8]) -> usize
     ensures { λ r. ⌜ r ≤ length (now (page .entry)) ⌝ }
 {
     let mut spreads = [0u8; console::MOST_LIST];
-    let mut rows = [0u32; console::ROW_CELLS];
+    let mut rows = [0u32; ROW_CELLS];
     let mut records = [0u64; RECORD_CELLS];
     let lent = Lent {
         list: size,
         spreads: answers::beside(&list[0..size], &mut spreads),
-        rows: console::ROW_CELLS,
+        rows: ROW_CELLS,
         records: RECORD_CELLS,
     };
     let used = run(

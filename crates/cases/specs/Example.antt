@@ -16,11 +16,11 @@ use Rattle.contracts.specs.SoundTests.{entrySound, headerSoundBy, keySound, bod
 use Rattle.sequence.specs.Row.{gapsOf}
 use Rattle.sequence.specs.RowLaid.{laid, soundGapRow}
 use Rattle.forms.specs.Forms.{namedRows, rowsOf, meaningOf, formOf}
-use Rattle.head.specs.Fields.{letterOf, secondOf, lengthOf, numberOf, sumSent, endByte, formIn, sumIn, rightSum, dataOf as dataIn}
+use Rattle.head.specs.Fields.{letterOf, segmentLetterOf, secondOf, lengthOf, numberOf, sumSent, endByte, formIn, sumIn, rightSum, dataOf as dataIn}
 use Rattle.head.specs.Rules.{headOf}
 use Rattle.head.specs.Tests.{framed, coded, trailed, summed}
 use Rattle.message.specs.Compared.{messageCompared}
-use Rattle.message.specs.Message.{messageKey, keyPlace}
+use Rattle.message.specs.Message.{messageKey, keyPlace, actsAs}
 use Rattle.message.specs.Reads.{contentsBy, messageOf}
 use Rattle.turns.specs.Turns.{messageActs, messagesAct}
 use Rattle.batch.specs.Batch.{flagOf, sizeOf, countOf}
@@ -52,7 +52,7 @@ noLists = record { contracts = []; pairs = [] }
 
 -- lent memory: gap rows for one segment and records for one contract, with no lists yet
 abbrev lentFirst : Lent
-lentFirst = lends noLists (replicate 132 0) (replicate 48 0)
+lentFirst = lends noLists (replicate 132 0) (replicate 52 0)
 
 -- 01 "Cases", its last: one message of T that is passed over, with a number
 abbrev batch : ℕ → List ℕ
@@ -68,7 +68,7 @@ now = allAfter (unstarted lentFirst) calls
 
 -- they answer: 15 for the 132 cells that the first start wants; started; one message taken, and one more, with no key compared
 pub told : map answerNumbers (allAnswers (unstarted lentFirst) calls) ≡ (15 ∷ 0 ∷ 0 ∷ 132 ∷ []) ∷ (0 ∷ []) ∷ (0 ∷ 1 ∷ 0 ∷ 0 ∷ 0 ∷ []) ∷ (0 ∷ 1 ∷ 0 ∷ 0 ∷ 0 ∷ []) ∷ []
-unfolding noSpreads pairsListed spreadHeaderSound spreadsSound startRules eachStarts keyFrom keySound bodySound soundBy rowsStarted recordsCleared segmentsOf letterAt zeroAt countAt offsetAt contractsBefore segmentOf entrySound headerSoundBy gapsOf laid soundGapRow messageCompared meaningOf formOf letterOf secondOf lengthOf numberOf dataIn sumSent endByte formIn sumIn rightSum framed coded trailed summed headOf messageKey keyPlace contentsBy messageOf flagOf sizeOf countOf messageActs messagesAct batchActs rowsOf namedRows
+unfolding noSpreads pairsListed spreadHeaderSound spreadsSound startRules eachStarts keyFrom keySound bodySound soundBy rowsStarted recordsCleared segmentsOf letterAt zeroAt countAt offsetAt contractsBefore segmentOf entrySound headerSoundBy gapsOf laid soundGapRow messageCompared meaningOf formOf letterOf segmentLetterOf secondOf lengthOf numberOf dataIn sumSent endByte formIn sumIn rightSum framed coded trailed summed headOf messageKey keyPlace actsAs contentsBy messageOf flagOf sizeOf countOf messageActs messagesAct batchActs rowsOf namedRows
 told = refl
 
 -- the history
@@ -78,7 +78,7 @@ reached = calls-reach lentFirst calls (record { starts = starts; past = pastOf n
 
 -- its past says of segment 0, which is listed for T: highest 4, missing 2 and 3, one run
 pub says : (segmentOf (now .lent .lists .contracts) 84 ≡ some 0) × (highestIn 0 1 (pastOf now) ≡ 4) × (those (missingIn 0 1 (pastOf now)) 5 ≡ 2 ∷ 3 ∷ []) × (runsStanding 0 1 (pastOf now) ≡ 1)
-unfolding noSpreads pairsListed spreadHeaderSound spreadsSound startRules eachStarts keyFrom keySound bodySound soundBy rowsStarted recordsCleared segmentsOf letterAt zeroAt countAt offsetAt contractsBefore segmentOf entrySound headerSoundBy gapsOf laid soundGapRow meaningOf formOf letterOf secondOf lengthOf numberOf dataIn sumSent endByte formIn sumIn rightSum framed coded trailed summed headOf messageKey keyPlace contentsBy messageOf flagOf sizeOf countOf messageActs messagesAct batchActs rowsOf namedRows
+unfolding noSpreads pairsListed spreadHeaderSound spreadsSound startRules eachStarts keyFrom keySound bodySound soundBy rowsStarted recordsCleared segmentsOf letterAt zeroAt countAt offsetAt contractsBefore segmentOf entrySound headerSoundBy gapsOf laid soundGapRow meaningOf formOf letterOf segmentLetterOf secondOf lengthOf numberOf dataIn sumSent endByte formIn sumIn rightSum framed coded trailed summed headOf messageKey keyPlace actsAs contentsBy messageOf flagOf sizeOf countOf messageActs messagesAct batchActs rowsOf namedRows
 says = (refl, refl, refl, refl)
 
 -- and so listing its gaps with two cells lent answers highest 4 and one run

@@ -1,11 +1,11 @@
 -- 01 "The contract list", worked: one T contract makes 49 bytes with offset 10; and lists that are not sound.
-use Prim.Native.Nat.{ℕ}
+use Prim.Native.Nat.{ℕ, _+_}
 use mathlib.Core.Path.{_≡_, refl}
 use mathlib.Core.Bool.{true, false}
-use mathlib.Core.List.{List, [], _∷_, _++_, map}
+use mathlib.Core.List.{List, [], _∷_, _++_, map, flatMap}
 use mathlib.Core.Option.{none, some}
 use lib.ListN.{length, replicate}
-use Rattle.files.specs.File.{segmentsOf, letterAt, zeroAt, countAt, offsetAt, keyFrom, contractsBefore}
+use Rattle.files.specs.File.{segmentsOf, entryAt, letterAt, zeroAt, countAt, offsetAt, keyFrom, contractsBefore}
 use Rattle.files.specs.Habits.{contracts}
 use Rattle.lookup.specs.Halving.{halvedIn, digits}
 use Rattle.lookup.specs.Lookup.{segmentOf, lookup, placeIn}
@@ -36,7 +36,7 @@ threeKeys = keyOfBytes 65 ++ keyOfBytes 32 ++ keyOfBytes 126
 abbrev pub lists : List (List ℕ)
 lists =
     oneT ∷ (oneT ++ (65 ∷ [])) ∷ [] ∷
-    twoOf 68 84 18 57 threeKeys ∷ twoOf 84 68 18 57 threeKeys ∷ twoOf 68 68 18 57 threeKeys ∷ twoOf 68 70 18 57 threeKeys ∷
+    twoOf 68 84 18 57 threeKeys ∷ twoOf 84 68 18 57 threeKeys ∷ twoOf 68 68 18 57 threeKeys ∷ twoOf 68 80 18 57 threeKeys ∷
     twoOf 68 84 18 58 threeKeys ∷ twoOf 68 84 19 58 threeKeys ∷
     twoOf 68 84 18 57 (keyOfBytes 65 ++ keyOfBytes 66 ++ keyOfBytes 66) ∷
     twoOf 68 84 18 57 (keyOfBytes 65 ++ keyOfBytes 31 ++ keyOfBytes 66) ∷
@@ -50,6 +50,26 @@ checked = refl
 pub header-checked : map headerSound lists ≡ true ∷ false ∷ false ∷ true ∷ false ∷ false ∷ false ∷ false ∷ false ∷ true ∷ true ∷ true ∷ []
 unfolding segmentsOf letterAt zeroAt countAt offsetAt contractsBefore entrySound headerSoundBy
 header-checked = refl
+
+-- 01 "The contract list": the entries of a segment for each of these letters, of one contract each; the first body begins at an offset
+abbrev entriesFrom : ℕ → List ℕ → List ℕ
+entriesFrom offset [] = []
+entriesFrom offset (letter ∷ letters) = entryOf letter 1 offset ++ entriesFrom (offset + contracts .key) letters
+
+-- 01 "The contract list": a segment of one contract for each of these letters, of which its key is made
+abbrev pub oneEach : List ℕ → List ℕ
+oneEach letters = 0 ∷ length letters ∷ entriesFrom (entryAt (length letters)) letters ++ flatMap keyOfBytes letters
+
+-- M-104: D, F and T; F alone, behind D, and before T
+pub letters-taken : map (λ letters. sound (oneEach letters)) ((68 ∷ 70 ∷ 84 ∷ []) ∷ (70 ∷ []) ∷ (68 ∷ 70 ∷ []) ∷ (70 ∷ 84 ∷ []) ∷ []) ≡ true ∷ true ∷ true ∷ true ∷ []
+unfolding segmentsOf letterAt zeroAt countAt offsetAt keyFrom contractsBefore entrySound headerSoundBy keySound bodySound soundBy flatMap
+letters-taken = refl
+
+-- M-104: F before D, F twice, D and P, P alone, and four segments: D, F, P and T; D, F, T and T
+pub letters-refused : map (λ letters. headerSound (oneEach letters)) ((70 ∷ 68 ∷ []) ∷ (70 ∷ 70 ∷ []) ∷ (68 ∷ 80 ∷ []) ∷ (80 ∷ []) ∷ (68 ∷ 70 ∷ 80 ∷ 84 ∷ []) ∷ (68 ∷ 70 ∷ 84 ∷ 84 ∷ []) ∷ [])
+    ≡ false ∷ false ∷ false ∷ false ∷ false ∷ false ∷ []
+unfolding segmentsOf letterAt zeroAt countAt offsetAt contractsBefore entrySound headerSoundBy flatMap
+letters-refused = refl
 
 pub size-of-one : (length oneT ≡ 49) × (offsetAt oneT 0 ≡ 10)
 unfolding offsetAt

@@ -14,10 +14,10 @@ use Rattle.lookup.specs.Lookup.{segmentOf, lookup}
 use Rattle.layout.specs.Read.{readRow}
 use Rattle.forms.specs.Sizes.{keyBytes, pairBytes}
 use Rattle.forms.specs.Forms.{namedRows, rowsOf, meaningOf, formOf}
-use Rattle.head.specs.Fields.{letterOf, secondOf, lengthOf, numberOf, dataOf, sumSent, endByte, formIn, sumIn, rightSum}
+use Rattle.head.specs.Fields.{letterOf, segmentLetterOf, secondOf, lengthOf, numberOf, dataOf, sumSent, endByte, formIn, sumIn, rightSum}
 use Rattle.head.specs.Rules.{headOf}
 use Rattle.head.specs.Tests.{framed, coded, trailed, summed}
-use Rattle.message.specs.Message.{messageKey, keyPlace}
+use Rattle.message.specs.Message.{messageKey, keyPlace, actsAs}
 use Rattle.message.specs.Reads.{contentsBy, messageOf}
 use Rattle.message.specs.Numbers.{whatNumbers}
 
@@ -33,6 +33,14 @@ D = 0x44
 abbrev pub T : ℕ
 T = 0x54
 
+-- M-104: the letter F
+abbrev pub F : ℕ
+F = 0x46
+
+-- M-104: the first byte of the codes of pre-open, which is no segment's letter
+abbrev pub P : ℕ
+P = 0x50
+
 -- 01 "Cases": a letter that is listed, the letter of the first message, and the bytes left
 pub record Given : Type 0 where
   pub listed : ℕ
@@ -47,11 +55,11 @@ given listed first bytes = record { listed = listed; first = first; bytes = byte
 abbrev pub short : ℕ → ℕ → List ℕ → ℕ → List ℕ
 short second number sum end = D ∷ second ∷ 0 ∷ 11 ∷ 0 ∷ 0 ∷ 0 ∷ number ∷ sum ++ (end ∷ [])
 
--- 01 "The message": an update with number 7: its length (2 bytes), a key of one byte throughout, its market type, blank rows
--- and its sum
-abbrev pub update : List ℕ → ℕ → ℕ → ℕ → List ℕ → List ℕ
-update long byte market blank sum =
-    D ∷ 0x4E ∷ long ++ (0 ∷ 0 ∷ 0 ∷ 7 ∷ replicate keyBytes byte) ++ (market ∷ replicate blank 32) ++ sum ++ (13 ∷ [])
+-- 01 "The message", M-104: an update of a contract: the first byte of its code, its length (2 bytes), its number below 256, a key of one
+-- byte throughout, its market type, the text of the rows behind it, blank rows and its sum
+abbrev pub update : ℕ → List ℕ → ℕ → ℕ → ℕ → String → ℕ → List ℕ → List ℕ
+update letter long number byte market text blank sum =
+    letter ∷ 0x4E ∷ long ++ (0 ∷ 0 ∷ 0 ∷ number ∷ replicate keyBytes byte) ++ (market ∷ codes text) ++ replicate blank 32 ++ sum ++ (13 ∷ [])
 
 -- 01, the table of refusals: what is answered in the paper's numbers, and the length
 abbrev pub answered : Given → List ℕ
@@ -75,10 +83,10 @@ messages =
     given D D (short 0x45 1 (0 ∷ 0 ∷ []) 13) ∷ given D D (short 0x45 1 (40 ∷ 161 ∷ []) 13) ∷
     given D D (short 0x45 1 (161 ∷ 40 ∷ []) 13) ∷ given D D (short 0x45 0 (0 ∷ 0 ∷ []) 13) ∷
     -- an update of level 1, and of level 2; of 248 bytes; with sum zero
-    given D D (update (0 ∷ 249 ∷ []) 65 0x4E 198 (91 ∷ 132 ∷ [])) ∷ given D D (update (1 ∷ 249 ∷ []) 65 0x4E 454 (102 ∷ 187 ∷ [])) ∷
-    given D D (update (0 ∷ 248 ∷ []) 65 0x4E 197 (0 ∷ 0 ∷ [])) ∷ given D D (update (0 ∷ 249 ∷ []) 65 0x4E 198 (0 ∷ 0 ∷ [])) ∷
+    given D D (update D (0 ∷ 249 ∷ []) 7 65 0x4E "" 198 (91 ∷ 132 ∷ [])) ∷ given D D (update D (1 ∷ 249 ∷ []) 7 65 0x4E "" 454 (102 ∷ 187 ∷ [])) ∷
+    given D D (update D (0 ∷ 248 ∷ []) 7 65 0x4E "" 197 (0 ∷ 0 ∷ [])) ∷ given D D (update D (0 ∷ 249 ∷ []) 7 65 0x4E "" 198 (0 ∷ 0 ∷ [])) ∷
     -- its key not listed; and its market type O too
-    given D D (update (0 ∷ 249 ∷ []) 66 0x4E 198 (97 ∷ 150 ∷ [])) ∷ given D D (update (0 ∷ 249 ∷ []) 66 0x4F 198 (205 ∷ 88 ∷ [])) ∷
+    given D D (update D (0 ∷ 249 ∷ []) 7 66 0x4E "" 198 (97 ∷ 150 ∷ [])) ∷ given D D (update D (0 ∷ 249 ∷ []) 7 66 0x4F "" 198 (205 ∷ 88 ∷ [])) ∷
     []
 
 -- 01, the table of refusals: what is answered to each, and its length
@@ -93,7 +101,7 @@ answers =
     []
 
 pub messages-answered : map answered messages ≡ answers
-unfolding bitStep byteStep step walk readAs segmentsOf letterAt countAt offsetAt keyFrom halvedIn segmentOf lookup readRow namedRows rowsOf meaningOf formOf letterOf secondOf lengthOf numberOf dataOf sumSent endByte formIn sumIn rightSum framed coded trailed summed headOf messageKey keyPlace contentsBy messageOf
+unfolding bitStep byteStep step walk readAs segmentsOf letterAt countAt offsetAt keyFrom halvedIn segmentOf lookup readRow namedRows rowsOf meaningOf formOf letterOf segmentLetterOf secondOf lengthOf numberOf dataOf sumSent endByte formIn sumIn rightSum framed coded trailed summed headOf messageKey keyPlace actsAs contentsBy messageOf
 messages-answered = refl
 
 -- ---- zero for the sum
@@ -108,7 +116,7 @@ zeroAnswers =
     9 ∷ 9 ∷ 0 ∷ 9 ∷ 0 ∷ 9 ∷ 9 ∷ 10 ∷ 9 ∷ 9 ∷ 9 ∷ 9 ∷ 9 ∷ 8 ∷ 0 ∷ 8 ∷ 9 ∷ 9 ∷ 9 ∷ 9 ∷ 9 ∷ 9 ∷ 9 ∷ 9 ∷ 9 ∷ 9 ∷ []
 
 pub zeros-answered : map (λ letter. map (λ bytes. getD (answered (given letter letter bytes)) 0 0) (zeroSummed letter)) (D ∷ T ∷ []) ≡ zeroAnswers ∷ zeroAnswers ∷ []
-unfolding bitStep byteStep step walk readAs segmentsOf letterAt countAt offsetAt keyFrom halvedIn segmentOf lookup readRow namedRows rowsOf meaningOf formOf letterOf secondOf lengthOf numberOf dataOf sumSent endByte formIn sumIn rightSum framed coded trailed summed headOf messageKey keyPlace contentsBy messageOf
+unfolding bitStep byteStep step walk readAs segmentsOf letterAt countAt offsetAt keyFrom halvedIn segmentOf lookup readRow namedRows rowsOf meaningOf formOf letterOf segmentLetterOf secondOf lengthOf numberOf dataOf sumSent endByte formIn sumIn rightSum framed coded trailed summed headOf messageKey keyPlace actsAs contentsBy messageOf
 zeros-answered = refl
 
 -- ---- pairs
@@ -133,7 +141,7 @@ pairMessages =
     pairUpdate (0 ∷ 227 ∷ []) 65 "              - 5" 121 (70 ∷ 205 ∷ []) ∷
     pairUpdate (0 ∷ 227 ∷ []) 65 "    -100000000000" 121 (165 ∷ 231 ∷ []) ∷
     pairUpdate (0 ∷ 227 ∷ []) 66 "" 138 (60 ∷ 6 ∷ []) ∷
-    (D ∷ 0x4E ∷ 0 ∷ 249 ∷ 0 ∷ 0 ∷ 0 ∷ 7 ∷ replicate keyBytes 65 ++ (0x4E ∷ codes "               -5") ++ replicate 181 32 ++ (114 ∷ 110 ∷ 13 ∷ [])) ∷
+    update D (0 ∷ 249 ∷ []) 7 65 0x4E "               -5" 181 (114 ∷ 110 ∷ []) ∷
     []
 
 -- M-100, the table of refusals: what is answered to each
@@ -142,5 +150,47 @@ pairAnswers =
     (0 ∷ 7 ∷ 1 ∷ 0 ∷ []) ∷ (0 ∷ 7 ∷ 2 ∷ 0 ∷ []) ∷ (8 ∷ []) ∷ (9 ∷ []) ∷ (0 ∷ 7 ∷ 1 ∷ 0 ∷ []) ∷ (11 ∷ 10 ∷ []) ∷ (12 ∷ 10 ∷ []) ∷ (13 ∷ []) ∷ (11 ∷ 6 ∷ []) ∷ []
 
 pub pairs-answered : map (λ bytes. whatNumbers (messageOf (lists (listOf D) pairList) D bytes .what)) pairMessages ≡ pairAnswers
-unfolding bitStep byteStep step walk readAs segmentsOf letterAt countAt offsetAt keyFrom halvedIn segmentOf lookup readRow namedRows rowsOf meaningOf formOf letterOf secondOf lengthOf numberOf dataOf sumSent endByte formIn sumIn rightSum framed coded trailed summed headOf messageKey keyPlace contentsBy messageOf
+unfolding bitStep byteStep step walk readAs segmentsOf letterAt countAt offsetAt keyFrom halvedIn segmentOf lookup readRow namedRows rowsOf meaningOf formOf letterOf segmentLetterOf secondOf lengthOf numberOf dataOf sumSent endByte formIn sumIn rightSum framed coded trailed summed headOf messageKey keyPlace actsAs contentsBy messageOf
 pairs-answered = refl
+
+-- ---- futures and options
+
+-- M-104: in a batch of F: FN, PN, and FN of level 2; 004's older FN of 193 bytes; market type X; a time stamp with a point; a key that
+-- isn't listed, with market type N, O, S and A
+abbrev pub futures : List (List ℕ)
+futures =
+    update F (0 ∷ 204 ∷ []) 7 65 0x4E " 1700000000     86.25" 132 (236 ∷ 167 ∷ []) ∷
+    update P (0 ∷ 204 ∷ []) 7 65 0x4E " 1700000000     86.25" 132 (23 ∷ 98 ∷ []) ∷
+    update F (1 ∷ 148 ∷ []) 7 65 0x4E "" 353 (35 ∷ 102 ∷ []) ∷ update F (0 ∷ 193 ∷ []) 7 65 0x4E "" 142 (0 ∷ 0 ∷ []) ∷
+    update F (0 ∷ 204 ∷ []) 7 65 0x58 "" 153 (67 ∷ 224 ∷ []) ∷ update F (0 ∷ 204 ∷ []) 7 65 0x4E "170000000.5" 142 (207 ∷ 95 ∷ []) ∷
+    update F (0 ∷ 204 ∷ []) 7 66 0x4E "" 153 (110 ∷ 53 ∷ []) ∷ update F (0 ∷ 204 ∷ []) 7 66 0x4F "" 153 (197 ∷ 150 ∷ []) ∷
+    update P (0 ∷ 204 ∷ []) 7 66 0x53 "" 153 (215 ∷ 43 ∷ []) ∷ update F (0 ∷ 204 ∷ []) 7 66 0x41 "" 153 (161 ∷ 34 ∷ []) ∷ []
+
+-- M-104, the table of refusals: what is answered to each, and its length; what is passed over has its number alone
+abbrev pub futureAnswers : List (List ℕ)
+futureAnswers =
+    (0 ∷ 7 ∷ 1 ∷ 0 ∷ 204 ∷ []) ∷ (0 ∷ 7 ∷ 1 ∷ 0 ∷ 204 ∷ []) ∷ (0 ∷ 7 ∷ 2 ∷ 0 ∷ 404 ∷ []) ∷ (8 ∷ 193 ∷ []) ∷ (11 ∷ 5 ∷ 204 ∷ []) ∷ (11 ∷ 6 ∷ 204 ∷ []) ∷
+    (13 ∷ 204 ∷ []) ∷ (0 ∷ 7 ∷ 204 ∷ []) ∷ (0 ∷ 7 ∷ 204 ∷ []) ∷ (0 ∷ 7 ∷ 204 ∷ []) ∷ []
+
+pub futures-answered : map (λ bytes. answered (given F F bytes)) futures ≡ futureAnswers
+unfolding bitStep byteStep step walk readAs segmentsOf letterAt countAt offsetAt keyFrom halvedIn segmentOf lookup readRow namedRows rowsOf meaningOf formOf letterOf segmentLetterOf secondOf lengthOf numberOf dataOf sumSent endByte formIn sumIn rightSum framed coded trailed summed headOf messageKey keyPlace actsAs contentsBy messageOf
+futures-answered = refl
+
+-- M-101, M-104: zero for the sum in a batch of F: C, E, O and Z are good; FP has its sum, as every other code that is passed over
+abbrev pub futureZeros : List ℕ
+futureZeros =
+    9 ∷ 9 ∷ 0 ∷ 9 ∷ 0 ∷ 9 ∷ 9 ∷ 10 ∷ 9 ∷ 9 ∷ 9 ∷ 9 ∷ 9 ∷ 8 ∷ 0 ∷ 9 ∷ 9 ∷ 9 ∷ 9 ∷ 9 ∷ 9 ∷ 9 ∷ 9 ∷ 9 ∷ 9 ∷ 0 ∷ []
+
+-- M-104: and of the P codes: PC and PO are good, PN has no such length, and every other is none that 002 prints
+abbrev pub preOpenZeros : List ℕ
+preOpenZeros =
+    6 ∷ 6 ∷ 0 ∷ 6 ∷ 6 ∷ 6 ∷ 6 ∷ 6 ∷ 6 ∷ 6 ∷ 6 ∷ 6 ∷ 6 ∷ 8 ∷ 0 ∷ 6 ∷ 6 ∷ 6 ∷ 6 ∷ 6 ∷ 6 ∷ 6 ∷ 6 ∷ 6 ∷ 6 ∷ 6 ∷ []
+
+pub future-zeros-answered : map (λ letter. map (λ bytes. getD (answered (given F F bytes)) 0 0) (zeroSummed letter)) (F ∷ P ∷ []) ≡ futureZeros ∷ preOpenZeros ∷ []
+unfolding bitStep byteStep step walk readAs segmentsOf letterAt countAt offsetAt keyFrom halvedIn segmentOf lookup readRow namedRows rowsOf meaningOf formOf letterOf segmentLetterOf secondOf lengthOf numberOf dataOf sumSent endByte formIn sumIn rightSum framed coded trailed summed headOf messageKey keyPlace actsAs contentsBy messageOf
+future-zeros-answered = refl
+
+-- M-104: no P code is admitted where F isn't listed, nor in a batch of D
+pub pre-open-refused : map (λ given′. map (λ bytes. getD (answered (given′ bytes)) 0 0) (zeroSummed P)) (given D F ∷ given D D ∷ []) ≡ replicate 26 6 ∷ replicate 26 6 ∷ []
+unfolding bitStep byteStep step walk readAs segmentsOf letterAt countAt offsetAt keyFrom halvedIn segmentOf lookup readRow namedRows rowsOf meaningOf formOf letterOf segmentLetterOf secondOf lengthOf numberOf dataOf sumSent endByte formIn sumIn rightSum framed coded trailed summed headOf messageKey keyPlace actsAs contentsBy messageOf
+pre-open-refused = refl

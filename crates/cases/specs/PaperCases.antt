@@ -30,11 +30,11 @@ use Rattle.forms.specs.declared.forms.Item.the-variants.{Contract, Pair}
 use Rattle.sequence.specs.Row.{gapsOf}
 use Rattle.sequence.specs.RowLaid.{laid, soundGapRow}
 use Rattle.forms.specs.Forms.{namedRows, rowsOf, meaningOf, formOf, writtenForm}
-use Rattle.head.specs.Fields.{letterOf, secondOf, lengthOf, numberOf, sumSent, endByte, formIn, sumIn, rightSum, dataOf as dataIn}
+use Rattle.head.specs.Fields.{letterOf, segmentLetterOf, secondOf, lengthOf, numberOf, sumSent, endByte, formIn, sumIn, rightSum, dataOf as dataIn}
 use Rattle.head.specs.Rules.{headOf}
 use Rattle.head.specs.Tests.{framed, coded, trailed, summed}
 use Rattle.message.specs.Compared.{messageCompared}
-use Rattle.message.specs.Message.{messageKey, keyPlace}
+use Rattle.message.specs.Message.{messageKey, keyPlace, actsAs}
 use Rattle.message.specs.Reads.{contentsBy, messageOf}
 use Rattle.turns.specs.Turns.{messageActs, messagesAct}
 use Rattle.batch.specs.Batch.{flagOf, sizeOf, countOf}
@@ -84,7 +84,7 @@ starts = 1 ∷ 1 ∷ []
 
 -- lent memory: so many cells for gap rows, and records for three contracts, with no lists yet
 abbrev lentFirst : ℕ → Lent
-lentFirst cells = lends (record { contracts = []; pairs = [] }) (replicate cells 0) (replicate 144 0)
+lentFirst cells = lends (record { contracts = []; pairs = [] }) (replicate cells 0) (replicate 156 0)
 
 -- 01 "Cases": the box after its start: 264 cells are gap rows for two segments
 abbrev pub started : BoxNow
@@ -255,7 +255,7 @@ unfoldable pub sayings : List Case → List (List ℕ)
 sayings = map (λ (c : Case). c .says)
 
 pub P1-to-P14 : answered cases ≡ sayings cases
-unfolding noSpreads pairsListed spreadHeaderSound spreadsSound cases answered sayings bitStep byteStep step walk readAs segmentsOf letterAt zeroAt countAt offsetAt contractsBefore segmentOf entrySound headerSoundBy gapsOf laid soundGapRow messageCompared meaningOf formOf writtenForm letterOf secondOf lengthOf numberOf dataIn sumSent endByte formIn sumIn rightSum framed coded trailed summed headOf messageKey keyPlace contentsBy messageOf flagOf sizeOf countOf messageActs messagesAct batchActs gapsOfLetter listRules runsPut writeOffRules lentWrittenOff rowsStarted recordsCleared segmentRules writeRules lengthWritten dataWritten rowText quoteOf valuesOf textOf size sizeIn startRules eachStarts keyFrom keySound bodySound soundBy rowsOf namedRows
+unfolding noSpreads pairsListed spreadHeaderSound spreadsSound cases answered sayings bitStep byteStep step walk readAs segmentsOf letterAt zeroAt countAt offsetAt contractsBefore segmentOf entrySound headerSoundBy gapsOf laid soundGapRow messageCompared meaningOf formOf writtenForm letterOf segmentLetterOf secondOf lengthOf numberOf dataIn sumSent endByte formIn sumIn rightSum framed coded trailed summed headOf messageKey keyPlace actsAs contentsBy messageOf flagOf sizeOf countOf messageActs messagesAct batchActs gapsOfLetter listRules runsPut writeOffRules lentWrittenOff rowsStarted recordsCleared segmentRules writeRules lengthWritten dataWritten rowText quoteOf valuesOf textOf size sizeIn startRules eachStarts keyFrom keySound bodySound soundBy rowsOf namedRows
 P1-to-P14 = refl
 
 -- ---- the table of refusals, where P1 to P14 are silent
@@ -320,5 +320,5 @@ refusals =
     ∷ []
 
 pub refusals-told : answered refusals ≡ sayings refusals
-unfolding noSpreads pairsListed spreadHeaderSound spreadsSound refusals answered sayings bitStep byteStep step walk readAs segmentsOf letterAt zeroAt countAt offsetAt keyFrom contractsBefore segmentOf lookup halvedIn entrySound headerSoundBy keySound bodySound soundBy gapsOf laid soundGapRow messageCompared meaningOf formOf writtenForm letterOf secondOf lengthOf numberOf dataIn sumSent endByte formIn sumIn rightSum framed coded trailed summed headOf messageKey keyPlace contentsBy messageOf flagOf sizeOf countOf messageActs messagesAct batchActs gapsOfLetter listRules runsPut writeOffRules recordRules startRules eachStarts rowsStarted recordsCleared segmentRules messageBytes readRow rowsOf namedRows
+unfolding noSpreads pairsListed spreadHeaderSound spreadsSound refusals answered sayings bitStep byteStep step walk readAs segmentsOf letterAt zeroAt countAt offsetAt keyFrom contractsBefore segmentOf lookup halvedIn entrySound headerSoundBy keySound bodySound soundBy gapsOf laid soundGapRow messageCompared meaningOf formOf writtenForm letterOf segmentLetterOf secondOf lengthOf numberOf dataIn sumSent endByte formIn sumIn rightSum framed coded trailed summed headOf messageKey keyPlace actsAs contentsBy messageOf flagOf sizeOf countOf messageActs messagesAct batchActs gapsOfLetter listRules runsPut writeOffRules recordRules startRules eachStarts rowsStarted recordsCleared segmentRules messageBytes readRow rowsOf namedRows
 refusals-told = refl

@@ -2,9 +2,9 @@
 use Prim.Native.Nat.{ℕ}
 use mathlib.Core.Path.{_≡_, refl}
 use mathlib.Core.Bool.{true, false}
-use mathlib.Core.List.{List, [], _∷_, _++_, map}
+use mathlib.Core.List.{List, [], _∷_, _++_, map, flatMap}
 use lib.ListN.{length}
-use Rattle.cases.specs.ListCases.{keyOfBytes, entryOf, oneT, twoOf, threeKeys}
+use Rattle.cases.specs.ListCases.{keyOfBytes, entryOf, oneT, oneEach, twoOf, threeKeys}
 use Rattle.files.specs.File.{segmentsOf, letterAt, zeroAt, countAt, offsetAt, keyFrom, contractsBefore}
 use Rattle.pairs.specs.Habits.{pairs}
 use Rattle.lookup.specs.Halving.{halvedIn}
@@ -51,9 +51,18 @@ pub other-segments : map (λ list. spreadHeaderSound list (noSpreads oneT)) (one
 unfolding segmentsOf letterAt zeroAt countAt offsetAt contractsBefore noSpreads entrySound headerSoundBy spreadHeaderSound
 other-segments = refl
 
--- no spreads is 10 bytes for one segment, 18 for two
-pub no-spreads-sizes : map (λ list. length (noSpreads list)) (oneT ∷ contractList ∷ []) ≡ 10 ∷ 18 ∷ []
-unfolding segmentsOf letterAt noSpreads
+-- M-104: a contract list of the segments D, F and T
+abbrev threeSegments : List ℕ
+threeSegments = oneEach (68 ∷ 70 ∷ 84 ∷ [])
+
+-- M-104: beside it no pairs, and a pair of F; the letters F and T exchanged
+pub three-checked : map (spreadsSound threeSegments) (noSpreads threeSegments ∷ (0 ∷ 3 ∷ entryOf 68 0 26 ++ entryOf 70 1 26 ++ entryOf 84 0 104 ++ pairOf 70 70) ∷ noSpreads (oneEach (68 ∷ 84 ∷ 70 ∷ [])) ∷ []) ≡ true ∷ true ∷ false ∷ []
+unfolding segmentsOf letterAt zeroAt countAt offsetAt keyFrom contractsBefore halvedIn lookup noSpreads entrySound headerSoundBy keySound bodySound pairsListed spreadHeaderSound spreadsSound flatMap
+three-checked = refl
+
+-- no spreads is 10 bytes for one segment, 18 for two, 26 for three
+pub no-spreads-sizes : map (λ list. length (noSpreads list)) (oneT ∷ contractList ∷ threeSegments ∷ []) ≡ 10 ∷ 18 ∷ 26 ∷ []
+unfolding segmentsOf letterAt noSpreads flatMap
 no-spreads-sizes = refl
 
 -- the entry of one segment, with a count of 0, 1,024 and 1,025 pairs

@@ -60,12 +60,9 @@ pub fn room_in(bytes: &[u8], item: Item) -> usize {
 // The rows of a message to write behind its key, a value each.
 fn values_in(bytes: &[u8], item: Item, level: Level) -> [u64; values::MOST] {
     let mut told = [0u64; values::MOST];
-    let end = values::FIRST + length::rows_at(item, level);
-    console::u64s_at(
-        bytes,
-        length::write_front(item),
-        &mut told[values::FIRST..end],
-    );
+    let first = slots::cells_in_front(item);
+    let end = first + length::rows_at(item, level);
+    console::u64s_at(bytes, length::write_front(item), &mut told[first..end]);
     told
 }
 

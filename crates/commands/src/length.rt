@@ -1,6 +1,6 @@
 // How long a command is, by the bytes at its front.
-ghost use Prim.Native.Nat.{_-_, _≤_};
-ghost use Rattle.forms.specs.Sizes.{mostRows, keyRowCount};
+ghost use Prim.Native.Nat.{_+_, _≤_};
+ghost use Rattle.values.specs.Values.{first, most};
 use layout::Item;
 use layout::KEY_BYTES;
 use layout::Level;
@@ -49,14 +49,14 @@ pub fn front_of(command: u8) -> usize {
 
 // The rows of an update behind the key.
 pub fn rows_at(item: Item, level: Level) -> usize
-    ensures { λ r. ⌜ r ≤ mostRows - keyRowCount ⌝ }
+    ensures { λ r. ⌜ first item + r ≤ most ⌝ }
 {
     slots::record_rows(item, level)
 }
 
 // The same by a level's byte; 0 where there is no such level.
 fn rows_of(item: Item, level: u8) -> usize
-    ensures { λ r. ⌜ r ≤ mostRows - keyRowCount ⌝ }
+    ensures { λ r. ⌜ r ≤ most ⌝ }
 {
     match level {
         b'1' => rows_at(item, Level::One),

@@ -63,7 +63,7 @@ number-back kind small width (Below n) may {t} e =
 row-back : (row : Row) (key : List ℕ) (value : ℕ) {t : List ℕ} → rowText row key value ≡ text t → readRow row t ≡ Cell (seenValue row value)
 unfolding rowText readRow
 row-back (Key width) key value e = refl
-row-back MarketType key value e = letter-back isMarketType market-small value e
+row-back (MarketType markets) key value e = letter-back (isMarketType markets) (market-small markets) value e
 row-back Status key value e = letter-back isStatus status-small value e
 row-back (Price width) key value e = number-back price (lit< tt) width (heldOf false value) (holds-so false value) e ∙ ap Cell (value-back value)
 row-back (Quantity width) key value e = number-back quantity (lit< tt) width (heldOf false value) (holds-so false value) e ∙ ap Cell (value-back value)
@@ -116,7 +116,7 @@ key-in-front i (Key width ∷ rows) key values good =
       may-be-written = rw (take-add width n key) (printable-append (take width key) (take n (drop width key)) (k .1) (later .may-be-written));
       stands = rw (g .bytes-are, k .2, front, later .stands) (sym (take-add width n key));
     }
-key-in-front i (MarketType ∷ rows) key values good = no-key key _
+key-in-front i (MarketType markets ∷ rows) key values good = no-key key _
 key-in-front i (Status ∷ rows) key values good = no-key key _
 key-in-front i (Price width ∷ rows) key values good = no-key key _
 key-in-front i (Quantity width ∷ rows) key values good = no-key key _

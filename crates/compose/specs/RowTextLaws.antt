@@ -9,11 +9,15 @@ use lib.Dec.{leb, eqb}
 use lib.ListN.{length, take, length-replicate}
 use lib.Seq.{length-take-le}
 use Rattle.laws.specs.Order.{same}
+use Rattle.laws.specs.Tests.{eqb-is, or-is}
+use mathlib.Core.Logic.{⊎-elim}
 use Rattle.decimal.specs.Denotes.{space}
 use Rattle.print.specs.Write.{Written, filled, refused, blankText}
 use Rattle.print.specs.WriteLaws.{fills-right}
 use Rattle.layout.specs.declared.cells.Held.{Held}
 use Rattle.layout.specs.declared.cells.Held.the-variants.{Nothing, Units, Below}
+use Rattle.forms.specs.declared.rows.Markets.{Markets}
+use Rattle.forms.specs.declared.rows.Markets.the-variants.{Normal, Any}
 use Rattle.forms.specs.declared.rows.Row.{Row}
 use Rattle.forms.specs.declared.rows.Row.the-variants.{Key, MarketType, Status, Price, Quantity, Turnover, Difference}
 use Rattle.decimal.specs.declared.Kind.{Kind}
@@ -28,8 +32,11 @@ use Rattle.compose.specs.Write.{RowText, text, malformed, rowText, keyTe
 use Rattle.wire.specs.Bytes.{allPrintable}
 
 -- the letters that the rows take are bytes
-pub market-small : (byte : ℕ) → isMarketType byte ≡ true → byte < 256
-market-small byte e = omega (arith, eqb-true byte 78 e)
+pub market-small : (markets : Markets) (byte : ℕ) → isMarketType markets byte ≡ true → byte < 256
+market-small Normal byte e = omega (arith, eqb-true byte 78 e)
+market-small Any byte e =
+    ⊎-elim (λ n. omega arith) (⊎-elim (λ o. omega arith) (⊎-elim (λ s. omega arith) (λ a. omega arith)))
+    (or-is (eqb-is byte 78) (or-is (eqb-is byte 79) (or-is (eqb-is byte 83) (eqb-is byte 65))) .0 e)
 
 pub status-small : (byte : ℕ) → isStatus byte ≡ true → byte < 256
 status-small byte e = go (eqb byte 83) refl e
@@ -75,7 +82,7 @@ unfolding rowText
 text-width (Key width) key value e =
     let k = key-is width key e in
     rw (k .2) (length-take-le width key (k .0))
-text-width MarketType key value e = ap length (letter-is isMarketType value e .1)
+text-width (MarketType markets) key value e = ap length (letter-is (isMarketType markets) value e .1)
 text-width Status key value e = ap length (letter-is isStatus value e .1)
 text-width (Price width) key value e = number-width price width (heldOf false value) e
 text-width (Quantity width) key value e = number-width quantity width (heldOf false value) e
@@ -102,7 +109,7 @@ letter-held taken small value e h =
 pub text-held : (row : Row) (key : List ℕ) (value : ℕ) {t : List ℕ} → rowText row key value ≡ text t → seenValue row value ≡ noRoom → ⊥
 unfolding rowText
 text-held (Key width) key value e h = omega arith
-text-held MarketType key value e h = letter-held isMarketType market-small value e h
+text-held (MarketType markets) key value e h = letter-held (isMarketType markets) (market-small markets) value e h
 text-held Status key value e h = letter-held isStatus status-small value e h
 text-held (Price width) key value e h = number-held price width (heldOf false value) (omega arith) e (value-back value ∙ h)
 text-held (Quantity width) key value e h = number-held quantity width (heldOf false value) (omega arith) e (value-back value ∙ h)

@@ -52,7 +52,7 @@ heldText kind width (Below n) = ofWritten (writtenAs kind width true n)
 -- 01 "The message": the text of one row: from what is left of the key, or from the row's value
 unfoldable pub rowText : Row → List ℕ → ℕ → RowText
 rowText (Key width) key value = keyText width key
-rowText MarketType key value = letterText isMarketType value
+rowText (MarketType markets) key value = letterText (isMarketType markets) value
 rowText Status key value = letterText isStatus value
 rowText (Price width) key value = heldText price width (heldOf false value)
 rowText (Quantity width) key value = heldText quantity width (heldOf false value)

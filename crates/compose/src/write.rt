@@ -19,6 +19,7 @@ use amount::Turnover;
 use forms::Form;
 use forms::MOST_DATA;
 use forms::MOST_ROWS;
+use forms::Markets;
 use forms::Row;
 use layout::Held;
 use layout::Verdict;
@@ -87,12 +88,12 @@ fn of_put(put: Put) -> RowPut
     }
 }
 
-fn put_market_type(value: u64, field: &mut [u8]) -> RowPut
+fn put_market_type(markets: Markets, value: u64, field: &mut [u8]) -> RowPut
     requires { ⌜ length (now field) ≡ 1 ⌝ }
-    ensures { λ r. ⌜ PutsRow (letterText isMarketType value) (now (field .entry)) r (now (field .exit)) ⌝ }
+    ensures { λ r. ⌜ PutsRow (letterText (isMarketType markets) value) (now (field .entry)) r (now (field .exit)) ⌝ }
 {
-    if value == b'N' as u64 {
-        return put_letter(b'N', field);
+    if layout::is_market(markets, value) {
+        return put_letter(value as u8, field);
     }
     RowPut::Field
 }
@@ -128,7 +129,7 @@ fn put_row(row: Row, key: &[u8], value: u64, field: &mut [u8]) -> RowPut
 {
     match row {
         Row::Key(_) => put_key(key, field),
-        Row::MarketType => put_market_type(value, field),
+        Row::MarketType(markets) => put_market_type(markets, value, field),
         Row::Status => put_status(value, field),
         Row::Price(_) => put_number(layout::held_of(false, value), Price::KIND, field),
         Row::Quantity(_) => put_number(layout::held_of(false, value), Quantity::KIND, field),
@@ -143,7 +144,7 @@ fn key_used(row: Row) -> usize
 {
     match row {
         Row::Key(width) => width,
-        Row::MarketType => 0,
+        Row::MarketType(_) => 0,
         Row::Status => 0,
         Row::Price(_) => 0,
         Row::Quantity(_) => 0,

@@ -12,8 +12,6 @@ pub use file::MOST_LIST;
 pub use file::read_contracts;
 pub use input::Desk;
 pub use input::fill;
-pub use memory::RECORD_CELLS;
-pub use memory::ROW_CELLS;
 pub use memory::RUN_CELLS;
 pub use numbers::bytes_at;
 pub use numbers::least;

@@ -1,7 +1,7 @@
 -- Laws of the header: its test says exactly what the rules say, what follows from them, and that bodies aren't looked at.
 use Prim.Native.Nat.{ℕ, zero, suc, _+_, _-_, _*_, _≤_, _<_}
 use mathlib.Core.Path.{_≡_, refl, ap, sym, _∙_}
-use mathlib.Core.Logic.{_⊎_, _↔_, inl, inr, ⊎-elim}
+use mathlib.Core.Logic.{_↔_, ⊎-elim}
 use mathlib.Core.Bool.{Bool, true, _&&_}
 use mathlib.Core.List.{List}
 use native.Mathlib.Nat.{mul-zero, mul-add, mul-one, mul-le-mul-left, mul-le-mul-right}
@@ -11,13 +11,13 @@ use borrow.Author.Tests.{ltb-true, leb-true, eqb-true, lt-ltb, le-leb, eq-eqb}
 use lib.Dec.{leb, ltb, eqb}
 use lib.ListN.{length}
 use Rattle.laws.specs.Order.{three, climbs}
-use Rattle.laws.specs.Tests.{both, conj, any}
+use Rattle.laws.specs.Tests.{both, conj, eqb-is, or-assoc, or-is}
 use Rattle.files.specs.declared.habit.Habit.{Habit}
 use Rattle.files.specs.Below.{allBelow}
 use Rattle.files.specs.BelowLaws.{each-passes, all-pass, sum-under}
 use Rattle.files.specs.File.{segmentsOf, letterAt, zeroAt, countAt, offsetAt, entryAt, keyAt, keyBy, contractsBefore, contractsOf}
 use Rattle.files.specs.FileLaws.{none-before, before-sum, before-next, before-reaches, whole-key}
-use Rattle.contracts.specs.Sound.{HeaderBy, mostSegments, letterD, letterT}
+use Rattle.contracts.specs.Sound.{HeaderBy, Letter, mostSegments, letterD, letterF, letterT}
 use Rattle.contracts.specs.SoundTests.{within, isLetter, letterAscends, bodyAt, entrySound, headerSoundBy}
 
 pub within-facts : (low high n : ℕ) → within low high n ≡ true → (low ≤ n) × (n ≤ high)
@@ -28,9 +28,14 @@ within-facts low high n e =
 pub within-holds : (low high n : ℕ) → low ≤ n → n ≤ high → within low high n ≡ true
 within-holds low high n h k = conj (leb low n) (leb n high) (le-leb low n h) (le-leb n high k)
 
+-- the test of a letter says what a letter is
+letter-exact : (letter : ℕ) → isLetter letter ≡ true ↔ Letter letter
+letter-exact letter =
+    rw (or-assoc (eqb letter letterD) (eqb letter letterF) (eqb letter letterT)) (or-is (eqb-is letter letterD) (or-is (eqb-is letter letterF) (eqb-is letter letterT)))
+
 -- what the test of an entry tells
 record EntryFacts (habit : Habit) (list : List ℕ) (i : ℕ) : Type 0 where
-  letter : (letterAt list i ≡ letterD) ⊎ (letterAt list i ≡ letterT)
+  letter : Letter (letterAt list i)
   ascends : letterAscends list i ≡ true
   zero-byte : zeroAt list i ≡ 0
   counts : (habit .fewest ≤ countAt list i) × (countAt list i ≤ habit .most)
@@ -52,9 +57,7 @@ module _ (habit : Habit) (list : List ℕ) where
       let h₂ = both (t₁ && t₂) t₃ (h₃ .0) in
       let h₁ = both t₁ t₂ (h₂ .0) in
       record {
-        letter =
-            ⊎-elim (λ h. inl (eqb-true (letterAt list i) letterD h)) (λ h. inr (eqb-true (letterAt list i) letterT h))
-            (any (eqb (letterAt list i) letterD) (eqb (letterAt list i) letterT) (h₁ .0));
+        letter = letter-exact (letterAt list i) .0 (h₁ .0);
         ascends = h₁ .1;
         zero-byte = eqb-true (zeroAt list i) 0 (h₂ .1);
         counts = within-facts (habit .fewest) (habit .most) (countAt list i) (h₃ .1);
@@ -64,7 +67,7 @@ module _ (habit : Habit) (list : List ℕ) where
   entry-holds : (i : ℕ) → EntryFacts habit list i → entrySound habit list i ≡ true
   unfolding entrySound
   entry-holds i h =
-      let letter : isLetter (letterAt list i) ≡ true = ⊎-elim (λ e. rw e) (λ e. rw e) (h .letter) in
+      let letter = letter-exact (letterAt list i) .1 (h .letter) in
       let counts = within-holds (habit .fewest) (habit .most) (countAt list i) (h .counts .0) (h .counts .1) in
       rw (letter, h .ascends, eq-eqb (zeroAt list i) 0 (h .zero-byte), counts, eq-eqb (offsetAt list i) (bodyAt habit list i) (h .offset))
 

@@ -11,24 +11,32 @@ use Rattle.files.specs.File.{segmentsOf, entryAt, letterAt, zeroAt, countAt, of
 use Rattle.files.specs.Habits.{contracts}
 use Rattle.files.specs.Keys.{orderOf}
 
--- 01 "The contract list": 1 or 2 segments
+-- 01 "The contract list", M-104: 1 to 3 segments
 abbrev pub mostSegments : ℕ
-mostSegments = 2
+mostSegments = 3
 
--- 01 "The contract list": letters are D or T
+-- 01 "The contract list", M-104: letters are D, F or T
 abbrev pub letterD : ℕ
 letterD = 68
 
--- 01 "The contract list": letters are D or T
+-- 01 "The contract list", M-104: letters are D, F or T
+abbrev pub letterF : ℕ
+letterF = 70
+
+-- 01 "The contract list", M-104: letters are D, F or T
 abbrev pub letterT : ℕ
 letterT = 84
+
+-- 01 "The contract list", M-104: what may be a segment's letter
+abbrev pub Letter : ℕ → Type 0
+Letter letter = (letter ≡ letterD) ⊎ (letter ≡ letterF) ⊎ (letter ≡ letterT)
 
 -- 01, the table's row 16: the short check of the calls after start: the rules for all that stands before the bodies, and for
 -- the size
 pub record HeaderBy (habit : Habit) (list : List ℕ) : Type 0 where
   pub some-segments : 1 ≤ segmentsOf list
   pub few-segments : segmentsOf list ≤ mostSegments
-  pub letters : (i : ℕ) → i < segmentsOf list → (letterAt list i ≡ letterD) ⊎ (letterAt list i ≡ letterT)
+  pub letters : (i : ℕ) → i < segmentsOf list → Letter (letterAt list i)
   pub letters-ascend : (i : ℕ) → i + 1 < segmentsOf list → letterAt list i < letterAt list (i + 1)
   pub zero-bytes : (i : ℕ) → i < segmentsOf list → zeroAt list i ≡ 0
   -- how many keys a segment may have

@@ -13,15 +13,15 @@ use Rattle.files.specs.Below.{allBelow}
 use Rattle.files.specs.File.{segmentsOf, entryAt, letterAt, zeroAt, countAt, offsetAt, keyBy, contractsBefore}
 use Rattle.files.specs.Habits.{contracts}
 use Rattle.files.specs.Keys.{orderOf}
-use Rattle.contracts.specs.Sound.{letterD, letterT, mostSegments}
+use Rattle.contracts.specs.Sound.{letterD, letterF, letterT, mostSegments}
 
 -- a word of our own: n is not under `low` and not above `high`
 abbrev pub within : ℕ → ℕ → ℕ → Bool
 within low high n = leb low n && leb n high
 
--- 01 "The contract list": letters are D or T
+-- 01 "The contract list", M-104: letters are D, F or T
 abbrev pub isLetter : ℕ → Bool
-isLetter letter = eqb letter letterD || eqb letter letterT
+isLetter letter = eqb letter letterD || eqb letter letterF || eqb letter letterT
 
 -- 01 "The contract list": each letter but the first stands above the one before it
 abbrev pub letterAscends : List ℕ → ℕ → Bool

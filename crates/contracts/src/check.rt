@@ -6,7 +6,8 @@ ghost use Rattle.contracts.specs.SoundTests.{within, isLetter, letterAsc
 use files::Habit;
 use files::Stands;
 
-const MOST_SEGMENTS: usize = 2;
+// The most segments of a list.
+pub const MOST_SEGMENTS: usize = 3;
 
 // What is looked at of a segment: its entry in the contents, or its body.
 pub enum Part {
@@ -19,7 +20,7 @@ pub enum Part {
 pub fn is_letter(letter: u8) -> bool
     ensures { λ r. ⌜ r ≡ isLetter letter ⌝ }
 {
-    (letter == b'D') | (letter == b'T')
+    (letter == b'D') | (letter == b'F') | (letter == b'T')
 }
 
 fn within(low: usize, high: usize, n: usize) -> bool

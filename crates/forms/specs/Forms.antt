@@ -1,27 +1,30 @@
 -- The forms of messages as data: the table of codes, and the rows of each form. 01 "The message": 000 sections 4.4 and 4.5 for
--- D, 003 sections 4.5 and 4.6 for T; M-100: 000 sections 4.6 and 4.7 for D, 003 sections 4.3 and 4.4 for T. A new form is a list
--- of named rows, its subject and its place in the table.
+-- D, 003 sections 4.5 and 4.6 for T; M-100: 000 sections 4.6 and 4.7 for D, 003 sections 4.3 and 4.4 for T; M-104: 002 sections
+-- 4.4 and 4.5 for F. A new form is a list of named rows, its subject and its place in the table.
 use Prim.Native.Nat.{ℕ, zero, suc}
 use mathlib.Core.Bool.{Bool, true, false, cond, _&&_}
 use mathlib.Core.List.{List, [], _∷_, _++_, map}
 use lib.Dec.{eqb}
 use Rattle.forms.specs.declared.rows.Level.{Level}
 use Rattle.forms.specs.declared.rows.Level.the-variants.{One, Two}
+use Rattle.forms.specs.declared.rows.Markets.the-variants.{Normal, Any}
 use Rattle.forms.specs.declared.rows.Row.{Row}
 use Rattle.forms.specs.declared.rows.Row.the-variants as row
 use Rattle.forms.specs.declared.forms.Form.{Form}
-use Rattle.forms.specs.declared.forms.Form.the-variants.{Heartbeat, LevelOne, LevelTwo, PairOne, PairTwo}
+use Rattle.forms.specs.declared.forms.Form.the-variants.{Heartbeat, LevelOne, LevelTwo, PairOne, PairTwo, FutureOne, FutureTwo, PreOpenOne, PreOpenTwo}
 use Rattle.forms.specs.declared.forms.Item.{Item}
 use Rattle.forms.specs.declared.forms.Item.the-variants.{Contract, Pair}
 use Rattle.forms.specs.declared.forms.Subject.{Subject}
 use Rattle.forms.specs.declared.forms.Subject.the-variants.{Nothing, Of}
+use Rattle.forms.specs.declared.forms.Session.{Session}
+use Rattle.forms.specs.declared.forms.Session.the-variants as session
 use Rattle.forms.specs.declared.forms.Sum.{Sum}
 use Rattle.forms.specs.declared.forms.Sum.the-variants.{Zero, Right, RightOrZero}
 use Rattle.forms.specs.declared.forms.Named.{Named}
 use Rattle.forms.specs.declared.forms.Named.the-variants as is
 use Rattle.forms.specs.declared.forms.Chosen.{Chosen}
 use Rattle.forms.specs.declared.forms.Chosen.the-variants as chosen
-use Rattle.forms.specs.Names.{Name, NamedRow, named, instrument, symbol, expiry, strike, optionType, secondInstrument, secondSymbol, secondExpiry, secondStrike, secondOptionType, marketType, buyPrice, buyQuantity, sellPrice, sellQuantity, lastPrice, tradedQuantity, status, openingPrice, highPrice, lowPrice, closePrice, averagePrice, allBuyers, allSellers, turnover}
+use Rattle.forms.specs.Names.{Name, NamedRow, named, instrument, symbol, expiry, strike, optionType, secondInstrument, secondSymbol, secondExpiry, secondStrike, secondOptionType, marketType, timeStamp, buyPrice, buyQuantity, sellPrice, sellQuantity, lastPrice, tradedQuantity, status, openingPrice, highPrice, lowPrice, closePrice, averagePrice, allBuyers, allSellers, turnover}
 use Rattle.forms.specs.Rows.{messageLength}
 use Rattle.forms.specs.Sizes.{keyRowCount, keyBytes, pairRowCount, pairBytes}
 
@@ -66,36 +69,76 @@ dayClose laid = named closePrice laid ∷ named averagePrice laid ∷ []
 abbrev pub sideTotals : List NamedRow
 sideTotals = named allBuyers (row.Quantity 12) ∷ named allSellers (row.Quantity 12) ∷ []
 
--- 000 sections 4.4 and 4.5, 003 sections 4.5 and 4.6: the rows of an update of a contract, in the order in which they are laid
--- out
-abbrev pub contractRows : Row → ℕ → List NamedRow → List NamedRow
-contractRows laid depth totals =
-    keyRows ++ (named marketType row.MarketType ∷ sides laid depth) ++ traded laid ++ (named status row.Status ∷ dayRange laid ++ dayClose laid) ++ totals
+-- 000 sections 4.4 and 4.5, 003 sections 4.5 and 4.6: market type: the normal market alone
+abbrev pub normalMarket : List NamedRow
+normalMarket = named marketType (row.MarketType Normal) ∷ []
+
+-- 002 sections 4.4 and 4.5: any market type, and the time stamp, which M-104 reads as a quantity
+abbrev pub marketAndStamp : List NamedRow
+marketAndStamp = named marketType (row.MarketType Any) ∷ named timeStamp (row.Quantity 11) ∷ []
+
+-- 000 sections 4.4 and 4.5, 003 sections 4.5 and 4.6, 002 sections 4.4 and 4.5: the rows of an update of a contract, in the order in
+-- which they are laid out
+abbrev pub contractRows : List NamedRow → Row → ℕ → List NamedRow → List NamedRow
+contractRows market laid depth totals =
+    keyRows ++ market ++ sides laid depth ++ traded laid ++ (named status row.Status ∷ dayRange laid ++ dayClose laid) ++ totals
     ++ (named turnover (row.Turnover 25) ∷ [])
 
 -- 000 sections 4.6 and 4.7, 003 sections 4.3 and 4.4: the rows of an update of a pair, in the order in which they are laid out
 abbrev pub pairRows : Row → ℕ → List NamedRow → List NamedRow
 pairRows laid depth totals = pairKeyRows ++ sides laid depth ++ traded laid ++ dayRange laid ++ totals
 
--- 01 "The message", M-100: the rows of each form by name
+-- 01 "The message", M-100, M-104: the rows of each form by name
 unfoldable pub namedRows : Form → List NamedRow
 namedRows Heartbeat = []
-namedRows LevelOne = contractRows (row.Price 17) 1 []
-namedRows LevelTwo = contractRows (row.Price 17) 5 sideTotals
+namedRows LevelOne = contractRows normalMarket (row.Price 17) 1 []
+namedRows LevelTwo = contractRows normalMarket (row.Price 17) 5 sideTotals
 namedRows PairOne = pairRows (row.Difference 17) 1 []
 namedRows PairTwo = pairRows (row.Difference 17) 5 sideTotals
+namedRows FutureOne = contractRows marketAndStamp (row.Price 10) 1 []
+namedRows FutureTwo = contractRows marketAndStamp (row.Price 10) 5 sideTotals
+namedRows PreOpenOne = contractRows marketAndStamp (row.Price 10) 1 []
+namedRows PreOpenTwo = contractRows marketAndStamp (row.Price 10) 5 sideTotals
 
 -- 01 "The message": the rows of each form, as they are laid out
 unfoldable pub rowsOf : Form → List Row
 rowsOf form = map (λ r. r .row) (namedRows form)
 
--- 01 "The message", M-100: what a form tells of
+-- 01 "The message", M-100, M-104: what a form tells of
 abbrev pub subjectOf : Form → Subject
 subjectOf Heartbeat = Nothing
 subjectOf LevelOne = Of Contract One
 subjectOf LevelTwo = Of Contract Two
 subjectOf PairOne = Of Pair One
 subjectOf PairTwo = Of Pair Two
+subjectOf FutureOne = Of Contract One
+subjectOf FutureTwo = Of Contract Two
+subjectOf PreOpenOne = Of Contract One
+subjectOf PreOpenTwo = Of Contract Two
+
+-- M-104: the session in which a form is sent
+abbrev pub sessionOf : Form → Session
+sessionOf Heartbeat = session.Normal
+sessionOf LevelOne = session.Normal
+sessionOf LevelTwo = session.Normal
+sessionOf PairOne = session.Normal
+sessionOf PairTwo = session.Normal
+sessionOf FutureOne = session.Normal
+sessionOf FutureTwo = session.Normal
+sessionOf PreOpenOne = session.PreOpen
+sessionOf PreOpenTwo = session.PreOpen
+
+-- M-104: whether a form has a time stamp (`stamped-rows`)
+abbrev pub isStamped : Form → Bool
+isStamped Heartbeat = false
+isStamped LevelOne = false
+isStamped LevelTwo = false
+isStamped PairOne = false
+isStamped PairTwo = false
+isStamped FutureOne = true
+isStamped FutureTwo = true
+isStamped PreOpenOne = true
+isStamped PreOpenTwo = true
 
 -- 01 "The message", M-100: the rows of the key of what is listed
 abbrev pub keyRowsOf : Item → ℕ
@@ -107,12 +150,15 @@ abbrev pub keyBytesOf : Item → ℕ
 keyBytesOf Contract = keyBytes
 keyBytesOf Pair = pairBytes
 
--- 01 "What may be asked", M-100: the form whose rows a record of that level keeps
+-- a word of our own: the one of two forms that has the level
+abbrev pub atLevel : Level → Form → Form → Form
+atLevel One one two = one
+atLevel Two one two = two
+
+-- 01 "What may be asked", M-100, M-104: the form with every row that a record of that level keeps
 abbrev pub recordForm : Item → Level → Form
-recordForm Contract One = LevelOne
-recordForm Contract Two = LevelTwo
-recordForm Pair One = PairOne
-recordForm Pair Two = PairTwo
+recordForm Contract level = atLevel level FutureOne FutureTwo
+recordForm Pair level = atLevel level PairOne PairTwo
 
 -- a word of our own: the form that tells of a subject
 abbrev pub formAbout : Subject → Form
@@ -144,9 +190,20 @@ codesOf letter =
     line letter 0x48 Zero (Heartbeat ∷ []) ∷ line letter 0x4E Right (LevelOne ∷ LevelTwo ∷ []) ∷ line letter 0x50 Right (PairOne ∷ PairTwo ∷ [])
     ∷ line letter 0x4F RightOrZero [] ∷ line letter 0x43 RightOrZero [] ∷ line letter 0x45 RightOrZero [] ∷ []
 
--- 01 "The message": the table of codes
+-- M-104, M-101: the codes of F: FH, FN as above; FO, FC, FE and FZ are passed over, and their sections (002, 4.2, 4.11 and 4.10) say
+-- that the sum isn't calculated
+abbrev pub futureCodes : List Line
+futureCodes =
+    line 0x46 0x48 Zero (Heartbeat ∷ []) ∷ line 0x46 0x4E Right (FutureOne ∷ FutureTwo ∷ [])
+    ∷ line 0x46 0x4F RightOrZero [] ∷ line 0x46 0x43 RightOrZero [] ∷ line 0x46 0x45 RightOrZero [] ∷ line 0x46 0x5A RightOrZero [] ∷ []
+
+-- M-104, M-101: the codes that F has in pre-open: PN; PO and PC are passed over as FO and FC
+abbrev pub preOpenCodes : List Line
+preOpenCodes = line 0x50 0x4E Right (PreOpenOne ∷ PreOpenTwo ∷ []) ∷ line 0x50 0x4F RightOrZero [] ∷ line 0x50 0x43 RightOrZero [] ∷ []
+
+-- 01 "The message", M-104: the table of codes
 abbrev pub table : List Line
-table = codesOf 0x44 ++ codesOf 0x54
+table = codesOf 0x44 ++ codesOf 0x54 ++ futureCodes ++ preOpenCodes
 
 -- 01 "The message", M-101: every other code has no form, and carries its true sum
 abbrev pub meaningIn : List Line → ℕ → ℕ → Meaning

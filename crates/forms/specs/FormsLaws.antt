@@ -1,18 +1,19 @@
 -- The forms, computed, and the papers' numbers.
 use Prim.Native.Nat.{ℕ, _+_, _*_, _≤_, max}
-use mathlib.Core.Bool.{Bool, true, false, cond, _&&_}
+use mathlib.Core.Bool.{Bool, true, false, cond, _&&_, _||_}
 use mathlib.Core.List.{List, [], _∷_, _++_, map, List·Memᴰ, List·Memᴰ·head, List·Memᴰ·tail, List·Memᴰ·not-nil}
-use mathlib.Core.Path.{_≡_, refl, ap, sym, _∙_}
+use mathlib.Core.Path.{_≡_, refl, ap, ap₂, sym, subst, _∙_}
 use native.Mathlib.Omega.{arith}
-use borrow.Author.Tests.{eqb-true}
+use borrow.Author.Tests.{eqb-true, eq-eqb}
 use lib.Dec.{eqb}
 use lib.ListN.{length, getD, take}
+use Rattle.forms.specs.declared.rows.Markets.the-variants.{Normal, Any}
 use Rattle.forms.specs.declared.rows.Row.{Row}
 use Rattle.forms.specs.declared.rows.Row.the-variants as row
 use Rattle.forms.specs.declared.rows.Level.{Level}
 use Rattle.forms.specs.declared.rows.Level.the-variants.{One, Two}
 use Rattle.forms.specs.declared.forms.Form.{Form}
-use Rattle.forms.specs.declared.forms.Form.the-variants.{Heartbeat, LevelOne, LevelTwo, PairOne, PairTwo}
+use Rattle.forms.specs.declared.forms.Form.the-variants.{Heartbeat, LevelOne, LevelTwo, PairOne, PairTwo, FutureOne, FutureTwo, PreOpenOne, PreOpenTwo}
 use Rattle.forms.specs.declared.forms.Subject.{Subject}
 use Rattle.forms.specs.declared.forms.Subject.the-variants.{Nothing, Of}
 use Rattle.forms.specs.declared.forms.Item.{Item}
@@ -20,16 +21,19 @@ use Rattle.forms.specs.declared.forms.Item.the-variants.{Contract, Pair}
 use Rattle.forms.specs.declared.forms.Named.the-variants as is
 use Rattle.forms.specs.declared.forms.Chosen.the-variants as chosen
 use Rattle.forms.specs.Sizes.{mostRows, mostData, keyRowCount, keyBytes, pairRowCount, pairBytes}
-use Rattle.forms.specs.Names.{Name, NamedRow, named, instrument, symbol, expiry, strike, optionType, secondInstrument, secondSymbol, secondExpiry, secondStrike, secondOptionType, marketType, buyPrice, buyQuantity, sellPrice, sellQuantity, lastPrice, tradedQuantity, status, openingPrice, highPrice, lowPrice, closePrice, averagePrice, allBuyers, allSellers, turnover}
+use Rattle.forms.specs.Names.{Name, NamedRow, named, instrument, symbol, expiry, strike, optionType, secondInstrument, secondSymbol, secondExpiry, secondStrike, secondOptionType, marketType, timeStamp, buyPrice, buyQuantity, sellPrice, sellQuantity, lastPrice, tradedQuantity, status, openingPrice, highPrice, lowPrice, closePrice, averagePrice, allBuyers, allSellers, turnover}
+use Rattle.forms.specs.SameName.{sameName}
+use Rattle.forms.specs.declared.forms.Session.{Session}
+use Rattle.forms.specs.declared.forms.Session.the-variants as session
 use Rattle.forms.specs.declared.forms.Sum.{Sum}
 use Rattle.forms.specs.declared.forms.Sum.the-variants.{Zero, Right, RightOrZero}
 use Rattle.forms.specs.Rows.{widthOf, dataLength, messageLength, offsetOf, keyInFront, padded}
-use Rattle.forms.specs.Forms.{keyRows, pairKeyRows, sideTotals, contractRows, pairRows, namedRows, rowsOf, subjectOf, keyRowsOf, keyBytesOf, recordForm, formAbout, isAsked, Meaning, Line, codesOf, table, meaningIn, meaningOf, formsOf, ofLength, namedBy, formOf, sumRule, writtenBy, writtenForm}
+use Rattle.forms.specs.Forms.{keyRows, pairKeyRows, sideTotals, normalMarket, marketAndStamp, contractRows, pairRows, namedRows, rowsOf, subjectOf, sessionOf, isStamped, keyRowsOf, keyBytesOf, atLevel, formAbout, isAsked, Meaning, Line, codesOf, futureCodes, preOpenCodes, table, meaningIn, meaningOf, formsOf, ofLength, namedBy, formOf, sumRule, writtenBy, writtenForm}
 
 -- ---- the sizes
 
 abbrev forms : List Form
-forms = Heartbeat ∷ LevelOne ∷ LevelTwo ∷ PairOne ∷ PairTwo ∷ []
+forms = Heartbeat ∷ LevelOne ∷ LevelTwo ∷ PairOne ∷ PairTwo ∷ FutureOne ∷ FutureTwo ∷ PreOpenOne ∷ PreOpenTwo ∷ []
 
 most : List ℕ → ℕ
 most [] = 0
@@ -58,6 +62,10 @@ fits LevelOne = record { rows-fit = omega arith; data-fits = omega arith; padded
 fits LevelTwo = record { rows-fit = omega arith; data-fits = omega arith; padded-rows = refl; padded-length = refl }
 fits PairOne = record { rows-fit = omega arith; data-fits = omega arith; padded-rows = refl; padded-length = refl }
 fits PairTwo = record { rows-fit = omega arith; data-fits = omega arith; padded-rows = refl; padded-length = refl }
+fits FutureOne = record { rows-fit = omega arith; data-fits = omega arith; padded-rows = refl; padded-length = refl }
+fits FutureTwo = record { rows-fit = omega arith; data-fits = omega arith; padded-rows = refl; padded-length = refl }
+fits PreOpenOne = record { rows-fit = omega arith; data-fits = omega arith; padded-rows = refl; padded-length = refl }
+fits PreOpenTwo = record { rows-fit = omega arith; data-fits = omega arith; padded-rows = refl; padded-length = refl }
 
 -- the form about a subject tells of it
 pub about-subject : (subject : Subject) → subjectOf (formAbout subject) ≡ subject
@@ -67,17 +75,14 @@ about-subject (Of Contract Two) = refl
 about-subject (Of Pair One) = refl
 about-subject (Of Pair Two) = refl
 
--- and no other form does
-pub subject-about : (form : Form) → formAbout (subjectOf form) ≡ form
-subject-about Heartbeat = refl
-subject-about LevelOne = refl
-subject-about LevelTwo = refl
-subject-about PairOne = refl
-subject-about PairTwo = refl
+-- a form has a row for the time stamp exactly where it says so
+anyNamed : Name → List NamedRow → Bool
+anyNamed name [] = false
+anyNamed name (row ∷ rows) = sameName (row .name) name || anyNamed name rows
 
--- so the form of an update is the one that its record keeps
-pub record-form : (form : Form) (item : Item) (level : Level) → subjectOf form ≡ Of item level → form ≡ recordForm item level
-record-form form item level e = sym (subject-about form) ∙ ap formAbout e
+stamped-rows : map isStamped forms ≡ map (λ form. anyNamed timeStamp (namedRows form)) forms
+unfolding namedRows anyNamed
+stamped-rows = refl
 
 -- 01 "The message", M-100: the data of an update begins with its key, which has that many rows and bytes
 pub record KeyFirst (item : Item) (rows : List Row) : Type 0 where
@@ -85,20 +90,38 @@ pub record KeyFirst (item : Item) (rows : List Row) : Type 0 where
   pub rows-first : dataLength (take (keyRowsOf item) rows) ≡ keyBytesOf item
   pub rows-there : keyRowsOf item ≤ length rows
 
-key-of-record : (item : Item) (level : Level) → KeyFirst item (rowsOf (recordForm item level))
+-- of what a form tells
+abbrev KeyOf : Subject → Form → Type 0
+KeyOf Nothing form = Unit {0}
+KeyOf (Of item level) form = KeyFirst item (rowsOf form)
+
+key-of : (form : Form) → KeyOf (subjectOf form) form
 unfolding rowsOf namedRows
-key-of-record Contract One = record { bytes-first = refl; rows-first = refl; rows-there = omega arith }
-key-of-record Contract Two = record { bytes-first = refl; rows-first = refl; rows-there = omega arith }
-key-of-record Pair One = record { bytes-first = refl; rows-first = refl; rows-there = omega arith }
-key-of-record Pair Two = record { bytes-first = refl; rows-first = refl; rows-there = omega arith }
+key-of Heartbeat = tt
+key-of LevelOne = record { bytes-first = refl; rows-first = refl; rows-there = omega arith }
+key-of LevelTwo = record { bytes-first = refl; rows-first = refl; rows-there = omega arith }
+key-of PairOne = record { bytes-first = refl; rows-first = refl; rows-there = omega arith }
+key-of PairTwo = record { bytes-first = refl; rows-first = refl; rows-there = omega arith }
+key-of FutureOne = record { bytes-first = refl; rows-first = refl; rows-there = omega arith }
+key-of FutureTwo = record { bytes-first = refl; rows-first = refl; rows-there = omega arith }
+key-of PreOpenOne = record { bytes-first = refl; rows-first = refl; rows-there = omega arith }
+key-of PreOpenTwo = record { bytes-first = refl; rows-first = refl; rows-there = omega arith }
 
 pub key-first : (form : Form) (item : Item) (level : Level) → subjectOf form ≡ Of item level → KeyFirst item (rowsOf form)
-key-first form item level e = rw (record-form form item level e) (key-of-record item level)
+key-first form item level e = subst (λ (subject : Subject). KeyOf subject form) e (key-of form)
 
 -- what tells of nothing has no rows
 pub nothing-rows : (form : Form) → subjectOf form ≡ Nothing → rowsOf form ≡ []
 unfolding rowsOf namedRows
-nothing-rows form e = rw (← subject-about form, e)
+nothing-rows Heartbeat e = refl
+nothing-rows LevelOne e = cc
+nothing-rows LevelTwo e = cc
+nothing-rows PairOne e = cc
+nothing-rows PairTwo e = cc
+nothing-rows FutureOne e = cc
+nothing-rows FutureTwo e = cc
+nothing-rows PreOpenOne e = cc
+nothing-rows PreOpenTwo e = cc
 
 -- ---- a code's forms by their lengths
 
@@ -121,12 +144,17 @@ told-form (first ∷ rest) n form e = told-by-length (first ∷ rest) n form e
 
 -- ---- the table
 
--- of a contract's forms, and of a pair's, the one that has the level is written
-pub asked-written : (item : Item) (level : Level) → writtenBy (recordForm item One ∷ recordForm item Two ∷ []) item level ≡ chosen.Form (recordForm item level)
-asked-written Contract One = refl
-asked-written Contract Two = refl
-asked-written Pair One = refl
-asked-written Pair Two = refl
+-- of a code's two forms the one that has the level is written
+pub asked-written : (one two : Form) (item : Item) (level : Level) → subjectOf one ≡ Of item One → subjectOf two ≡ Of item Two
+    → writtenBy (one ∷ two ∷ []) item level ≡ chosen.Form (atLevel level one two)
+asked-written one two item level first second =
+    ap₂ (λ (a b : Subject). cond (isAsked a item level) (chosen.Form one) (cond (isAsked b item level) (chosen.Form two) chosen.NoForm)) first second ∙ own item level
+  where
+    own : (item : Item) (level : Level) → cond (isAsked (Of item One) item level) (chosen.Form one) (cond (isAsked (Of item Two) item level) (chosen.Form two) chosen.NoForm) ≡ chosen.Form (atLevel level one two)
+    own Contract One = refl
+    own Contract Two = refl
+    own Pair One = refl
+    own Pair Two = refl
 
 -- no line of the table stands behind another of its code
 pub table-told : map (λ code. meaningOf (code .letter) (code .second)) table ≡ map (λ code. code .meaning) table
@@ -141,33 +169,34 @@ forms-told = refl
 
 -- ---- a row is of its name's kind
 
-rowFor : (ℕ → Row) → Name → ℕ → Row
-rowFor price instrument width = row.Key width
-rowFor price symbol width = row.Key width
-rowFor price expiry width = row.Key width
-rowFor price strike width = row.Key width
-rowFor price optionType width = row.Key width
-rowFor price secondInstrument width = row.Key width
-rowFor price secondSymbol width = row.Key width
-rowFor price secondExpiry width = row.Key width
-rowFor price secondStrike width = row.Key width
-rowFor price secondOptionType width = row.Key width
-rowFor price marketType width = row.MarketType
-rowFor price (buyPrice k) width = price width
-rowFor price (buyQuantity k) width = row.Quantity width
-rowFor price (sellPrice k) width = price width
-rowFor price (sellQuantity k) width = row.Quantity width
-rowFor price lastPrice width = price width
-rowFor price tradedQuantity width = row.Quantity width
-rowFor price status width = row.Status
-rowFor price openingPrice width = price width
-rowFor price highPrice width = price width
-rowFor price lowPrice width = price width
-rowFor price closePrice width = price width
-rowFor price averagePrice width = price width
-rowFor price allBuyers width = row.Quantity width
-rowFor price allSellers width = row.Quantity width
-rowFor price turnover width = row.Turnover width
+rowFor : Row → (ℕ → Row) → Name → ℕ → Row
+rowFor market price instrument width = row.Key width
+rowFor market price symbol width = row.Key width
+rowFor market price expiry width = row.Key width
+rowFor market price strike width = row.Key width
+rowFor market price optionType width = row.Key width
+rowFor market price secondInstrument width = row.Key width
+rowFor market price secondSymbol width = row.Key width
+rowFor market price secondExpiry width = row.Key width
+rowFor market price secondStrike width = row.Key width
+rowFor market price secondOptionType width = row.Key width
+rowFor market price marketType width = market
+rowFor market price timeStamp width = row.Quantity width
+rowFor market price (buyPrice k) width = price width
+rowFor market price (buyQuantity k) width = row.Quantity width
+rowFor market price (sellPrice k) width = price width
+rowFor market price (sellQuantity k) width = row.Quantity width
+rowFor market price lastPrice width = price width
+rowFor market price tradedQuantity width = row.Quantity width
+rowFor market price status width = row.Status
+rowFor market price openingPrice width = price width
+rowFor market price highPrice width = price width
+rowFor market price lowPrice width = price width
+rowFor market price closePrice width = price width
+rowFor market price averagePrice width = price width
+rowFor market price allBuyers width = row.Quantity width
+rowFor market price allSellers width = row.Quantity width
+rowFor market price turnover width = row.Turnover width
 
 -- M-100: all price rows of a pair are signed
 priceIn : Subject → ℕ → Row
@@ -175,8 +204,12 @@ priceIn Nothing = row.Price
 priceIn (Of Contract level) = row.Price
 priceIn (Of Pair level) = row.Difference
 
-kinds : map rowsOf forms ≡ map (λ form. map (λ r. rowFor (priceIn (subjectOf form)) (r .name) (widthOf (r .row))) (namedRows form)) forms
-unfolding rowsOf namedRows rowFor priceIn
+-- M-104: every market type is read where there is a time stamp
+marketIn : Form → Row
+marketIn form = row.MarketType (cond (isStamped form) Any Normal)
+
+kinds : map rowsOf forms ≡ map (λ form. map (λ r. rowFor (marketIn form) (priceIn (subjectOf form)) (r .name) (widthOf (r .row))) (namedRows form)) forms
+unfolding rowsOf namedRows rowFor priceIn marketIn
 kinds = refl
 
 -- ---- the writer
@@ -208,38 +241,132 @@ told-heartbeat : Told (record { sum = Zero; forms = Heartbeat ∷ [] })
 unfolding rowsOf namedRows
 told-heartbeat form (List·Memᴰ·head same) = rw same (refl, refl)
 
-told-update : (item : Item) → Told (record { sum = Right; forms = recordForm item One ∷ recordForm item Two ∷ [] })
-unfolding rowsOf namedRows
-told-update Contract form (List·Memᴰ·head same) = rw same (refl, refl)
-told-update Contract form (List·Memᴰ·tail (List·Memᴰ·head same)) = rw same (refl, refl)
-told-update Pair form (List·Memᴰ·head same) = rw same (refl, refl)
-told-update Pair form (List·Memᴰ·tail (List·Memᴰ·head same)) = rw same (refl, refl)
+-- two forms of a code at one level each, told apart by their lengths
+told-update : (one two : Form) (item : Item) → subjectOf one ≡ Of item One → subjectOf two ≡ Of item Two
+    → eqb (messageLength (rowsOf two)) (messageLength (rowsOf one)) ≡ false → Told (record { sum = Right; forms = one ∷ two ∷ [] })
+told-update one two item first second apart form (List·Memᴰ·head same) = rw (same, first, eq-eqb (messageLength (rowsOf one)) (messageLength (rowsOf one)) refl) (refl, refl)
+told-update one two item first second apart form (List·Memᴰ·tail (List·Memᴰ·head same)) = rw (same, second, apart, eq-eqb (messageLength (rowsOf two)) (messageLength (rowsOf two)) refl) (refl, refl)
 
 told-no-form : (sum : Sum) → Told (record { sum = sum; forms = [] })
 told-no-form sum form m = absurd (List·Memᴰ·not-nil m)
 
 -- what holds of each line, and of a code that has none
-abbrev Each : (Meaning → Type 0) → List Line → Type 0
-Each P [] = P (meaningIn [] 0 0)
-Each P (code ∷ rest) = P (code .meaning) × Each P rest
+abbrev Each : (ℕ → Meaning → Type 0) → List Line → Type 0
+Each P [] = (letter : ℕ) → P letter (meaningIn [] 0 0)
+Each P (code ∷ rest) = P (code .letter) (code .meaning) × Each P rest
 
 -- holds of every code
-each-code : (P : Meaning → Type 0) (lines : List Line) → Each P lines → (letter second : ℕ) → P (meaningIn lines letter second)
-each-code P [] h letter second = h
-each-code P (code ∷ rest) h letter second = go (eqb letter (code .letter) && eqb second (code .second)) (each-code P rest (h .1) letter second)
+each-code : (P : ℕ → Meaning → Type 0) (lines : List Line) → Each P lines → (letter second : ℕ) → P letter (meaningIn lines letter second)
+each-code P [] h letter second = h letter
+each-code P (code ∷ rest) h letter second = go (eqb letter (code .letter)) refl (eqb second (code .second)) (each-code P rest (h .1) letter second)
   where
-    go : (t : Bool) → P (meaningIn rest letter second) → P (cond t (code .meaning) (meaningIn rest letter second))
-    go true later = h .0
-    go false later = later
+    go : (t : Bool) → eqb letter (code .letter) ≡ t → (u : Bool) → P letter (meaningIn rest letter second) → P letter (cond (t && u) (code .meaning) (meaningIn rest letter second))
+    go true is true later = rw (eqb-true letter (code .letter) is) (h .0)
+    go true is false later = later
+    go false is u later = later
 
-codes-told : (letter : ℕ) (rest : List Line) → Each Told rest → Each Told (codesOf letter ++ rest)
+passed-over : Told (record { sum = RightOrZero; forms = [] })
+passed-over = told-no-form RightOrZero
+
+codes-told : (letter : ℕ) (rest : List Line) → Each (λ _. Told) rest → Each (λ _. Told) (codesOf letter ++ rest)
+unfolding rowsOf namedRows
 codes-told letter rest h =
-    let passed-over = told-no-form RightOrZero in
-    (told-heartbeat, (told-update Contract, (told-update Pair, (passed-over, (passed-over, (passed-over, h))))))
+    (told-heartbeat, (told-update LevelOne LevelTwo Contract refl refl refl, (told-update PairOne PairTwo Pair refl refl refl, (passed-over, (passed-over, (passed-over, h))))))
+
+futures-told : (rest : List Line) → Each (λ _. Told) rest → Each (λ _. Told) (futureCodes ++ rest)
+unfolding rowsOf namedRows
+futures-told rest h =
+    (told-heartbeat, (told-update FutureOne FutureTwo Contract refl refl refl, (passed-over, (passed-over, (passed-over, (passed-over, h))))))
+
+pre-open-told : Each (λ _. Told) preOpenCodes
+unfolding rowsOf namedRows
+pre-open-told = (told-update PreOpenOne PreOpenTwo Contract refl refl refl, (passed-over, (passed-over, λ letter. told-no-form Right)))
 
 code-told : (letter second : ℕ) → Told (meaningOf letter second)
 unfolding meaningOf
-code-told letter second = each-code Told table (codes-told 0x44 (codesOf 0x54) (codes-told 0x54 [] (told-no-form Right))) letter second
+code-told letter second =
+    each-code (λ _. Told) table (codes-told 0x44 (codesOf 0x54 ++ futureCodes ++ preOpenCodes) (codes-told 0x54 (futureCodes ++ preOpenCodes) (futures-told preOpenCodes pre-open-told))) letter second
+
+-- ---- which codes have a time stamp, and which are sent in pre-open
+
+-- M-104: those of F have a time stamp, and of P, which counts as F
+abbrev isStampedLetter : ℕ → Bool
+isStampedLetter letter = eqb letter 0x46 || eqb letter 0x50
+
+-- M-104: those of P are sent in pre-open
+abbrev letterSession : ℕ → Session
+letterSession letter = cond (eqb letter 0x50) session.PreOpen session.Normal
+
+abbrev OwnStamp : ℕ → Form → Subject → Type 0
+OwnStamp letter form Nothing = Unit {0}
+OwnStamp letter form (Of Contract level) = isStamped form ≡ isStampedLetter letter
+OwnStamp letter form (Of Pair level) = Unit {0}
+
+abbrev Own : ℕ → Form → Type 0
+Own letter form = OwnStamp letter form (subjectOf form) × (sessionOf form ≡ letterSession letter)
+
+abbrev OwnForms : ℕ → Meaning → Type 0
+OwnForms letter means = (form : Form) → List·Memᴰ form (means .forms) → Own letter form
+
+no-own : (letter : ℕ) (sum : Sum) → OwnForms letter (record { sum = sum; forms = [] })
+no-own letter sum form m = absurd (List·Memᴰ·not-nil m)
+
+one-own : (letter : ℕ) (sum : Sum) (one : Form) → Own letter one → OwnForms letter (record { sum = sum; forms = one ∷ [] })
+one-own letter sum one h form (List·Memᴰ·head same) = rw same h
+
+two-own : (letter : ℕ) (one two : Form) → Own letter one → Own letter two → OwnForms letter (record { sum = Right; forms = one ∷ two ∷ [] })
+two-own letter one two h k form (List·Memᴰ·head same) = rw same h
+two-own letter one two h k form (List·Memᴰ·tail (List·Memᴰ·head same)) = rw same k
+
+codes-own : (letter : ℕ) → isStampedLetter letter ≡ false → letterSession letter ≡ session.Normal → (rest : List Line) → Each OwnForms rest → Each OwnForms (codesOf letter ++ rest)
+codes-own letter other normal rest h =
+    let none = no-own letter RightOrZero in
+    let e = sym normal in
+    (one-own letter Zero Heartbeat (tt, e), (two-own letter LevelOne LevelTwo (sym other, e) (sym other, e), (two-own letter PairOne PairTwo (tt, e) (tt, e), (none, (none, (none, h))))))
+
+futures-own : Each OwnForms (futureCodes ++ preOpenCodes)
+futures-own =
+    let none = no-own 0x46 RightOrZero in
+    let nothing = no-own 0x50 RightOrZero in
+    let pre-open = two-own 0x50 PreOpenOne PreOpenTwo (refl, refl) (refl, refl) in (
+      one-own 0x46 Zero Heartbeat (tt, refl),
+      (two-own 0x46 FutureOne FutureTwo (refl, refl) (refl, refl), (none, (none, (none, (none, (pre-open, (nothing, (nothing, λ letter. no-own letter Right)))))))),
+    )
+
+own-form : (letter second n : ℕ) (form : Form) → formOf letter second n ≡ is.Form form → Own letter form
+unfolding formOf meaningOf
+own-form letter second n form e =
+    let each = codes-own 0x44 refl refl (codesOf 0x54 ++ futureCodes ++ preOpenCodes) (codes-own 0x54 refl refl (futureCodes ++ preOpenCodes) futures-own) in
+    each-code OwnForms table each letter second form (told-form (formsOf letter second) n form e .0)
+
+-- an update of a contract has a time stamp exactly where its code is one of F's
+pub stamped-code : (letter second n : ℕ) (form : Form) (level : Level) → formOf letter second n ≡ is.Form form → subjectOf form ≡ Of Contract level
+    → isStamped form ≡ isStampedLetter letter
+stamped-code letter second n form level e s = subst (OwnStamp letter form) s (own-form letter second n form e .0)
+
+-- and a form is sent in pre-open exactly where its code begins with P
+pub session-code : (letter second n : ℕ) (form : Form) → formOf letter second n ≡ is.Form form → sessionOf form ≡ letterSession letter
+session-code letter second n form e = own-form letter second n form e .1
+
+-- a pair's are sent in the normal market
+abbrev PairNormal : Subject → Form → Type 0
+PairNormal Nothing form = Unit {0}
+PairNormal (Of Contract level) form = Unit {0}
+PairNormal (Of Pair level) form = sessionOf form ≡ session.Normal
+
+pair-own : (form : Form) → PairNormal (subjectOf form) form
+pair-own Heartbeat = tt
+pair-own LevelOne = tt
+pair-own LevelTwo = tt
+pair-own PairOne = refl
+pair-own PairTwo = refl
+pair-own FutureOne = tt
+pair-own FutureTwo = tt
+pair-own PreOpenOne = tt
+pair-own PreOpenTwo = tt
+
+pub pair-normal : (form : Form) (level : Level) → subjectOf form ≡ Of Pair level → sessionOf form ≡ session.Normal
+pair-normal form level s = subst (λ (subject : Subject). PairNormal subject form) s (pair-own form)
 
 -- the code and the length of what is written name its form again
 pub written-told : (letter second : ℕ) (item : Item) (level : Level) (form : Form) → writtenForm letter second item level ≡ chosen.Form form
@@ -258,20 +385,21 @@ nothing-zero letter second n form e nothing = sum-told letter second n form e �
 
 -- ---- the papers' numbers
 
--- 001 section 2.1 (FV), 004 section 4.5 (FN) and 004 section 4.12 (FP), whose prices are 10 wide: for their lengths alone
+-- 001 section 2.1 (FV), 004 section 4.5 (FN, the older form without a time stamp) and 004 section 4.12 (FP), whose prices are 10 wide:
+-- for their lengths alone
 rowsFV : List NamedRow
-rowsFV = named marketType (row.Key 11) ∷ contractRows (row.Price 10) 20 sideTotals
+rowsFV = contractRows marketAndStamp (row.Price 10) 20 sideTotals
 
-rowsFN : List NamedRow
-rowsFN = contractRows (row.Price 10) 1 []
+olderFN : List NamedRow
+olderFN = contractRows normalMarket (row.Price 10) 1 []
 
 rowsFP : List NamedRow
 rowsFP = pairRows (row.Difference 10) 1 []
 
 -- 01 "The message": the sum of the data widths plus 11
-lengths : map (λ rows. messageLength (laidOut rows)) (map namedRows (LevelOne ∷ LevelTwo ∷ PairOne ∷ PairTwo ∷ []) ++ (rowsFV ∷ rowsFN ∷ rowsFP ∷ []))
-    ≡ 249 ∷ 505 ∷ 227 ∷ 483 ∷ 1064 ∷ 193 ∷ 185 ∷ []
-unfolding namedRows rowsFV rowsFN rowsFP
+lengths : map (λ rows. messageLength (laidOut rows)) (map namedRows (LevelOne ∷ LevelTwo ∷ PairOne ∷ PairTwo ∷ FutureOne ∷ FutureTwo ∷ []) ++ (rowsFV ∷ olderFN ∷ rowsFP ∷ []))
+    ≡ 249 ∷ 505 ∷ 227 ∷ 483 ∷ 204 ∷ 404 ∷ 1064 ∷ 193 ∷ 185 ∷ []
+unfolding namedRows rowsFV olderFN rowsFP
 lengths = refl
 
 depths : List ℕ
@@ -291,8 +419,8 @@ trade-offsets : map (offsetOf (rowsOf LevelTwo)) (26 ∷ 27 ∷ 28 ∷ []) ≡ 3
 unfolding rowsOf namedRows
 trade-offsets = refl
 
--- 19 and 37 rows; the status is row 12 and row 28
-counts : map (λ form. length (rowsOf form)) (LevelOne ∷ LevelTwo ∷ PairOne ∷ PairTwo ∷ []) ≡ 19 ∷ 37 ∷ 19 ∷ 37 ∷ []
+-- 19 and 37 rows, and with a time stamp 20 and 38; the status is row 12 and row 28
+counts : map (λ form. length (rowsOf form)) (LevelOne ∷ LevelTwo ∷ PairOne ∷ PairTwo ∷ FutureOne ∷ FutureTwo ∷ []) ≡ 19 ∷ 37 ∷ 19 ∷ 37 ∷ 20 ∷ 38 ∷ []
 unfolding rowsOf namedRows
 counts = refl
 

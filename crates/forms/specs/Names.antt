@@ -2,8 +2,8 @@
 use Prim.Native.Nat.{ℕ}
 use Rattle.forms.specs.declared.rows.Row.{Row}
 
--- 000 sections 4.4 to 4.7, 003 sections 4.3 to 4.6: the fields of an update, a pair's second key too; an order's level counts
--- from 0
+-- 000 sections 4.4 to 4.7, 003 sections 4.3 to 4.6, 002 sections 4.4 and 4.5: the fields of an update, a pair's second key too; an
+-- order's level counts from 0
 pub data Name : Type 0 where
   instrument : Name
   symbol : Name
@@ -16,6 +16,7 @@ pub data Name : Type 0 where
   secondStrike : Name
   secondOptionType : Name
   marketType : Name
+  timeStamp : Name
   buyPrice : ℕ → Name
   buyQuantity : ℕ → Name
   sellPrice : ℕ → Name

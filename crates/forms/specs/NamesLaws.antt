@@ -6,7 +6,7 @@ use mathlib.Core.Logic.{_↔_}
 use mathlib.Core.List.{[], _∷_}
 use lib.ListN.{getD}
 use Rattle.laws.specs.Tests.{eqb-is, and-is}
-use Rattle.forms.specs.Names.{Name, instrument, symbol, expiry, strike, optionType, secondInstrument, secondSymbol, secondExpiry, secondStrike, secondOptionType, marketType, buyPrice, buyQuantity, sellPrice, sellQuantity, lastPrice, tradedQuantity, status, openingPrice, highPrice, lowPrice, closePrice, averagePrice, allBuyers, allSellers, turnover}
+use Rattle.forms.specs.Names.{Name, instrument, symbol, expiry, strike, optionType, secondInstrument, secondSymbol, secondExpiry, secondStrike, secondOptionType, marketType, buyPrice, buyQuantity, sellPrice, sellQuantity, lastPrice, tradedQuantity, status, openingPrice, highPrice, lowPrice, closePrice, averagePrice, allBuyers, allSellers, turnover, timeStamp}
 use Rattle.forms.specs.SameName.{nameNumber, orderLevel, sameName}
 
 nameFrom : ℕ → ℕ → Name
@@ -15,7 +15,7 @@ nameFrom number k =
     (instrument ∷ symbol ∷ expiry ∷ strike ∷ optionType
     ∷ secondInstrument ∷ secondSymbol ∷ secondExpiry ∷ secondStrike ∷ secondOptionType ∷ marketType ∷ buyPrice k ∷ buyQuantity k ∷ sellPrice k ∷ sellQuantity k
     ∷ lastPrice ∷ tradedQuantity ∷ status ∷ openingPrice ∷ highPrice ∷ lowPrice ∷ closePrice ∷ averagePrice ∷ allBuyers ∷ allSellers
-    ∷ turnover ∷ [])
+    ∷ turnover ∷ timeStamp ∷ [])
     number instrument
 
 name-back : (name : Name) → nameFrom (nameNumber name) (orderLevel name) ≡ name
@@ -46,6 +46,7 @@ name-back averagePrice = refl
 name-back allBuyers = refl
 name-back allSellers = refl
 name-back turnover = refl
+name-back timeStamp = refl
 
 pub same-name : (a b : Name) → sameName a b ≡ true ↔ a ≡ b
 same-name a b =

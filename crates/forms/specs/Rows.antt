@@ -9,7 +9,7 @@ use Rattle.forms.specs.Sizes.{mostRows, bareLength}
 -- 01 "The message": the width of a row's field
 abbrev pub widthOf : Row → ℕ
 widthOf (Key width) = width
-widthOf MarketType = 1
+widthOf (MarketType markets) = 1
 widthOf Status = 1
 widthOf (Price width) = width
 widthOf (Difference width) = width
@@ -37,7 +37,7 @@ offsetOf rows i = dataLength (take i rows)
 abbrev pub keyInFront : List Row → ℕ
 keyInFront [] = 0
 keyInFront (Key width ∷ rows) = width + keyInFront rows
-keyInFront (MarketType ∷ rows) = 0
+keyInFront (MarketType markets ∷ rows) = 0
 keyInFront (Status ∷ rows) = 0
 keyInFront (Price width ∷ rows) = 0
 keyInFront (Difference width ∷ rows) = 0

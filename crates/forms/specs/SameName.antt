@@ -2,7 +2,7 @@
 use Prim.Native.Nat.{ℕ}
 use mathlib.Core.Bool.{Bool, _&&_}
 use lib.Dec.{eqb}
-use Rattle.forms.specs.Names.{Name, allBuyers, allSellers, averagePrice, buyPrice, buyQuantity, closePrice, expiry, highPrice, instrument, lastPrice, lowPrice, marketType, openingPrice, optionType, secondExpiry, secondInstrument, secondOptionType, secondStrike, secondSymbol, sellPrice, sellQuantity, status, strike, symbol, tradedQuantity, turnover}
+use Rattle.forms.specs.Names.{Name, allBuyers, allSellers, averagePrice, buyPrice, buyQuantity, closePrice, expiry, highPrice, instrument, lastPrice, lowPrice, marketType, openingPrice, optionType, secondExpiry, secondInstrument, secondOptionType, secondStrike, secondSymbol, sellPrice, sellQuantity, status, strike, symbol, timeStamp, tradedQuantity, turnover}
 
 -- a word of our own: a number for each name, those of orders aside from their level
 abbrev pub nameNumber : Name → ℕ
@@ -32,6 +32,7 @@ nameNumber averagePrice = 22
 nameNumber allBuyers = 23
 nameNumber allSellers = 24
 nameNumber turnover = 25
+nameNumber timeStamp = 26
 
 -- a word of our own: the level of an order's name
 abbrev pub orderLevel : Name → ℕ
@@ -61,6 +62,7 @@ orderLevel averagePrice = 0
 orderLevel allBuyers = 0
 orderLevel allSellers = 0
 orderLevel turnover = 0
+orderLevel timeStamp = 0
 
 -- a word of our own: one name
 abbrev pub sameName : Name → Name → Bool

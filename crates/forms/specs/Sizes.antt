@@ -1,9 +1,9 @@
 -- The sizes that follow from the forms: FormsLaws' `sizes` computes each from them.
 use Prim.Native.Nat.{ℕ}
 
--- 01 "The message": the most rows of a form
+-- 01 "The message", M-104: the most rows of a form
 abbrev pub mostRows : ℕ
-mostRows = 37
+mostRows = 38
 
 -- 01 "The message": the longest data of a form
 abbrev pub mostData : ℕ

@@ -1,10 +1,16 @@
 ghost use mathlib.Core.Path.{_≡_};
 ghost use Rattle.forms.specs.Rows.{widthOf};
 
+// The market types that a row takes: that of the normal market alone, or every one that the papers print.
+pub enum Markets {
+    Normal,
+    Any,
+}
+
 // A row of the data: its kind, and its width where the kind does not fix it.
 pub enum Row {
     Key(usize),
-    MarketType,
+    MarketType(Markets),
     Status,
     Price(usize),
     // A difference of prices, which may be below zero.
@@ -23,7 +29,7 @@ pub fn width_of(row: Row) -> usize
 {
     match row {
         Row::Key(width) => width,
-        Row::MarketType => 1,
+        Row::MarketType(_) => 1,
         Row::Status => 1,
         Row::Price(width) => width,
         Row::Difference(width) => width,

@@ -12,8 +12,11 @@ use runs::Run;
 // The most keys of a segment.
 const MOST_KEYS: usize = 64;
 
-// The bytes of the longest spread list without pairs: that of two segments.
-const NO_SPREADS: usize = 18;
+// The cells of the records of as many contracts as the program holds.
+const RECORD_CELLS: usize = contracts::MOST_SEGMENTS * MOST_KEYS * slots::CONTRACT;
+
+// The bytes of the longest spread list without pairs.
+const NO_SPREADS: usize = files::NUMBER + files::ENTRY * contracts::MOST_SEGMENTS;
 
 // The refusal of what the program's memory doesn't hold; of the cells wanted it says nothing.
 const NO_ROOM: Refusal = Refusal::Memory(0);
@@ -50,8 +53,9 @@ fn start(list: &[u8], spreads: &[u8], page: &mut [u8]) -> usize
     ensures { λ r. ⌜ r ≤ length (now (page .entry)) ⌝ }
 {
     let blanks = [Run { first: 0, last: 0 }; RUNS];
-    let mut records = [0u64; console::RECORD_CELLS];
-    let began = lent::start(list, spreads, &[1, 1], blanks, &mut records);
+    let mut records = [0u64; RECORD_CELLS];
+    let starts = [1u32; contracts::MOST_SEGMENTS];
+    let began = lent::start(list, spreads, &starts, blanks, &mut records);
     let answer = began.answer;
     let rows = began.rows;
     match answer {

@@ -1,10 +1,14 @@
 -- The fields of a message: 01 "The message" and "The checksum". What stands past the end reads as zero.
 use Prim.Native.Nat.{ℕ, _-_}
+use mathlib.Core.Bool.{cond}
 use mathlib.Core.List.{List, [], _∷_}
+use lib.Dec.{eqb}
 use lib.ListN.{take, drop}
 use Rattle.wire.specs.Number.{numberAt}
 use Rattle.wire.specs.Checksum.{checksumOf}
 use Rattle.forms.specs.declared.forms.Named.{Named}
+use Rattle.forms.specs.declared.forms.Session.{Session}
+use Rattle.forms.specs.declared.forms.Session.the-variants.{Normal, PreOpen}
 use Rattle.forms.specs.declared.forms.Sum.{Sum}
 use Rattle.forms.specs.Sizes.{bareLength}
 use Rattle.forms.specs.Forms.{formOf, sumRule}
@@ -16,6 +20,22 @@ dataAt = 8
 -- 01 "The message": the first byte of the code is the segment's letter
 unfoldable pub letterOf : List ℕ → ℕ
 letterOf bytes = numberAt 1 bytes 0
+
+-- M-104: "PN belongs to segment F": the codes of pre-open begin with P
+abbrev pub preOpenLetter : ℕ
+preOpenLetter = 0x50
+
+-- M-104: the letter of the segment that codes with a letter count as: P counts as F
+abbrev pub segmentLetter : ℕ → ℕ
+segmentLetter letter = cond (eqb letter preOpenLetter) 0x46 letter
+
+-- M-104: the letter of the segment that a message belongs to
+unfoldable pub segmentLetterOf : List ℕ → ℕ
+segmentLetterOf bytes = segmentLetter (letterOf bytes)
+
+-- M-104: the session in which a message was sent, by its code
+unfoldable pub sessionSent : List ℕ → Session
+sessionSent bytes = cond (eqb (letterOf bytes) preOpenLetter) PreOpen Normal
 
 -- 01 "The message": the second byte of the code
 unfoldable pub secondOf : List ℕ → ℕ

@@ -15,7 +15,7 @@ use Rattle.forms.specs.declared.forms.Sum.the-variants.{Zero, Right, RightOrZer
 use Rattle.forms.specs.Sizes.{bareLength}
 use Rattle.forms.specs.Rows.{messageLength}
 use Rattle.forms.specs.Forms.{rowsOf, subjectOf}
-use Rattle.head.specs.Fields.{dataAt, letterOf, secondOf, lengthOf, zeroSum}
+use Rattle.head.specs.Fields.{dataAt, letterOf, preOpenLetter, segmentLetterOf, secondOf, lengthOf, zeroSum}
 
 -- 01, the table's row 5: 8 bytes are left, and the length is 11 or more and not over what is left
 pub record Framed (bytes : List ℕ) : Type 0 where
@@ -27,11 +27,18 @@ pub record Framed (bytes : List ℕ) : Type 0 where
 abbrev pub LetterListed : List ℕ → ℕ → Type 0
 LetterListed list letter = (i : ℕ) × (i < segmentsOf list) × (letterAt list i ≡ letter)
 
--- 01, the table's row 6: the letter is the first message's and listed, the second byte A to Z
+-- M-104: the P codes that 002 prints: PN, PO and PC
+abbrev pub IsPreOpen : ℕ → Type 0
+IsPreOpen second = (second ≡ 78) ⊎ ((second ≡ 79) ⊎ (second ≡ 67))
+
+-- 01, the table's row 6: the second byte is A to Z; M-104: behind P it is one that 002 prints
+abbrev pub IsCode : ℕ → ℕ → Type 0
+IsCode letter second = ((letter ≡ preOpenLetter) × IsPreOpen second) ⊎ ((letter ≡ preOpenLetter → ⊥) × ((65 ≤ second) × (second ≤ 90)))
+
+-- 01, the table's row 6, M-104: the segment is the first message's and listed, and the code is one of its codes
 pub record Coded (list : List ℕ) (letter : ℕ) (bytes : List ℕ) : Type 0 where
-  pub first-letter : letterOf bytes ≡ letter
-  pub from-A : 65 ≤ secondOf bytes
-  pub to-Z : secondOf bytes ≤ 90
+  pub same-segment : segmentLetterOf bytes ≡ letter
+  pub code : IsCode (letterOf bytes) (secondOf bytes)
   pub listed : LetterListed list letter
 
 -- 01, the table's row 8: a table code has one of its lengths

@@ -1,14 +1,14 @@
 -- Laws of the head: each rule's test in the paper's words.
-use Prim.Native.Nat.{ℕ, _-_}
+use Prim.Native.Nat.{ℕ, _-_, _≤_}
 use mathlib.Core.Path.{_≡_, refl, ap, ap₂, _∙_}
-use mathlib.Core.Bool.{Bool, true, false, _&&_, and-true, false≢true}
-use mathlib.Core.Logic.{_↔_, ⊎-elim}
+use mathlib.Core.Bool.{Bool, true, false, cond, _&&_, _||_, and-true, or-true, or-false, false≢true}
+use mathlib.Core.Logic.{_↔_, inl, inr, ⊎-elim}
 use mathlib.Core.List.{List, [], _∷_, List·Memᴰ, List·Memᴰ·cases-cons, List·Memᴰ·not-nil}
 use mathlib.Core.Option.{Option, none, some}
 use native.Mathlib.Omega.{arith}
 use lib.Dec.{eqb}
 use lib.ListN.{length}
-use borrow.Author.Tests.{eqb-true, eqb-false}
+use borrow.Author.Tests.{eqb-true, eqb-false, eq-eqb, ne-eqb}
 use Rattle.laws.specs.Tests.{eqb-is, leb-is, and-is, or-is}
 use Rattle.wire.specs.Number.{numberAt}
 use Rattle.files.specs.BelowLaws.{first-passes, none-passes}
@@ -17,23 +17,25 @@ use Rattle.lookup.specs.Lookup.{segmentOf}
 use Rattle.forms.specs.declared.forms.Form.{Form}
 use Rattle.forms.specs.declared.forms.Named.{Named}
 use Rattle.forms.specs.declared.forms.Named.the-variants as is
+use Rattle.forms.specs.declared.forms.Item.the-variants.{Contract}
+use Rattle.forms.specs.declared.rows.Level.{Level}
 use Rattle.forms.specs.declared.forms.Subject.{Subject}
 use Rattle.forms.specs.declared.forms.Subject.the-variants.{Nothing, Of}
 use Rattle.forms.specs.declared.forms.Sum.{Sum}
 use Rattle.forms.specs.declared.forms.Sum.the-variants.{Zero, Right, RightOrZero}
 use Rattle.forms.specs.Sizes.{bareLength}
 use Rattle.forms.specs.Rows.{messageLength}
-use Rattle.forms.specs.Forms.{rowsOf, subjectOf, formsOf, ofLength, namedBy, formOf}
-use Rattle.forms.specs.FormsLaws.{told-form, nothing-zero}
+use Rattle.forms.specs.Forms.{rowsOf, subjectOf, sessionOf, isStamped, formsOf, ofLength, namedBy, formOf}
+use Rattle.forms.specs.FormsLaws.{told-form, nothing-zero, stamped-code, session-code}
 use Rattle.head.specs.declared.head.Fault.{Fault}
 use Rattle.head.specs.declared.head.Head.{Head}
 use Rattle.head.specs.declared.head.Head.the-variants.{Good, Bad}
 use Rattle.head.specs.Rules.{firstFault, headOf}
 use Rattle.head.specs.RulesLaws.{good-hold, andThen, first-append}
-use Rattle.head.specs.GoodHead.{Framed, Coded, LetterListed, HasLength, HasSum, NumberFor, HasNumber}
-use Rattle.head.specs.Fields.{dataAt, letterOf, secondOf, lengthOf, sumSent, endByte, formIn, sumIn, rightSum, zeroSum}
+use Rattle.head.specs.GoodHead.{Framed, IsPreOpen, IsCode, Coded, LetterListed, HasLength, HasSum, NumberFor, HasNumber}
+use Rattle.head.specs.Fields.{dataAt, letterOf, preOpenLetter, segmentLetterOf, sessionSent, secondOf, lengthOf, sumSent, endByte, formIn, sumIn, rightSum, zeroSum}
 use Rattle.head.specs.Head.{frameRules, formRules}
-use Rattle.head.specs.Tests.{framed, isCapital, coded, trailed, takesLength, summed, takesSum, numbersSubject, takesNumber, tellsNothing, isHeartbeat, isSome, sameBytes}
+use Rattle.head.specs.Tests.{framed, isCapital, isPreOpen, isCode, coded, trailed, takesLength, summed, takesSum, numbersSubject, takesNumber, tellsNothing, isHeartbeat, isSome, sameBytes}
 
 -- 5
 pub framed-exact : (bytes : List ℕ) → framed bytes ≡ true ↔ Framed bytes
@@ -63,17 +65,30 @@ listed-exact list letter = (found, (λ h. there h (segmentOf list letter) refl))
     there h none e = absurd (eqb-false (letterAt list (h .0)) letter (none-passes has (segmentsOf list) e (h .0) (h .1)) (h .2))
     there h (some i) e = rw e
 
+code-exact : (letter second : ℕ) → isCode letter second ≡ true ↔ IsCode letter second
+code-exact letter second = ((λ e. says (eqb letter preOpenLetter) refl e), said)
+  where
+    pre-open : isPreOpen second ≡ true ↔ IsPreOpen second
+    pre-open = or-is (eqb-is second 78) (or-is (eqb-is second 79) (eqb-is second 67))
+
+    capital : isCapital second ≡ true ↔ (65 ≤ second) × (second ≤ 90)
+    capital = and-is (leb-is 65 second) (leb-is second 90)
+
+    says : (t : Bool) → eqb letter preOpenLetter ≡ t → cond t (isPreOpen second) (isCapital second) ≡ true → IsCode letter second
+    says true is e = inl (eqb-true letter preOpenLetter is, pre-open .0 e)
+    says false is e = inr (eqb-false letter preOpenLetter is, capital .0 e)
+
+    said : IsCode letter second → isCode letter second ≡ true
+    said = ⊎-elim (λ h. rw (eq-eqb letter preOpenLetter (h .0)) (pre-open .1 (h .1))) (λ h. rw (ne-eqb letter preOpenLetter (h .0)) (capital .1 (h .1)))
+
 -- 6
 pub coded-exact : (list : List ℕ) (letter : ℕ) (bytes : List ℕ) → coded letter (segmentOf list letter) bytes ≡ true ↔ Coded list letter bytes
 unfolding coded
 coded-exact list letter bytes =
     let tests =
-    and-is (and-is (eqb-is (letterOf bytes) letter) (and-is (leb-is 65 (secondOf bytes)) (leb-is (secondOf bytes) 90)))
-    (listed-exact list letter) in (
-      (λ e.
-          let p = tests .0 e in
-          record { first-letter = p .0 .0; from-A = p .0 .1 .0; to-Z = p .0 .1 .1; listed = p .1 }),
-      (λ h. tests .1 ((h .first-letter, (h .from-A, h .to-Z)), h .listed)),
+    and-is (and-is (eqb-is (segmentLetterOf bytes) letter) (code-exact (letterOf bytes) (secondOf bytes))) (listed-exact list letter) in (
+      (λ e. let p = tests .0 e in record { same-segment = p .0 .0; code = p .0 .1; listed = p .1 }),
+      (λ h. tests .1 ((h .same-segment, h .code), h .listed)),
     )
 
 -- 7
@@ -154,9 +169,23 @@ number-exact (is.Form form) number = subject-number (subjectOf form) number
 number-exact is.NoLength number = leb-is 1 number
 number-exact is.PassedOver number = leb-is 1 number
 
+-- M-104: an update of a contract has a time stamp exactly where it belongs to F
+pub stamped-by : (bytes : List ℕ) (form : Form) (level : Level) → formIn bytes ≡ is.Form form → subjectOf form ≡ Of Contract level → isStamped form ≡ eqb (segmentLetterOf bytes) 0x46
+unfolding formIn segmentLetterOf
+stamped-by bytes form level e s = stamped-code (letterOf bytes) (secondOf bytes) (lengthOf bytes) form level e s ∙ by-letter (eqb (letterOf bytes) preOpenLetter)
+  where
+    by-letter : (t : Bool) → (eqb (letterOf bytes) 0x46 || t) ≡ eqb (cond t 0x46 (letterOf bytes)) 0x46
+    by-letter true = or-true (eqb (letterOf bytes) 0x46)
+    by-letter false = or-false (eqb (letterOf bytes) 0x46)
+
+-- and its form tells its session
+pub session-by : (bytes : List ℕ) (form : Form) → formIn bytes ≡ is.Form form → sessionOf form ≡ sessionSent bytes
+unfolding formIn sessionSent
+session-by bytes form e = session-code (letterOf bytes) (secondOf bytes) (lengthOf bytes) form e
+
 -- the parts of 6, each as the code tests it
 pub coded-parts : (letter : ℕ) (segment : Option ℕ) (bytes : List ℕ) (first second : Bool)
-    → eqb (letterOf bytes) letter ≡ first → isCapital (secondOf bytes) ≡ second
+    → eqb (segmentLetterOf bytes) letter ≡ first → isCode (letterOf bytes) (secondOf bytes) ≡ second
     → coded letter segment bytes ≡ first && second && isSome segment
 unfolding coded
 coded-parts letter segment bytes first second e f = rw (e, f)

@@ -1,7 +1,7 @@
 -- The tests of a message's rules, as they compute: HeadLaws' `..-exact` and `cell-said` (GoodLaws) say that each holds exactly where
 -- its rule of `Good` does.
 use Prim.Native.Nat.{ℕ}
-use mathlib.Core.Bool.{Bool, true, false, _&&_, _||_}
+use mathlib.Core.Bool.{Bool, true, false, cond, _&&_, _||_}
 use mathlib.Core.List.{List, [], _∷_}
 use mathlib.Core.Option.{Option, none, some}
 use lib.Dec.{leb, eqb}
@@ -14,7 +14,7 @@ use Rattle.forms.specs.declared.forms.Sum.{Sum}
 use Rattle.forms.specs.declared.forms.Sum.the-variants.{Zero, Right, RightOrZero}
 use Rattle.forms.specs.Sizes.{bareLength}
 use Rattle.forms.specs.Forms.{subjectOf}
-use Rattle.head.specs.Fields.{dataAt, letterOf, secondOf, lengthOf, sumSent, endByte, sumIn, rightSum, zeroSum}
+use Rattle.head.specs.Fields.{dataAt, letterOf, preOpenLetter, segmentLetterOf, secondOf, lengthOf, sumSent, endByte, sumIn, rightSum, zeroSum}
 use Rattle.layout.specs.declared.read.RowRead.{RowRead}
 use Rattle.layout.specs.declared.read.RowRead.the-variants as read
 use Rattle.head.specs.declared.head.Fault.the-variants.{Field, Range}
@@ -32,10 +32,18 @@ isSome (some place) = true
 abbrev pub isCapital : ℕ → Bool
 isCapital second = leb 65 second && leb second 90
 
--- 01, the table's row 6: the first message's letter, whose segment is listed, and a second byte A to Z
+-- M-104: the P codes that 002 prints: PN, PO and PC
+abbrev pub isPreOpen : ℕ → Bool
+isPreOpen second = eqb second 78 || (eqb second 79 || eqb second 67)
+
+-- 01, the table's row 6, M-104: a code of the segment
+abbrev pub isCode : ℕ → ℕ → Bool
+isCode letter second = cond (eqb letter preOpenLetter) (isPreOpen second) (isCapital second)
+
+-- 01, the table's row 6, M-104: the first message's segment, which is listed, and a code of it
 unfoldable pub coded : ℕ → Option ℕ → List ℕ → Bool
 coded letter segment bytes =
-    eqb (letterOf bytes) letter && isCapital (secondOf bytes) && isSome segment
+    eqb (segmentLetterOf bytes) letter && isCode (letterOf bytes) (secondOf bytes) && isSome segment
 
 -- 01, the table's row 7: the last byte is 13
 unfoldable pub trailed : List ℕ → Bool

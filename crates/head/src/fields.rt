@@ -1,8 +1,11 @@
 // The fields of a message, each at its place. What stands past the end reads as zero, so that no caller checks first.
 ghost use mathlib.Core.Path.{_≡_};
 ghost use Rattle.forms.specs.Answers.{Tells, namedNumbers, formNamed};
-ghost use Rattle.head.specs.Fields.{letterOf, secondOf, lengthOf, numberOf, formIn};
+ghost use Rattle.head.specs.Fields.{letterOf, segmentLetterOf, secondOf, lengthOf, numberOf, formIn};
 use layout::Named;
+
+// The letter of the codes of pre-open.
+pub(crate) const PRE_OPEN: u8 = b'P';
 
 // Code (2), length (2), number (4), data, sum (2), end byte.
 const SECOND: usize = 1;
@@ -15,10 +18,21 @@ pub const DATA: usize = 8;
 
 pub const TRAILER: usize = 3;
 
-pub fn letter_of(bytes: &[u8]) -> u8
+pub(crate) fn letter_of(bytes: &[u8]) -> u8
     ensures { λ r. ⌜ r ≡ letterOf (now (bytes .entry)) ⌝ }
 {
     wire::u8_at(bytes, 0)
+}
+
+// P counts as F.
+pub fn segment_letter_of(bytes: &[u8]) -> u8
+    ensures { λ r. ⌜ r ≡ segmentLetterOf (now (bytes .entry)) ⌝ }
+{
+    let letter = letter_of(bytes);
+    if letter == PRE_OPEN {
+        return b'F';
+    }
+    letter
 }
 
 pub(crate) fn second_of(bytes: &[u8]) -> u8

@@ -6,7 +6,7 @@ ghost use Rattle.lookup.specs.Answers.{placeOf};
 ghost use Rattle.head.specs.GoodHead.{Framed};
 ghost use Rattle.head.specs.Fields.{lengthOf, formIn, sumSent, rightSum};
 ghost use Rattle.head.specs.Head.{frameRules, formRules};
-ghost use Rattle.head.specs.Tests.{framed, isCapital, coded, trailed, takesLength, summed, numbersSubject, takesNumber, isHeartbeat, sameBytes};
+ghost use Rattle.head.specs.Tests.{framed, isCapital, isPreOpen, isCode, coded, trailed, takesLength, summed, numbersSubject, takesNumber, isHeartbeat, sameBytes};
 ghost use Rattle.head.specs.Faults.{headNumbers};
 ghost use Rattle.head.specs.Rules.{firstFault};
 use crate::fields;
@@ -55,14 +55,30 @@ fn is_capital(second: u8) -> bool
     b'A' <= second && second <= b'Z'
 }
 
+// The P codes that the paper prints.
+fn is_pre_open(second: u8) -> bool
+    ensures { λ r. ⌜ r ≡ isPreOpen second ⌝ }
+{
+    (second == b'N') | ((second == b'O') | (second == b'C'))
+}
+
+fn is_code(letter: u8, second: u8) -> bool
+    ensures { λ r. ⌜ r ≡ isCode letter second ⌝ }
+{
+    if letter == fields::PRE_OPEN {
+        return is_pre_open(second);
+    }
+    is_capital(second)
+}
+
 // The letter's segment was looked up once for the batch.
 fn coded(letter: u8, segment: Found, bytes: &[u8]) -> bool
     ensures { λ r. ⌜ r ≡ coded letter (placeOf segment) (now (bytes .entry)) ⌝ }
 {
-    if fields::letter_of(bytes) != letter {
+    if fields::segment_letter_of(bytes) != letter {
         return false;
     }
-    if !is_capital(fields::second_of(bytes)) {
+    if !is_code(fields::letter_of(bytes), fields::second_of(bytes)) {
         return false;
     }
     match segment {

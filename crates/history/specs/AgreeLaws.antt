@@ -26,7 +26,7 @@ use Rattle.state.specs.declared.answers.Listed.{Listed}
 use Rattle.state.specs.declared.answers.Recorded.{Recorded}
 use Rattle.state.specs.Memory.{Lent, lends, gapRowIn}
 use Rattle.slots.specs.Slots.{Slot, slot as recordSlot}
-use Rattle.slots.specs.Places.{formFor}
+use Rattle.forms.specs.Forms.{sessionOf}
 use Rattle.state.specs.AnswersLaws.{listed-told}
 use Rattle.listing.specs.ListPromises.{ListedRuns}
 use Rattle.reading.specs.ReadsLaws.{one-read}
@@ -50,7 +50,7 @@ use Rattle.history.specs.ListingLaws.{fits-here, segment-good}
 use Rattle.history.specs.Exactly.{FoundNewest, ReadsNewest, no-record, a-record, SameTaken}
 use Rattle.history.specs.RecordLaws.{reads-key}
 use Rattle.history.specs.TakenLaws.{taken-apart, same-held, same-highest, same-newest}
-use Rattle.history.specs.Machine.{held, highestOf, sequenceNumber}
+use Rattle.history.specs.Machine.{held, highestOf, sequenceNumber, formSent}
 
 unlike : {m : Message} → some m ≡ none → ⊥
 unlike e = clash (cc)
@@ -127,7 +127,7 @@ module _ {lists : Lists} {rows records rows′ records′ starts starts′ : Lis
         go (a-record m u e f) (no-record v g h) = absurd (unlike (one (some m) none u v))
         go (a-record m u e f) (a-record k v g h) =
             let is : m ≡ k = same-some (one (some m) (some k) u v) in
-            (e ∙ ap (λ (n : Message). Recorded.Record (sequenceNumber n)) is ∙ sym g, f ∙ ap (λ (n : Message). shown (itemIn slot) (formFor slot) (n .cells)) is ∙ sym h)
+            (e ∙ ap (λ (n : Message). Recorded.Record (sequenceNumber n) (sessionOf (formSent n))) is ∙ sym g, f ∙ ap (λ (n : Message). shown (itemIn slot) (formSent n) (n .cells)) is ∙ sym h)
 
   -- ---- the letter is refused in both, or in neither
 

@@ -11,6 +11,8 @@ use Rattle.forms.specs.declared.rows.Level.{Level}
 use lib.ListN.{length}
 use lib.Seq.{sets}
 use Rattle.forms.specs.declared.forms.Form.{Form}
+use Rattle.forms.specs.declared.forms.Session.{Session}
+use Rattle.layout.specs.Cells.{sessionCell}
 use Rattle.forms.specs.declared.forms.Item.{Item}
 use Rattle.forms.specs.declared.forms.Item.the-variants.{Contract, Pair}
 use Rattle.pairs.specs.NoSpreads.{noSpreads}
@@ -43,7 +45,7 @@ use Rattle.listing.specs.ListPromises.{ListedRuns, WroteOffRun}
 use Rattle.starting.specs.StartPromisesLaws.{one-started, one-no-spreads}
 use Rattle.listing.specs.ListPromisesLaws.{one-listed, one-written-off}
 use Rattle.reading.specs.ReadsLaws.{one-read}
-use Rattle.reading.specs.Record.{recordNumber, recordOfKey, recordValues}
+use Rattle.reading.specs.Record.{recordNumber, recordSession, recordOfKey, recordValues}
 use Rattle.reading.specs.Shown.{QuoteFor, ReadsItem}
 use Rattle.history.specs.Calls as calls
 use Rattle.history.specs.Calls.{Answer, started, judged, took, listed, wroteOff, read, wrote, start, judge, take, listGaps, writeOff, readRecord, withLists}
@@ -63,13 +65,13 @@ off-numbers : (o : Option Refusal) (r : Run) → writtenOffNumbers (removed o r)
 off-numbers none r = refl
 off-numbers (some refusal) r = refl
 
-record-numbers : (o : Option Refusal) (n : ℕ) → recordedNumbers (recordAnswer o n) ≡ answered o (recordValues n)
-record-numbers none n = go (eqb n 0)
+record-numbers : (o : Option Refusal) (n : ℕ) (s : Session) → recordedNumbers (recordAnswer o n s) ≡ answered o (recordValues n s)
+record-numbers none n s = go (eqb n 0)
   where
-    go : (t : Bool) → recordedNumbers (cond t Recorded.NoRecord (Recorded.Record n)) ≡ 0 ∷ cond t (0 ∷ []) (1 ∷ n ∷ [])
+    go : (t : Bool) → recordedNumbers (cond t Recorded.NoRecord (Recorded.Record n s)) ≡ 0 ∷ cond t (0 ∷ []) (1 ∷ n ∷ sessionCell s ∷ [])
     go true = refl
     go false = refl
-record-numbers (some refusal) n = refl
+record-numbers (some refusal) n s = refl
 
 write-numbers : (o : Option Refusal) (n : ℕ) → writtenNumbers (writeAnswer o n) ≡ answered o (n ∷ [])
 write-numbers none n = refl
@@ -115,7 +117,7 @@ module _ (lent : Lent) where
 
   pub read-promised : (item : Item) (letter : ℕ) (key : List ℕ) (level : Level) → ReadsItem item lent letter key level (readAnswer item lent letter key level) (readQuote item lent letter key level)
   read-promised item letter key level =
-      record { answers = record-numbers (readRefusal item lent letter key) (recordNumber (lent .records) (recordOfKey item (lent .lists) letter key level)); quotes = refl }
+      record { answers = record-numbers (readRefusal item lent letter key) (recordNumber (lent .records) (recordOfKey item (lent .lists) letter key level)) (recordSession item (lent .records) (recordOfKey item (lent .lists) letter key level)); quotes = refl }
 
 module _ (item : Item) (code : Code) (level : Level) (number : ℕ) (key : List ℕ) (cells : Form → List ℕ) (out : List ℕ) where
   abbrev saidWritten : Written

@@ -11,9 +11,11 @@ use Rattle.lookup.specs.Lookup.{segmentOf}
 use Rattle.pairs.specs.Lists.{Lists}
 use Rattle.sequence.specs.Gaps.{most}
 use Rattle.quote.specs.Shows.{fieldNamed}
-use Rattle.forms.specs.Forms.{namedRows, rowsOf}
+use Rattle.forms.specs.declared.forms.Named.the-variants as is
+use Rattle.forms.specs.declared.forms.Subject.the-variants.{Of}
+use Rattle.forms.specs.Forms.{namedRows, rowsOf, subjectOf, sessionOf}
 use Rattle.forms.specs.Rows.{messageLength}
-use Rattle.head.specs.Fields.{lengthOf, numberOf, dataOf as dataIn}
+use Rattle.head.specs.Fields.{lengthOf, numberOf, formIn, dataOf as dataIn}
 use Rattle.message.specs.Good.{GoodMessage}
 use Rattle.message.specs.Message.{Message, messageKey as bytesKey}
 use Rattle.message.specs.Reads.{messageOf}
@@ -21,14 +23,13 @@ use Rattle.state.specs.declared.answers.Judged.{Judged}
 use Rattle.state.specs.declared.answers.Recorded.{Recorded}
 use Rattle.turns.specs.Compared.{comparedIn, comparedOf, reachedIn}
 use Rattle.slots.specs.Slots.{Slot}
-use Rattle.slots.specs.Places.{formFor}
 use Rattle.batch.specs.Batch.{batchLetter, countOf, batchData}
 use Rattle.batch.specs.Good.{GoodFront}
 use Rattle.starting.specs.Start.{startOf}
 use Rattle.history.specs.Past.{Event, came, wroteOffIn, takenOf, batchMessages, highestIn, missingIn, runsStanding, isTaken, isOld, howMany}
 use Rattle.reading.specs.Shown.{QuoteFor, shown, blankFor, ShowsEach}
-use Rattle.history.specs.Updates.{itemIn, keyIn, isOf}
-use Rattle.history.specs.Machine.{isHeartbeat, sequenceNumber, NamesExactly, TooMany}
+use Rattle.history.specs.Updates.{itemIn, levelIn, keyIn, isOf}
+use Rattle.history.specs.Machine.{isHeartbeat, sequenceNumber, formSent, NamesExactly, TooMany}
 
 -- demand 3: "the gap list names exactly the missing numbers" of segment i
 abbrev pub NamesMissing : ℕ → ℕ → List Event → ℕ → ℕ → List ℕ → Type 0
@@ -49,20 +50,22 @@ abbrev pub FoundNewest : Slot → List Message → Option Message → Type 0
 FoundNewest slot taken none = NoUpdate slot taken
 FoundNewest slot taken (some m) = IsNewest slot taken m
 
--- demand 3: "each record is its contract's highest-numbered update taken": its number, and its rows as they stand in its
--- message
+-- demand 3: "each record is its contract's highest-numbered update taken": its number, (M-104) its session, and its rows as they stand in
+-- its message
 pub data ReadsNewest (slot : Slot) (taken : List Message) (answer : Recorded) (quote : QuoteFor (itemIn slot)) : Type 0 where
   no-record : NoUpdate slot taken → answer ≡ Recorded.NoRecord → quote ≡ blankFor (itemIn slot) → ReadsNewest slot taken answer quote
-  a-record : (m : Message) → IsNewest slot taken m → answer ≡ Recorded.Record (sequenceNumber m) → quote ≡ shown (itemIn slot) (formFor slot) (m .cells)
+  a-record : (m : Message) → IsNewest slot taken m → answer ≡ Recorded.Record (sequenceNumber m) (sessionOf (formSent m)) → quote ≡ shown (itemIn slot) (formSent m) (m .cells)
       → ReadsNewest slot taken answer quote
 
--- demands 2 and 3: what an update of a slot is by its message's bytes: its number, the key of its contract or pair, its level by its length, and
--- its quote, which shows every field from the field of its name
+-- demands 2 and 3: what an update of a slot is by its message's bytes: its number, the key of its contract or pair, its form by its code and its
+-- length, which tells of the slot's contract or pair and level, and its quote, which shows every field from the field of its name
 pub record UpdateSays (lists : Lists) (bytes : List ℕ) (m : Message) (slot : Slot) : Type 0 where
   pub number-is : numberOf bytes ≡ sequenceNumber m
   pub key-is : bytesKey (itemIn slot) bytes ≡ keyIn lists slot
-  pub level-is : lengthOf bytes ≡ messageLength (rowsOf (formFor slot))
-  pub shows : ShowsEach (itemIn slot) (fieldNamed (namedRows (formFor slot)) (dataIn bytes)) (shown (itemIn slot) (formFor slot) (m .cells))
+  pub form-is : formIn bytes ≡ is.Form (formSent m)
+  pub level-is : lengthOf bytes ≡ messageLength (rowsOf (formSent m))
+  pub tells : subjectOf (formSent m) ≡ Of (itemIn slot) (levelIn slot)
+  pub shows : ShowsEach (itemIn slot) (fieldNamed (namedRows (formSent m)) (dataIn bytes)) (shown (itemIn slot) (formSent m) (m .cells))
 
 -- 01 "What the proof settles" (counts defined from the history): the counts of an accepted batch are those of its messages,
 -- each by what became of it when it came
@@ -74,10 +77,10 @@ pub record CountsCame (lists : Lists) (starts : List ℕ) (past : List Event) (b
   pub heartbeats-are : heartbeats ≡ howMany (λ before m. isHeartbeat (m .what)) segment (batchMessages lists batch) past
 
 -- M-102: the keys compared for a batch that was judged: they follow from its bytes and the lists alone, on a refusal from these and its
--- place; at most 13 for each 249 bytes
+-- place; at most 13 for each 204 bytes
 pub record CountsKeys (lists : Lists) (batch : List ℕ) (answer : Judged) : Type 0 where
   pub follows : comparedOf answer ≡ comparedIn (reachedIn (countOf batch) answer) lists (batchLetter batch) (batchData batch)
-  pub few : 249 * comparedOf answer ≤ 13 * length (batchData batch)
+  pub few : 204 * comparedOf answer ≤ 13 * length (batchData batch)
 
 -- 01 "Sequence and gaps": the past when the message that bytes begin with has come, of a letter and its segment i
 abbrev pub cameNext : Lists → ℕ → ℕ → List ℕ → List Event → List Event

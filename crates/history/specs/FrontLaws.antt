@@ -21,10 +21,12 @@ use Rattle.contracts.specs.SoundTests.{headerSound, sound}
 use Rattle.pairs.specs.SpreadTests.{spreadHeaderSound, spreadsSound}
 use Rattle.pairs.specs.Lists.{Lists, Headers}
 use Rattle.forms.specs.declared.rows.Level.{Level}
-use Rattle.layout.specs.Cells.{zerosBehind}
+use Rattle.layout.specs.Cells.{zerosBehind, sessionIn}
 use Rattle.forms.specs.declared.forms.Subject.{Subject}
 use Rattle.forms.specs.declared.forms.Subject.the-variants.{Of}
 use Rattle.forms.specs.declared.forms.Item.{Item}
+use Rattle.forms.specs.declared.forms.Item.the-variants as items
+use Rattle.forms.specs.declared.forms.Session.{Session}
 use Rattle.forms.specs.Forms.{recordForm, subjectOf, keyRowsOf}
 use Rattle.pairs.specs.Items.{fileOf, habitOf}
 use Rattle.sequence.specs.Gaps.{Gaps, takes, wanted}
@@ -46,9 +48,9 @@ use Rattle.state.specs.Answers.{leftBy}
 use Rattle.state.specs.Refusals.{Rule}
 use Rattle.state.specs.Memory.{Lent, lends, gapRowCells, gapRowsWanted, gapRowOf, gapRowIn}
 use Rattle.state.specs.MemoryRows.{withGapRow, withGapRowIn}
-use Rattle.slots.specs.Slots.{Slot, slot as recordSlot, SlotListed, recordsWanted}
+use Rattle.slots.specs.Slots.{Slot, slot as recordSlot, SlotListed, recordsWanted, cellsInFront}
 use Rattle.slots.specs.Places.{slotAt, slotIn, recordOf, recordRows}
-use Rattle.slots.specs.SlotsLaws.{cells-by-rows, slot-inside}
+use Rattle.slots.specs.SlotsLaws.{cells-by-rows, slot-inside, some-front}
 use Rattle.state.specs.State.{memoryRules, stateRules, segmentRules}
 use Rattle.state.specs.StateLaws.{is-some, state-exact, state-held, letter-listed, row-sound}
 use Rattle.turns.specs.ActsLaws.{acts-as}
@@ -63,7 +65,7 @@ use Rattle.listing.specs.ListActs.{runsPut, lowestRun, lentWrittenOff}
 use Rattle.listing.specs.ListRules.{gapsOfLetter, listRules, writeOffRules}
 use Rattle.reading.specs.ReadRules.{recordRules}
 use Rattle.listing.specs.ListActsLaws.{off-left}
-use Rattle.reading.specs.Record.{recordOfKey, recordNumber, cellsAt, quoteAt, quoteBeside}
+use Rattle.reading.specs.Record.{recordOfKey, recordNumber, recordSession, stampShown, stampSeen, cellsAt, quoteAt, quoteBeside}
 use Rattle.reading.specs.RecordLaws.{record-found}
 use Rattle.starting.specs.Start.{startRules, eachStarts}
 use Rattle.starting.specs.StartActs.{startBroken, startedRows, rowsStarted, recordsCleared, lentStarted}
@@ -127,12 +129,12 @@ module _ (lists : Lists) (headers : Headers lists) (letter : ℕ) where
           let level = tells-of lists headers letter bytes e in
           let cells : List ℕ = messageOf lists letter bytes .cells in
           let at : ℕ = slotAt lists (slotIn item (segmentOf (lists .contracts) letter) place (level .0)) in
-          let changed : List ℕ → List ℕ = updated lists (segmentOf (lists .contracts) letter) place (subjectOf form) number cells in
-          let same : updated lists (segmentOf (lists .contracts) letter) place (Of item (level .0)) number cells ≡ changed =
-          ap (λ (s : Subject). updated lists (segmentOf (lists .contracts) letter) place s number cells) (sym (level .1)) in
+          let changed : List ℕ → List ℕ = updated lists (segmentOf (lists .contracts) letter) place (subjectOf form) form number cells in
+          let same : updated lists (segmentOf (lists .contracts) letter) place (Of item (level .0)) form number cells ≡ changed =
+          ap (λ (s : Subject). updated lists (segmentOf (lists .contracts) letter) place s form number cells) (sym (level .1)) in
           acts-as lists letter bytes (messageOf lists letter bytes) refl e (frontBox v box) i
           ∙ number-front v box i number changed
-          (subst (λ (by : List ℕ → List ℕ). by (take v (box .records)) ≡ take v (by (box .records))) same (stored-front v at number (recordOf item (level .0) cells) (box .records) (record-wanted lists headers letter bytes e cells)))
+          (subst (λ (by : List ℕ → List ℕ). by (take v (box .records)) ≡ take v (by (box .records))) same (stored-front v at number (recordOf item form cells) (box .records) (record-wanted lists headers letter bytes e cells)))
           ∙ sym (ap (frontActs v) (acts-as lists letter bytes (messageOf lists letter bytes) refl e box i))
 
   messages-front : (count i : ℕ) (box : Box) (bytes : List ℕ) → messagesAct count lists letter i (frontBox v box) bytes ≡ frontActs v (messagesAct count lists letter i box bytes)
@@ -361,7 +363,7 @@ module _ (lent : Lent) (enough : Enough lent) where
     abbrev at : ℕ
     at = recordOfKey item lists letter key level
 
-    inside : readRefusal item lent letter key ≡ none → at + suc (recordRows item level) ≤ v′
+    inside : readRefusal item lent letter key ≡ none → at + cellsInFront item + recordRows item level ≤ v′
     unfolding recordRules
     inside e =
         let held = last-held (segmentRules lent letter) (record { holds = isSome (keyPlace item lists letter key); refusal = Contract 0 }) e in
@@ -371,31 +373,36 @@ module _ (lent : Lent) (enough : Enough lent) where
         let there : SlotListed lists own = (segment-has (lists .contracts) letter (f .0) (f .1) .0, key-at-place (habitOf item) (fileOf item lists) (f .0) key (place .0) (f .2) .0) in
         omega (arith, slot-inside lists (state-held lent letter (held .0) .headers) own there, cells-by-rows item level, record-found item lent letter key (held .0) (f .0) (f .1) (place .0) (f .2) level)
 
-    cells-same : readRefusal item lent letter key ≡ none → cellsAt item (front .records) at level ≡ cellsAt item (lent .records) at level
+    cells-same : readRefusal item lent letter key ≡ none → cellsAt item (stampShown item letter) (front .records) at level ≡ cellsAt item (stampShown item letter) (lent .records) at level
     unfolding cellsAt
     cells-same e =
         let room = inside e in
-        ap (λ (cells : List ℕ). zerosBehind (replicate (keyRowsOf item) 0 ++ cells)) (part-of-front (at + 1) (recordRows item level) v′ (lent .records) (omega arith))
+        ap (λ (cells : List ℕ). stampSeen (stampShown item letter) (zerosBehind (replicate (keyRowsOf item) 0 ++ cells))) (part-of-front (at + cellsInFront item) (recordRows item level) v′ (lent .records) (omega arith))
 
-    abbrev reads : Option Refusal → ℕ → QuoteFor item → Answer
-    reads o number quote = read item (recordAnswer o number) (quoteBeside (blankFor item) o quote)
+    abbrev reads : Option Refusal → ℕ → Session → QuoteFor item → Answer
+    reads o number session quote = read item (recordAnswer o number session) (quoteBeside (blankFor item) o quote)
+
+    session-same : (item′ : Item) → at + cellsInFront item′ ≤ v′ → recordSession item′ (front .records) at ≡ recordSession item′ (lent .records) at
+    session-same items.Contract room = ap sessionIn (getD-take v′ (lent .records) (at + 1) 0 (omega arith))
+    session-same items.Pair room = refl
 
     abbrev quoteThere : List ℕ → QuoteFor item
-    quoteThere records = quoteAt (shown item) (blankFor item) item records at level
+    quoteThere records = quoteAt (shown item) (blankFor item) item (stampShown item letter) records at level
 
     read-same : read item (readAnswer item front letter key level) (readQuote item front letter key level) ≡ read item (readAnswer item lent letter key level) (readQuote item lent letter key level)
     read-same =
-        ap (λ (o : Option Refusal). reads o (recordNumber (front .records) at) (quoteThere (front .records))) (reading-same letter item key)
+        ap (λ (o : Option Refusal). reads o (recordNumber (front .records) at) (recordSession item (front .records) at) (quoteThere (front .records))) (reading-same letter item key)
         ∙ go (readRefusal item lent letter key) refl
       where
         go : (o : Option Refusal) → readRefusal item lent letter key ≡ o
-            → reads o (recordNumber (front .records) at) (quoteThere (front .records)) ≡ reads o (recordNumber (lent .records) at) (quoteThere (lent .records))
+            → reads o (recordNumber (front .records) at) (recordSession item (front .records) at) (quoteThere (front .records)) ≡ reads o (recordNumber (lent .records) at) (recordSession item (lent .records) at) (quoteThere (lent .records))
         go (some refusal) e = refl
         go none e =
             let room = inside e in
-            let number = getD-take v′ (lent .records) at 0 (omega arith) in
+            let number = getD-take v′ (lent .records) at 0 (omega (arith, some-front item)) in
+            let session = session-same item (omega arith) in
             let cells = cells-same e in
-            λ k. reads none (number k) (cond (eqb (number k) 0) (blankFor item) (shown item (recordForm item level) (cells k)))
+            λ k. reads none (number k) (session k) (cond (eqb (number k) 0) (blankFor item) (shown item (recordForm item level) (cells k)))
 
 -- ---- every call
 

@@ -6,35 +6,35 @@ use mathlib.Core.List.{List, [], _∷_}
 use mathlib.Core.Option.{Option, none, some}
 use lib.ListN.{getD, take, drop}
 use Rattle.pairs.specs.Lists.{Lists}
-use Rattle.forms.specs.declared.forms.Form.{Form}
-use Rattle.forms.specs.declared.forms.Item.{Item}
-use Rattle.forms.specs.declared.forms.Item.the-variants.{Contract, Pair}
-use Rattle.quote.specs.Quote.{valuesOf}
-use Rattle.spread.specs.Spread.{spreadValuesOf}
+use Rattle.forms.specs.declared.forms.Subject.the-variants.{Of}
+use Rattle.forms.specs.Forms.{subjectOf}
 use Rattle.message.specs.Message.{Message}
 use Rattle.slots.specs.Slots.{Slot, SlotListed}
-use Rattle.slots.specs.Places.{formFor, slotAt, slotCells, recordOf}
+use Rattle.slots.specs.Places.{slotAt, slotCells, recordOf}
 use Rattle.history.specs.Past.{Event, takenFor}
-use Rattle.reading.specs.Shown.{QuoteFor}
-use Rattle.history.specs.Updates.{itemIn, levelIn, isOf}
-use Rattle.history.specs.Machine.{higher, sequenceNumber}
+use Rattle.reading.specs.Record.{stampShown}
+use Rattle.reading.specs.Shown.{QuoteFor, cellsFor, stampIn}
+use Rattle.history.specs.Updates.{itemIn, levelIn, letterIn, isOf}
+use Rattle.history.specs.Machine.{higher, sequenceNumber, formSent}
 
 -- demand 3: the highest-numbered update of a slot's contract or pair and level among messages of its segment, if there is one
 abbrev pub newest : Slot → List Message → Option Message
 newest slot [] = none
 newest slot (m ∷ ms) = cond (isOf slot (m .what)) (higher m (newest slot ms)) (newest slot ms)
 
--- lent memory: the cells of a quote that was read: an amount in range is its own cell, as it is its own value (`layout` PlainLaws: `has-value`)
-abbrev pub cellsFor : (item : Item) → Form → QuoteFor item → List ℕ
-cellsFor Contract form quote = valuesOf form quote
-cellsFor Pair form quote = spreadValuesOf form quote
-
--- 01 "What may be asked": a record that holds an update: its number, then its rows; its cells are those of a quote
-pub record HoldsUpdate (lists : Lists) (records : List ℕ) (slot : Slot) (m : Message) : Type 0 where
-  pub cells-kept : take (slotCells slot) (drop (slotAt lists slot) records) ≡ sequenceNumber m ∷ recordOf (itemIn slot) (levelIn slot) (m .cells)
+-- 01 "What may be asked": an update that a slot can hold: it tells of what the slot is for and has a number; its cells are those of a quote, and
+-- (M-104) it has a time stamp where one is shown
+pub record FitsSlot (lists : Lists) (slot : Slot) (m : Message) : Type 0 where
   pub some-number : 0 < sequenceNumber m
+  pub about : subjectOf (formSent m) ≡ Of (itemIn slot) (levelIn slot)
+  pub stamped : stampIn (itemIn slot) (formSent m) ≡ stampShown (itemIn slot) (letterIn lists slot)
   pub quote : QuoteFor (itemIn slot)
-  pub of-quote : m .cells ≡ cellsFor (itemIn slot) (formFor slot) quote
+  pub of-quote : m .cells ≡ cellsFor (itemIn slot) (formSent m) quote
+
+-- 01 "What may be asked": a record that holds an update: its number, then its other cells
+pub record HoldsUpdate (lists : Lists) (records : List ℕ) (slot : Slot) (m : Message) : Type 0 where
+  pub cells-kept : take (slotCells slot) (drop (slotAt lists slot) records) ≡ sequenceNumber m ∷ recordOf (itemIn slot) (formSent m) (m .cells)
+  pub fits : FitsSlot lists slot m
 
 -- 01 "What may be asked": "A contract with no update taken reads as 'no record'": its number is 0
 abbrev pub RecordHolds : Lists → List ℕ → Slot → Option Message → Type 0

@@ -2,13 +2,13 @@
 use Prim.Native.Nat.{ℕ, suc, _+_, _≤_, _<_}
 use mathlib.Core.Path.{_≡_, refl, sym, ap, subst, _∙_}
 use mathlib.Core.Bool.{true, false, cond, true≢false}
-use mathlib.Core.List.{List, _∷_, _++_}
+use mathlib.Core.List.{List, _∷_}
 use mathlib.Core.Option.{Option, none, some}
 use mathlib.Core.Logic.{_⊎_, inl, inr, ⊎-elim}
 use native.Mathlib.Omega.{arith}
 use borrow.Author.Tests.{lt-ltb, eq-eqb, ne-eqb, eqb-true}
 use lib.Dec.{ltb, eqb}
-use lib.ListN.{length, getD, take, drop, replicate}
+use lib.ListN.{length, getD, take, drop}
 use lib.Seq.{sets}
 use Rattle.pairs.specs.Lists.{Lists}
 use Rattle.laws.specs.Choice.{either}
@@ -17,43 +17,22 @@ use Rattle.forms.specs.declared.rows.Level.{Level}
 use Rattle.forms.specs.declared.rows.Level.the-variants.{One, Two}
 use Rattle.forms.specs.declared.forms.Item.{Item}
 use Rattle.forms.specs.declared.forms.Item.the-variants.{Contract, Pair}
-use Rattle.layout.specs.Cells.{zerosBehind}
-use Rattle.quote.specs.Quote.{valuesOf}
-use Rattle.spread.specs.Spread.{spreadValuesOf}
 use Rattle.forms.specs.declared.forms.Subject.{Subject}
 use Rattle.forms.specs.declared.forms.Subject.the-variants.{Nothing, Of}
 use Rattle.pairs.specs.Lists.{Headers}
-use Rattle.forms.specs.Forms.{namedRows, rowsOf, sameLevel, sameItem, subjectOf, keyRowsOf}
+use Rattle.forms.specs.Forms.{sameLevel, sameItem, subjectOf}
 use Rattle.message.specs.declared.body.What.{What}
 use Rattle.message.specs.declared.body.What.the-variants as what
 use Rattle.message.specs.Message.{Message}
 use Rattle.stores.specs.Stored.{stored}
-use Rattle.slots.specs.Slots.{Slot, slot as recordSlot, slotFor, SlotListed, recordsWanted}
-use Rattle.slots.specs.Places.{formFor, slotAt, slotCells, recordOf, recordRows}
-use Rattle.slots.specs.SlotsLaws.{cells-by-rows, slot-inside, slot-some, slots-apart}
-use Rattle.reading.specs.Shown.{QuoteFor}
+use Rattle.slots.specs.Slots.{Slot, slot as recordSlot, slotFor, SlotListed, recordsWanted, cellsInFront, levelCells}
+use Rattle.slots.specs.Places.{slotAt, slotCells, recordOf, recordRows}
+use Rattle.slots.specs.SlotsLaws.{cells-by-rows, record-long, slot-inside, slot-some, slots-apart}
+use Rattle.reading.specs.KeptLaws.{cells-wide}
 use Rattle.history.specs.Updates.{sameSlot, slotOf, isSlot, segmentIn, itemIn, levelIn}
-use Rattle.history.specs.Kept.{cellsFor, RecordHolds, HoldsUpdate}
+use Rattle.history.specs.Kept.{FitsSlot, RecordHolds, HoldsUpdate}
 use Rattle.history.specs.StoresLaws.{part-first, stored-here, stored-apart}
-use Rattle.history.specs.Machine.{sequenceNumber, higher}
-
--- ---- the cells of an update
-
-pub quote-long : (slot : Slot) (quote : QuoteFor (itemIn slot)) → length (recordOf (itemIn slot) (levelIn slot) (cellsFor (itemIn slot) (formFor slot) quote)) ≡ recordRows (itemIn slot) (levelIn slot)
-unfolding recordRows rowsOf namedRows valuesOf spreadValuesOf
-quote-long (recordSlot Contract i place One) quote = refl
-quote-long (recordSlot Contract i place Two) quote = refl
-quote-long (recordSlot Pair i place One) quote = refl
-quote-long (recordSlot Pair i place Two) quote = refl
-
--- the key's cells are 0, and so are those behind the last row
-pub quote-cells : (slot : Slot) (quote : QuoteFor (itemIn slot))
-    → zerosBehind (replicate (keyRowsOf (itemIn slot)) 0 ++ recordOf (itemIn slot) (levelIn slot) (cellsFor (itemIn slot) (formFor slot) quote)) ≡ cellsFor (itemIn slot) (formFor slot) quote
-unfolding rowsOf namedRows valuesOf spreadValuesOf
-quote-cells (recordSlot Contract i place One) quote = refl
-quote-cells (recordSlot Contract i place Two) quote = refl
-quote-cells (recordSlot Pair i place One) quote = refl
-quote-cells (recordSlot Pair i place Two) quote = refl
+use Rattle.history.specs.Machine.{sequenceNumber, formSent, higher}
 
 -- ---- one slot or another
 
@@ -95,9 +74,12 @@ not-its (recordSlot a j p x) i (what.Update number form place) n = go (subjectOf
     go Nothing = refl
     go (Of item level) = simp (ne-eqb i j n)
 
--- a slot's cells: its number, then one a row
-pub slot-rows : (slot : Slot) → slotCells slot ≡ suc (recordRows (itemIn slot) (levelIn slot))
+-- a slot's cells: those in front, then one a row
+pub slot-rows : (slot : Slot) → slotCells slot ≡ cellsInFront (itemIn slot) + recordRows (itemIn slot) (levelIn slot)
 slot-rows (recordSlot item i p level) = cells-by-rows item level
+
+slot-level : (slot : Slot) → slotCells slot ≡ levelCells (itemIn slot) (levelIn slot)
+slot-level (recordSlot item i p level) = refl
 
 -- ---- an update stored
 
@@ -114,26 +96,26 @@ module _ (lists : Lists) (records : List ℕ) (slot : Slot) where
   kept-number none k = k
   kept-number (some m) k = sym (part-first records at (slotCells slot) (slot-some slot)) ∙ ap (λ (l : List ℕ). getD l 0 0) (k .cells-kept)
 
-  module _ (m : Message) (some-number : 0 < sequenceNumber m) (quote : QuoteFor (itemIn slot)) (of-quote : m .cells ≡ cellsFor (itemIn slot) (formFor slot) quote) (room : at + slotCells slot ≤ length records) where
+  module _ (m : Message) (f : FitsSlot lists slot m) (room : at + slotCells slot ≤ length records) where
     abbrev own : List ℕ
-    own = sequenceNumber m ∷ recordOf (itemIn slot) (levelIn slot) (m .cells)
+    own = sequenceNumber m ∷ recordOf (itemIn slot) (formSent m) (m .cells)
 
     own-long : length own ≡ slotCells slot
-    own-long = ap suc (ap (λ (cells : List ℕ). length (recordOf (itemIn slot) (levelIn slot) cells)) of-quote ∙ quote-long slot quote) ∙ sym (slot-rows slot)
+    own-long =
+        record-long (formSent m) (itemIn slot) (levelIn slot) (f .about) (m .cells) (ap length (f .of-quote) ∙ cells-wide (itemIn slot) (formSent m) (f .quote))
+        ∙ sym (slot-level slot)
 
     put : HoldsUpdate lists (sets records at own) slot m
     put =
         let long = own-long in
         record {
           cells-kept = ap (λ (n : ℕ). take n (drop at (sets records at own))) (sym long) ∙ stored-here records own at (omega arith);
-          some-number = some-number;
-          quote = quote;
-          of-quote = of-quote;
+          fits = f;
         }
 
     -- "replaces its contract's record at its level only if its number is greater than the record's"
-    pub kept-stored : (o : Option Message) → RecordHolds lists records slot o → RecordHolds lists (stored at (sequenceNumber m) (recordOf (itemIn slot) (levelIn slot) (m .cells)) records) slot (higher m o)
-    kept-stored none k = rw (k, lt-ltb 0 (sequenceNumber m) some-number) put
+    pub kept-stored : (o : Option Message) → RecordHolds lists records slot o → RecordHolds lists (stored at (sequenceNumber m) (recordOf (itemIn slot) (formSent m) (m .cells)) records) slot (higher m o)
+    kept-stored none k = rw (k, lt-ltb 0 (sequenceNumber m) (f .some-number)) put
     kept-stored (some other) k =
         rw (kept-number (some other) k)
         (⊎-elim (λ (e : ltb (sequenceNumber other) (sequenceNumber m) ≡ true). rw e put) (λ (e : ltb (sequenceNumber other) (sequenceNumber m) ≡ false). rw e k) (either (ltb (sequenceNumber other) (sequenceNumber m))))
@@ -155,13 +137,13 @@ module _ (lists : Lists) (records : List ℕ) (slot : Slot) where
       moved none k =
           sym (part-first new at (slotCells slot) (slot-some slot)) ∙ ap (λ (l : List ℕ). getD l 0 0) part
           ∙ part-first records at (slotCells slot) (slot-some slot) ∙ k
-      moved (some m) k = record { cells-kept = part ∙ k .cells-kept; some-number = k .some-number; quote = k .quote; of-quote = k .of-quote }
+      moved (some m) k = record { cells-kept = part ∙ k .cells-kept; fits = k .fits }
 
 -- an update stored in its slot changes that one's record alone
 module _ (lists : Lists) (headers : Headers lists) (records : List ℕ) (long : recordsWanted lists ≤ length records) (own : Slot) (there : SlotListed lists own)
-    (m : Message) (some-number : 0 < sequenceNumber m) (quote : QuoteFor (itemIn own)) (of-quote : m .cells ≡ cellsFor (itemIn own) (formFor own) quote) where
+    (m : Message) (f : FitsSlot lists own m) where
   abbrev cells : List ℕ
-  cells = recordOf (itemIn own) (levelIn own) (m .cells)
+  cells = recordOf (itemIn own) (formSent m) (m .cells)
 
   abbrev new : List ℕ
   new = stored (slotAt lists own) (sequenceNumber m) cells records
@@ -170,7 +152,7 @@ module _ (lists : Lists) (headers : Headers lists) (records : List ℕ) (long : 
   room = omega (arith, slot-inside lists headers own there)
 
   cells-long : suc (length cells) ≡ slotCells own
-  cells-long = own-long lists records own m some-number quote of-quote room
+  cells-long = own-long lists records own m f room
 
   pub update-changes : (slot : Slot) → SlotListed lists slot → (o : Option Message) → RecordHolds lists records slot o → RecordHolds lists new slot (cond (sameSlot own slot) (higher m o) o)
   update-changes slot listed o k =
@@ -180,11 +162,11 @@ module _ (lists : Lists) (headers : Headers lists) (records : List ℕ) (long : 
       (kept-apart lists records slot (slotAt lists own) (sequenceNumber m) cells (subst (λ (n : ℕ). slotAt lists own + n ≤ length records) (sym cells-long) room)
       (⊎-elim (λ (b : slotAt lists own + slotCells own ≤ slotAt lists slot). inr (subst (λ (n : ℕ). slotAt lists own + n ≤ slotAt lists slot) (sym cells-long) b))
       (λ (b : slotAt lists slot + slotCells slot ≤ slotAt lists own). inl b)
-      (slots-apart lists headers own slot there listed (λ f. true≢false (sym (slot-itself own) ∙ ap (sameSlot own) f ∙ e))))
+      (slots-apart lists headers own slot there listed (λ same. true≢false (sym (slot-itself own) ∙ ap (sameSlot own) same ∙ e))))
       o k))
       (either (sameSlot own slot))
     where
       here : own ≡ slot → RecordHolds lists new slot (higher m o)
-      here f =
-          subst (λ (s : Slot). RecordHolds lists new s (higher m o)) f
-          (kept-stored lists records own m some-number quote of-quote room o (subst (λ (s : Slot). RecordHolds lists records s o) (sym f) k))
+      here same =
+          subst (λ (s : Slot). RecordHolds lists new s (higher m o)) same
+          (kept-stored lists records own m f room o (subst (λ (s : Slot). RecordHolds lists records s o) (sym same) k))

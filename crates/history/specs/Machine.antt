@@ -17,7 +17,9 @@ use Rattle.sequence.specs.Row.{pairs}
 use Rattle.sequence.specs.Runs.{Run, _to_, run, names, missing, runsIn}
 use Rattle.forms.specs.declared.rows.Level.{Level}
 use Rattle.forms.specs.declared.forms.Item.{Item}
-use Rattle.forms.specs.Forms.{recordForm}
+use Rattle.forms.specs.declared.forms.Form.{Form}
+use Rattle.forms.specs.declared.forms.Form.the-variants as form
+use Rattle.forms.specs.Forms.{sessionOf}
 use Rattle.message.specs.declared.body.What.{What}
 use Rattle.message.specs.declared.body.What.the-variants.{Heartbeat, PassedOver, Update, Bad}
 use Rattle.head.specs.declared.head.Fault.{Fault}
@@ -67,6 +69,17 @@ isHeartbeat (Bad fault) = false
 -- 01 "The message": its sequence number
 abbrev pub sequenceNumber : Message → ℕ
 sequenceNumber m = numberIn (m .what)
+
+-- 01 "The message": the form of an update, by its code and its length
+abbrev pub whatForm : What → Form
+whatForm Heartbeat = form.Heartbeat
+whatForm (PassedOver number) = form.Heartbeat
+whatForm (Update number own place) = own
+whatForm (Bad fault) = form.Heartbeat
+
+-- 01 "The message": the form that a message was sent in
+abbrev pub formSent : Message → Form
+formSent m = whatForm (m .what)
 
 -- 01 "Sequence and gaps": one of the messages has the number
 abbrev pub held : List Message → ℕ → Bool
@@ -293,15 +306,15 @@ pub record AsksFor (lists : Lists) (item : Item) (letter : ℕ) (key : List ℕ)
   pub of-key : keyIn lists slot ≡ key
   pub of-level : levelIn slot ≡ level
 
--- 01 "What may be asked": what is answered of a slot: "A record holds its update's number and rows"
+-- 01 "What may be asked": what is answered of a slot: "A record holds its update's number and rows"; M-104: and which session wrote it
 abbrev pub answerFor : Option Message → Recorded
 answerFor none = Recorded.NoRecord
-answerFor (some message) = Recorded.Record (sequenceNumber message)
+answerFor (some message) = Recorded.Record (sequenceNumber message) (sessionOf (formSent message))
 
 -- 01 "What may be asked": and the quote beside that answer
-abbrev pub quoteBesideIt : (item : Item) → Level → Option Message → QuoteFor item
-quoteBesideIt item level none = blankFor item
-quoteBesideIt item level (some message) = shown item (recordForm item level) (message .cells)
+abbrev pub quoteBesideIt : (item : Item) → Option Message → QuoteFor item
+quoteBesideIt item none = blankFor item
+quoteBesideIt item (some message) = shown item (formSent message) (message .cells)
 
 -- 01 "What may be asked": a record is the newest update of its slot; 6, then 13
 pub data Reads (m : Machine) (item : Item) (letter : ℕ) (key : List ℕ) (level : Level) : Recorded → QuoteFor item → Type 0 where
@@ -309,7 +322,7 @@ pub data Reads (m : Machine) (item : Item) (letter : ℕ) (key : List ℕ) (leve
   no-key : LetterListed (m .lists .contracts) letter → (KeyListed item (m .lists) letter key → ⊥)
       → Reads m item letter key level (Recorded.Refused (refusal.Contract 0)) (blankFor item)
   the-newest : (slot : Slot) → AsksFor (m .lists) item letter key level slot
-      → Reads m item letter key level (answerFor (m .newest slot)) (quoteBesideIt item level (m .newest slot))
+      → Reads m item letter key level (answerFor (m .newest slot)) (quoteBesideIt item (m .newest slot))
 
 -- 01 "Sequence and gaps": a start begins anew, with so many cells lent; a refused one changes nothing
 pub data Starts (rows records : ℕ) (m : Machine) (lists : Lists) (starts : List ℕ) : Started → Machine → Type 0 where

@@ -188,7 +188,7 @@ module _ (m : Machine) (letter : ℕ) where
   one-reading sound (machine.Reads.the-newest slot p) (machine.Reads.no-key l v) = absurd (v (slot-there slot p .1))
   one-reading sound {item} {level = level} (machine.Reads.the-newest slot p) (machine.Reads.the-newest other q) =
       let same = one-slot sound slot other p q in
-      (ap (λ (s : Slot). answerFor (m .newest s)) same, ap (λ (s : Slot). quoteBesideIt item level (m .newest s)) same)
+      (ap (λ (s : Slot). answerFor (m .newest s)) same, ap (λ (s : Slot). quoteBesideIt item (m .newest s)) same)
 
 module _ (rows records : ℕ) (m : Machine) where
   one-start : {lists : Lists} {starts : List ℕ} {a b : Started} {m′ m″ : Machine} → Starts rows records m lists starts a m′ → Starts rows records m lists starts b m″ → (a ≡ b) × (m′ ≡ m″)

@@ -47,7 +47,8 @@ use Rattle.listing.specs.ListPromisesLaws.{list-refusal, runs-in-cells}
 use Rattle.listing.specs.ListActs.{listValues, lowestRun, runValues}
 use Rattle.listing.specs.ListRules.{gapsOfLetter, listRules, writeOffRules}
 use Rattle.reading.specs.ReadRules.{recordRules}
-use Rattle.reading.specs.Record.{recordNumber, recordOfKey, recordValues, quoteAt, quoteBeside}
+use Rattle.forms.specs.declared.forms.Session.{Session}
+use Rattle.reading.specs.Record.{recordNumber, recordOfKey, recordValues, quoteAt, quoteBeside, recordSession, stampShown}
 use Rattle.reading.specs.RecordLaws.{segment-broken, key-broken}
 use Rattle.starting.specs.Start.{startOf, startRules}
 use Rattle.starting.specs.StartLaws.{start-exact}
@@ -139,6 +140,9 @@ module _ {starts : List ℕ} {lent : Lent} {past : List Event} (r : Reached star
     abbrev number : ℕ
     number = recordNumber (lent .records) (recordOfKey item lists letter key level)
 
+    abbrev session : Session
+    session = recordSession item (lent .records) (recordOfKey item lists letter key level)
+
     -- by the answer and the quote that are read
     reads-so : {a : Recorded} {q : QuoteFor item} → (answer ≡ a) × (quote ≡ q) → Reads now item letter key level a q → Reads now item letter key level answer quote
     reads-so {a} {q} is reads =
@@ -146,8 +150,8 @@ module _ {starts : List ℕ} {lent : Lent} {past : List Event} (r : Reached star
 
     read-refused : (q : Refusal) → firstBroken (recordRules item lent letter key) ≡ some q → (answer ≡ Recorded.Refused q) × (quote ≡ blankFor item)
     read-refused q broken = (
-      recorded-told answer (Recorded.Refused q) (p .answers ∙ ap (λ (o : Option Refusal). answered o (recordValues number)) broken),
-      p .quotes ∙ ap (λ (o : Option Refusal). quoteBeside (blankFor item) o (quoteAt (shown item) (blankFor item) item (lent .records) (recordOfKey item lists letter key level) level)) broken,
+      recorded-told answer (Recorded.Refused q) (p .answers ∙ ap (λ (o : Option Refusal). answered o (recordValues number session)) broken),
+      p .quotes ∙ ap (λ (o : Option Refusal). quoteBeside (blankFor item) o (quoteAt (shown item) (blankFor item) item (stampShown item letter) (lent .records) (recordOfKey item lists letter key level) level)) broken,
     )
 
     module _ (i : ℕ) (s : segmentOf (lists .contracts) letter ≡ some i) where

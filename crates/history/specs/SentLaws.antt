@@ -16,7 +16,10 @@ use Rattle.lookup.specs.Lookup.{segmentOf}
 use Rattle.lookup.specs.LookupLaws.{segment-has, key-at-place}
 use Rattle.pairs.specs.Lists.{Lists}
 use Rattle.forms.specs.declared.rows.Level.{Level}
-use Rattle.forms.specs.Forms.{recordForm}
+use Rattle.forms.specs.declared.forms.Session.{Session}
+use Rattle.forms.specs.Forms.{sessionOf}
+use Rattle.layout.specs.Cells.{sessionCell}
+use Rattle.head.specs.HeadLaws.{session-by}
 use Rattle.forms.specs.declared.forms.Item.{Item}
 use Rattle.pairs.specs.Items.{fileOf, habitOf}
 use Rattle.message.specs.declared.body.What.{What}
@@ -53,7 +56,7 @@ use Rattle.history.specs.Exactly.{ReadsNewest, no-record, a-record, Upda
 use Rattle.history.specs.KeptLaws.{same-slot}
 use Rattle.history.specs.RecordLaws.{reads-key, update-says}
 use Rattle.history.specs.Sent.{messageStarts, Source, ShownAsSent}
-use Rattle.history.specs.Machine.{comesNew, taking, sequenceNumber}
+use Rattle.history.specs.Machine.{comesNew, taking, sequenceNumber, formSent}
 
 -- ---- where a message that came is from
 
@@ -178,18 +181,18 @@ taken-came i first (came j k ∷ past) m among = go (eqb j i) refl among (λ bef
 -- ---- the theorem
 
 -- a record that is answered is that of a listed key
-record-listed : {item : Item} {lent : Lent} {letter number : ℕ} {key : List ℕ} {level : Level} {answer : Recorded} {quote : QuoteFor item} → ReadsItem item lent letter key level answer quote
-    → answer ≡ Recorded.Record number
+record-listed : {item : Item} {lent : Lent} {letter number : ℕ} {session : Session} {key : List ℕ} {level : Level} {answer : Recorded} {quote : QuoteFor item} → ReadsItem item lent letter key level answer quote
+    → answer ≡ Recorded.Record number session
     → (i : ℕ) × (place : ℕ) × (segmentOf (lent .lists .contracts) letter ≡ some i) × (placeIn item (lent .lists) i key ≡ some place)
 unfolding recordRules
-record-listed {item} {lent} {letter} {number} {key} {level} p e =
-    let held : firstBroken (recordRules item lent letter key) ≡ none = accepted-by (firstBroken (recordRules item lent letter key)) _ (1 ∷ number ∷ []) (ap recordedNumbers (sym e) ∙ p .answers) .0 in
+record-listed {item} {lent} {letter} {number} {session} {key} {level} p e =
+    let held : firstBroken (recordRules item lent letter key) ≡ none = accepted-by (firstBroken (recordRules item lent letter key)) _ (1 ∷ number ∷ sessionCell session ∷ []) (ap recordedNumbers (sym e) ∙ p .answers) .0 in
     let there = is-some (keyPlace item (lent .lists) letter key) (last-held (segmentRules lent letter) _ held .1) in
     let found = key-found item (lent .lists) letter key (there .0) (there .1) in
     (found .0, there .0, found .1, found .2)
 
 -- an update of a slot has that slot
-own-slot : (slot : Slot) (what : What) → isOf slot what ≡ true → slotOf (segmentIn slot) what ≡ some slot
+pub own-slot : (slot : Slot) (what : What) → isOf slot what ≡ true → slotOf (segmentIn slot) what ≡ some slot
 own-slot slot what is = go (slotOf (segmentIn slot) what) refl is
   where
     go : (o : Option Slot) → slotOf (segmentIn slot) what ≡ o → isSlot slot o ≡ true → slotOf (segmentIn slot) what ≡ some slot
@@ -213,7 +216,7 @@ module _ {starts : List ℕ} {lent : Lent} {past : List Event} (r : Reached star
     slot = recordSlot item i place level
 
     sent : (key : List ℕ) → keyBy (habitOf item) (fileOf item lists) i place ≡ key → (m : Message) → List·Memᴰ m (takenOf i (startOf starts i) past) → isOf slot (m .what) ≡ true
-        → ShownAsSent (batchesOf r) item letter key level (sequenceNumber m) (shown item (recordForm item level) (m .cells))
+        → ShownAsSent (batchesOf r) item letter key level (sequenceNumber m) (sessionOf (formSent m)) (shown item (formSent m) (m .cells))
     sent key key-is m taken of-slot =
         let source = taken-from i m taken in
         let from : ℕ = batchLetter (source .batch) in
@@ -231,23 +234,28 @@ module _ {starts : List ℕ} {lent : Lent} {past : List Event} (r : Reached star
           in-batch = source .in-batch;
           number-is = says .number-is;
           key-is = says .key-is ∙ key-is;
+          session-is = sym (session-by bytes (formSent m) (says .form-is));
+          form = formSent m;
+          form-is = says .form-is;
           level-is = says .level-is;
+          tells = says .tells;
           shows = says .shows;
         }
 
   -- what is answered of a record is what was sent
-  pub shown-as-sent : (item : Item) (letter : ℕ) (key : List ℕ) (level : Level) (answer : Recorded) (quote : QuoteFor item) (number : ℕ) → ReadsItem item lent letter key level answer quote
-      → answer ≡ Recorded.Record number → ShownAsSent (batchesOf r) item letter key level number quote
-  shown-as-sent item letter key level answer quote number p e =
+  pub shown-as-sent : (item : Item) (letter : ℕ) (key : List ℕ) (level : Level) (answer : Recorded) (quote : QuoteFor item) (number : ℕ) (session : Session) → ReadsItem item lent letter key level answer quote
+      → answer ≡ Recorded.Record number session → ShownAsSent (batchesOf r) item letter key level number session quote
+  shown-as-sent item letter key level answer quote number session p e =
       let found = record-listed {item = item} {lent = lent} {key = key} {level = level} {quote = quote} p e in
       let i : ℕ = found .0 in
       let place : ℕ = found .1 in
       go i (found .2) place (key-at-place (habitOf item) (fileOf item lists) i key place (found .3) .1) (reads-key r item letter i (found .2) key place (found .3) level answer quote p)
     where
       go : (i : ℕ) → segmentOf (lists .contracts) letter ≡ some i → (place : ℕ) → keyBy (habitOf item) (fileOf item lists) i place ≡ key
-          → ReadsNewest (recordSlot item i place level) (takenOf i (startOf starts i) past) answer quote → ShownAsSent (batchesOf r) item letter key level number quote
-      go i s place key-is (no-record none-taken says shows) = let both : Recorded.NoRecord ≡ Recorded.Record number = sym says ∙ e in absurd (clash (cc))
+          → ReadsNewest (recordSlot item i place level) (takenOf i (startOf starts i) past) answer quote → ShownAsSent (batchesOf r) item letter key level number session quote
+      go i s place key-is (no-record none-taken says shows) = let both : Recorded.NoRecord ≡ Recorded.Record number session = sym says ∙ e in absurd (clash (cc))
       go i s place key-is (a-record m newest says shows) =
-          let both : Recorded.Record (sequenceNumber m) ≡ Recorded.Record number = sym says ∙ e in
+          let both : Recorded.Record (sequenceNumber m) (sessionOf (formSent m)) ≡ Recorded.Record number session = sym says ∙ e in
           let same : sequenceNumber m ≡ number = cc in
-          rw (← same, shows) (sent letter i s item place level key key-is m (newest .was-taken) (newest .of-slot))
+          let sent-in : sessionOf (formSent m) ≡ session = cc in
+          rw (← same, ← sent-in, shows) (sent letter i s item place level key key-is m (newest .was-taken) (newest .of-slot))

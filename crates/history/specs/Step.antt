@@ -11,6 +11,7 @@ use Rattle.pairs.specs.Lists.{Lists}
 use Rattle.laws.specs.Rules.{firstBroken}
 use Rattle.forms.specs.declared.rows.Level.{Level}
 use Rattle.forms.specs.declared.forms.Form.{Form}
+use Rattle.forms.specs.declared.forms.Session.{Session}
 use Rattle.forms.specs.declared.forms.Item.{Item}
 use Rattle.forms.specs.declared.forms.Item.the-variants.{Contract, Pair}
 use Rattle.pairs.specs.NoSpreads.{noSpreads}
@@ -37,7 +38,7 @@ use Rattle.listing.specs.ListActs.{runsPut, lowestRun, lentWrittenOff}
 use Rattle.listing.specs.ListRules.{gapsOfLetter, listRules, writeOffRules}
 use Rattle.starting.specs.NoSpreadsRules.{noSpreadsRules}
 use Rattle.reading.specs.ReadRules.{recordRules}
-use Rattle.reading.specs.Record.{recordOfKey, recordNumber, quoteAt, quoteBeside}
+use Rattle.reading.specs.Record.{recordOfKey, recordNumber, recordSession, stampShown, quoteAt, quoteBeside}
 use Rattle.reading.specs.Shown.{QuoteFor, shown, blankFor}
 use Rattle.history.specs.Calls as calls
 use Rattle.history.specs.Calls.{Answer, Call, judge, judged, listGaps, listed, read, readRecord, start, started, take, took, withLists, writeMessage, writeSpread, writeOff, wrote, wroteOff}
@@ -87,18 +88,20 @@ abbrev pub readRefusal : Item → Lent → ℕ → List ℕ → Option Refusal
 readRefusal item lent letter key = firstBroken (recordRules item lent letter key)
 
 -- 01 "What may be asked": a record by its number, and "no record" where that is 0
-abbrev pub recordAnswer : Option Refusal → ℕ → Recorded
-recordAnswer (some refusal) number = Recorded.Refused refusal
-recordAnswer none number = cond (eqb number 0) Recorded.NoRecord (Recorded.Record number)
+abbrev pub recordAnswer : Option Refusal → ℕ → Session → Recorded
+recordAnswer (some refusal) number session = Recorded.Refused refusal
+recordAnswer none number session = cond (eqb number 0) Recorded.NoRecord (Recorded.Record number session)
 
--- 01 "What may be asked": "A record holds its update's number and rows": its number
+-- 01 "What may be asked": "A record holds its update's number and rows": its number; M-104: and its session
 abbrev pub readAnswer : Item → Lent → ℕ → List ℕ → Level → Recorded
-readAnswer item lent letter key level = recordAnswer (readRefusal item lent letter key) (recordNumber (lent .records) (recordOfKey item (lent .lists) letter key level))
+readAnswer item lent letter key level =
+    recordAnswer (readRefusal item lent letter key) (recordNumber (lent .records) (recordOfKey item (lent .lists) letter key level))
+    (recordSession item (lent .records) (recordOfKey item (lent .lists) letter key level))
 
 -- 01 "What may be asked": and its rows
 abbrev pub readQuote : (item : Item) → Lent → ℕ → List ℕ → Level → QuoteFor item
 readQuote item lent letter key level =
-    quoteBeside (blankFor item) (readRefusal item lent letter key) (quoteAt (shown item) (blankFor item) item (lent .records) (recordOfKey item (lent .lists) letter key level) level)
+    quoteBeside (blankFor item) (readRefusal item lent letter key) (quoteAt (shown item) (blankFor item) item (stampShown item letter) (lent .records) (recordOfKey item (lent .lists) letter key level) level)
 
 -- 01, the order of checks: the first broken rule of the writer, of a contract or of a pair, with the cells of its quote
 abbrev pub writeRefusal : Item → Code → Level → ℕ → List ℕ → (Form → List ℕ) → List ℕ → Option Refusal

@@ -35,13 +35,13 @@ use Rattle.turns.specs.ComparedLaws.{not-both}
 use Rattle.turns.specs.MessagesLaws.{messages-next, messages-refused}
 use Rattle.starting.specs.Start.{startOf}
 use Rattle.history.specs.Past.{Event, came, wroteOffIn, takenOf, messagesOf, takenFor}
-use Rattle.history.specs.Updates.{slotOf, isSlot, segmentIn, itemIn, levelIn}
+use Rattle.history.specs.Updates.{slotOf, isSlot, segmentIn, itemIn}
 use Rattle.history.specs.SegmentLaws.{takes-new, fits-taken}
 use Rattle.history.specs.Kept.{newest, RecordsFit, RecordHolds}
 use Rattle.history.specs.KeptLaws.{not-its, update-changes}
 use Rattle.history.specs.DoesLaws.{storedIn, Does, is-bad, beats, passes, updates, does}
 use Rattle.history.specs.Turn.{BoxFits, Turned}
-use Rattle.history.specs.Machine.{isNumbered, comesNew, taking, isHeartbeat, sequenceNumber, higher}
+use Rattle.history.specs.Machine.{isNumbered, comesNew, taking, isHeartbeat, sequenceNumber, formSent, higher}
 
 -- ---- what was taken when one more message has come
 
@@ -241,12 +241,12 @@ module _ (lists : Lists) (starts : List ℕ) (letter i : ℕ) (listed : segmentO
             (λ slot there o kept. subst (λ (s : Option Slot). RecordHolds lists (box .records) slot (cond (isSlot slot s) (higher m o) o)) (sym none-of) kept))
             k box′ (sym (is box k) ∙ acts)
         go (updates own numbered of-own is u) =
-            number-turns m (numbered .0) (storedIn lists own m) (stored-long (slotAt lists own) (sequenceNumber m) (recordOf (itemIn own) (levelIn own) (m .cells)) (box .records))
+            number-turns m (numbered .0) (storedIn lists own m) (stored-long (slotAt lists own) (sequenceNumber m) (recordOf (itemIn own) (formSent m) (m .cells)) (box .records))
             (λ new.
             records-changed lists starts (box .records) i past m (f .records-fit) (storedIn lists own m (box .records)) new
             (λ slot there o kept.
             subst (λ (s : Option Slot). RecordHolds lists (storedIn lists own m (box .records)) slot (cond (isSlot slot s) (higher m o) o)) (sym of-own)
-            (update-changes lists (f .headers) (box .records) (f .records-long) own (u .listed) m (u .some-number) (u .quote) (u .of-quote) slot there o kept)))
+            (update-changes lists (f .headers) (box .records) (f .records-long) own (u .listed) m (u .fits) slot there o kept)))
             k box′ (sym (is box k) ∙ acts)
 
 -- ---- messages in turn

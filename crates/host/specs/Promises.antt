@@ -64,7 +64,7 @@ pub record HostReads {A : Type 0} (show : Form → List ℕ → A) (blank : A) (
   pub quote : A
   pub promised : ReadsFor show blank item lent letter key level recorded quote
   pub tells : Tells (recordNumbers recorded) returned answer′
-  pub shows : values′ ≡ valuesAfter recorded (valuesOf level quote) values
+  pub shows : values′ ≡ valuesAfter item recorded (valuesOf level quote) values
 
 -- 01 "What may be asked": a contract's record
 abbrev pub HostRead : Lent → ℕ → List ℕ → Level → List ℕ → ℕ → List ℕ → List ℕ → Type 0

@@ -52,11 +52,11 @@ pub read-once : {A : Type 0} {show : Form → List ℕ → A} {blank : A} {value
     {key values values′ values″ answer′ answer″ : List ℕ} {letter r s : ℕ} {level : Level}
     → HostReads show blank valuesOf item lent letter key level values r values′ answer′ → HostReads show blank valuesOf item lent letter key level values s values″ answer″
     → ((r ≡ s) × (answer′ ≡ answer″)) × (values′ ≡ values″)
-read-once {A} {valuesOf = valuesOf} {values = values} {level = level} p q =
+read-once {A} {valuesOf = valuesOf} {item = item} {values = values} {level = level} p q =
     let same : p .recorded ≡ q .recorded = recorded-told (p .recorded) (q .recorded) (p .promised .answers ∙ sym (q .promised .answers)) in
     let quotes : p .quote ≡ q .quote = p .promised .quotes ∙ sym (q .promised .quotes) in (
       told-once recordNumbers same (p .tells) (q .tells),
-      p .shows ∙ ap₂ (λ (r : Recorded) (x : A). valuesAfter r (valuesOf level x) values) same quotes ∙ sym (q .shows),
+      p .shows ∙ ap₂ (λ (r : Recorded) (x : A). valuesAfter item r (valuesOf level x) values) same quotes ∙ sym (q .shows),
     )
 
 pub write-once : {item : Item} {values : Form → List ℕ} {code key out out′ out″ answer′ answer″ : List ℕ} {level : Level} {number r s : ℕ}

@@ -89,7 +89,7 @@ module _ (a b : Box) (same : Alike a b) where
       go what.Heartbeat = record { gaps = same .gaps; taken = same .taken; old = same .old; heartbeats = ap suc (same .heartbeats) }
       go (what.PassedOver number) = number-alike i number (λ records. records) (λ records. records)
       go (what.Update number form place) =
-          number-alike i number (updated lists (segmentOf (lists .contracts) letter) place (subjectOf form) number cells) (updated lists (segmentOf (lists .contracts) letter) place (subjectOf form) number cells)
+          number-alike i number (updated lists (segmentOf (lists .contracts) letter) place (subjectOf form) form number cells) (updated lists (segmentOf (lists .contracts) letter) place (subjectOf form) form number cells)
 
 -- ---- the messages of a batch
 

@@ -72,7 +72,7 @@ module _ {lists : Lists} {rows records rows′ records′ starts starts′ : Lis
         same-records = λ item letter key level values n k values′ values″ answer′ answer″ p q.
             let one = records-agree r r′ same item letter key level (p .recorded) (q .recorded) (p .quote) (q .quote) (p .promised) (q .promised) in (
               told-once recordNumbers (one .0) (p .tells) (q .tells),
-              p .shows ∙ ap₂ (λ (x : Recorded) (y : QuoteFor item). valuesAfter x (valuesFor item level y) values) (one .0) (one .1) ∙ sym (q .shows),
+              p .shows ∙ ap₂ (λ (x : Recorded) (y : QuoteFor item). valuesAfter item x (valuesFor item level y) values) (one .0) (one .1) ∙ sym (q .shows),
             );
         same-verdicts = λ batch n k answer′ answer″ p q.
             told-once judgedNumbers (verdicts-agree batch (p .judged) (q .judged) (p .promised) (q .promised)) (p .tells) (q .tells);

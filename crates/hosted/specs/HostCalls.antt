@@ -74,7 +74,7 @@ valuesLeft (judge batch) item answer quote = []
 valuesLeft (take batch) item answer quote = []
 valuesLeft (listGaps letter cells) item answer quote = []
 valuesLeft (writeOff letter) item answer quote = []
-valuesLeft (read asked level letter key values) item answer quote = valuesAfter answer (valuesFor item level quote) values
+valuesLeft (read asked level letter key values) item answer quote = valuesAfter item answer (valuesFor item level quote) values
 valuesLeft (write asked level code number key values out) item answer quote = []
 valuesLeft (noSpreads list out) item answer quote = []
 

@@ -16,7 +16,7 @@ use Rattle.message.specs.Message.{Message}
 use Rattle.state.specs.GoodState.{GoodState}
 use Rattle.state.specs.Memory.{Lent}
 use Rattle.slots.specs.Slots.{Slot, SlotListed}
-use Rattle.slots.specs.Places.{formFor}
+use Rattle.forms.specs.Forms.{sessionOf}
 use Rattle.turns.specs.Compared.{comparedIn}
 use Rattle.batch.specs.Batch.{countOf, batchLetter, batchData}
 use Rattle.starting.specs.Start.{startOf}
@@ -26,9 +26,9 @@ use Rattle.reading.specs.Shown.{shown}
 use Rattle.history.specs.Updates.{itemIn, letterIn, keyIn, levelIn}
 use Rattle.history.specs.Exactly.{NamesMissing, IsNewest, NoUpdate, CountsCame, OverInBatch}
 use Rattle.host.specs.Promises.{HostStarted, HostJudged, HostTook, HostListed, HostWroteOff, HostPutNoSpreads}
-use Rattle.told.specs.Shown.{valueCount}
+use Rattle.told.specs.Shown.{valuesInFront, valueCount}
 use Rattle.hosted.specs.HostItems.{valuesFor, HostReadItem, HostWroteItem}
-use Rattle.history.specs.Machine.{sequenceNumber, LowestRun}
+use Rattle.history.specs.Machine.{sequenceNumber, formSent, LowestRun}
 
 -- the host's header: the number that a function returns, and the four of `answer`
 pub record GivesFour (returned : ℕ) (answer : List ℕ) (number first second third fourth : ℕ) : Type 0 where
@@ -51,12 +51,12 @@ pub data TellsLowest (missing : ℕ → Bool) (lent : Lent) (returned : ℕ) (le
   a-run : (first last : ℕ) → LowestRun missing first last → Gives returned answer′ 0 first last 0 → TellsLowest missing lent returned lent′ answer′
   no-run : ((n : ℕ) → missing n ≡ false) → Gives returned answer′ 17 0 0 0 → lent′ ≡ lent → TellsLowest missing lent returned lent′ answer′
 
--- demand 3: "each record is its contract's highest-numbered update taken": 1 and its number and rows among the values, and every value
+-- demand 3: "each record is its contract's highest-numbered update taken": 1 and its number, session and rows among the values, and every value
 -- behind them as it was lent; 0 where no update was taken, and every value as it was lent
 pub data TellsNewest (slot : Slot) (taken : List Message) (values : List ℕ) (returned : ℕ) (values′ answer′ : List ℕ) : Type 0 where
   no-record : NoUpdate slot taken → Gives returned answer′ 0 0 0 0 → values′ ≡ values → TellsNewest slot taken values returned values′ answer′
   a-record : (m : Message) → IsNewest slot taken m → Gives returned answer′ 0 1 0 0
-      → values′ ≡ (sequenceNumber m ∷ valuesFor (itemIn slot) (levelIn slot) (shown (itemIn slot) (formFor slot) (m .cells))) ++ drop (valueCount (itemIn slot) (levelIn slot)) values
+      → values′ ≡ (valuesInFront (itemIn slot) (sequenceNumber m) (sessionOf (formSent m)) ++ valuesFor (itemIn slot) (levelIn slot) (shown (itemIn slot) (formSent m) (m .cells))) ++ drop (valueCount (itemIn slot) (levelIn slot)) values
       → TellsNewest slot taken values returned values′ answer′
 
 -- 01 "What may be asked", "An accepted batch answers how many messages were taken, old and heartbeats": as counted from the history;
@@ -76,10 +76,10 @@ reachedTold count returned message =
     cond (eqb returned 0 || eqb returned 4) count
     (cond (leb 5 returned && leb returned 12) message (cond (leb 13 returned && leb returned 14) (message + 1) 0))
 
--- M-102: the last number of `answer` follows from the batch's bytes, the lists and the place of a refusal; at most 13 for each 249 bytes
+-- M-102: the last number of `answer` follows from the batch's bytes, the lists and the place of a refusal; at most 13 for each 204 bytes
 pub record TellsKeys (lists : Lists) (batch : List ℕ) (returned : ℕ) (answer′ : List ℕ) : Type 0 where
   pub follows : getD answer′ 3 0 ≡ comparedIn (reachedTold (countOf batch) returned (getD answer′ 0 0)) lists (batchLetter batch) (batchData batch)
-  pub few : 249 * getD answer′ 3 0 ≤ 13 * length (batchData batch)
+  pub few : 204 * getD answer′ 3 0 ≤ 13 * length (batchData batch)
 
 -- demand 3: "After any sequence of calls from a fresh start", made by a host, for each listed segment, and each listed contract and pair:
 pub record AfterHostCalls (starts : List ℕ) (lent : Lent) (past : List Event) : Type 0 where

@@ -24,7 +24,7 @@ use Rattle.state.specs.Memory.{Lent}
 use Rattle.state.specs.Refusals.{refusalNumbers}
 use Rattle.state.specs.RefusalsLaws.{refusalOf}
 use Rattle.slots.specs.Slots.{Slot, SlotListed}
-use Rattle.slots.specs.Places.{formFor}
+use Rattle.forms.specs.Forms.{sessionOf}
 use Rattle.turns.specs.Compared.{comparedIn, comparedOf, reachedIn}
 use Rattle.batch.specs.Batch.{countOf, batchLetter, batchData}
 use Rattle.batch.specs.Promises.{JudgedBatch, TookBatch}
@@ -57,7 +57,7 @@ use Rattle.hosted.specs.HostItems.{valuesFor, laidFrom, HostReadItem}
 use Rattle.hosted.specs.HostItemsLaws.{item-put}
 use Rattle.hosted.specs.HostToldLaws.{which-refusal, is-refused, batch-refused, reached-told, keys-told}
 use Rattle.hosted.specs.HostDemands.{GivesFour, Gives, reachedTold, TellsKeys, ListsMissing, TellsLowest, a-run, no-run, TellsNewest, no-record, a-record, TellsCounts, AfterHostCalls, IsRefused, HostRefusalsKeep, HostAcceptedLeave}
-use Rattle.history.specs.Machine.{sequenceNumber}
+use Rattle.history.specs.Machine.{sequenceNumber, formSent}
 
 -- what is said of judging a batch is said of taking it
 pub host-took-judged : {lent lent′ : Lent} {batch answer′ : List ℕ} {returned : ℕ} → HostTook lent batch returned lent′ answer′ → HostJudged lent batch returned answer′
@@ -127,12 +127,12 @@ module _ {starts : List ℕ} {lent : Lent} {past : List Event} (reached : HostRe
       go (exactly.no-record none-taken a q) =
           let told : Tells (recordNumbers Recorded.NoRecord) returned answer′ = rw a at (p .tells) in
           no-record none-taken (record { returns = told .number; answers = told .values })
-          (p .shows ∙ ap (λ (x : Recorded). valuesAfter x (valuesFor item level (p .quote)) values) a)
+          (p .shows ∙ ap (λ (x : Recorded). valuesAfter item x (valuesFor item level (p .quote)) values) a)
       go (exactly.a-record m is a q) =
-          let told : Tells (recordNumbers (Recorded.Record (sequenceNumber m))) returned answer′ = rw a at (p .tells) in
+          let told : Tells (recordNumbers (Recorded.Record (sequenceNumber m) (sessionOf (formSent m)))) returned answer′ = rw a at (p .tells) in
           a-record m is (record { returns = told .number; answers = told .values })
-          (p .shows ∙ ap₂ (λ (x : Recorded) (y : QuoteFor item). valuesAfter x (valuesFor item level y) values) a q
-          ∙ item-put item (sequenceNumber m) level (shown item (formFor kept-at) (m .cells)) values long)
+          (p .shows ∙ ap₂ (λ (x : Recorded) (y : QuoteFor item). valuesAfter item x (valuesFor item level y) values) a q
+          ∙ item-put item (sequenceNumber m) (sessionOf (formSent m)) level (shown item (formSent m) (m .cells)) values long)
 
   counts : (batch answer′ : List ℕ) → HostJudged lent batch 0 answer′ → TellsCounts (lent .lists) starts past batch answer′
   counts batch answer′ p = go (p .judged) (p .promised) (p .tells)
@@ -202,7 +202,7 @@ host-refusals-keep lent =
       write-off-keeps = λ letter returned lent′ answer′ p.
           kept (firstBroken (writeOffRules lent letter)) (runValues (lowestRun (gapsOfLetter lent letter))) _ (p .promised .answers) (p .promised .left) (p .tells);
       read-keeps = λ item letter key level values returned values′ answer′ p refused.
-          p .shows ∙ stays (p .recorded) (valuesFor item level (p .quote)) values (p .tells) refused;
+          p .shows ∙ stays item (p .recorded) (valuesFor item level (p .quote)) values (p .tells) refused;
       write-keeps = λ item code level number key values out returned out′ answer′ p.
           kept (writeRefusal item (codeOf code) level number key (laidFrom item level values) out) (lengthWritten (formWritten item (codeOf code) level) ∷ []) _
           (p .promised .answers) (p .promised .out-left) (p .tells);
@@ -215,11 +215,11 @@ host-refusals-keep lent =
     took batch lent′ (Judged.Accepted taken old heartbeats compared) p t refused = absurd (refused (t .number))
     took batch lent′ (Judged.Refused refusal compared) p t refused = refusals-keep lent .take-keeps batch refusal compared lent′ p
 
-    stays : (a : Recorded) (rows values : List ℕ) {returned : ℕ} {answer′ : List ℕ}
-        → Tells (recordNumbers a) returned answer′ → IsRefused returned → valuesAfter a rows values ≡ values
-    stays (Recorded.Record number) rows values t refused = absurd (refused (t .number))
-    stays Recorded.NoRecord rows values t refused = refl
-    stays (Recorded.Refused refusal) rows values t refused = refl
+    stays : (item : Item) (a : Recorded) (rows values : List ℕ) {returned : ℕ} {answer′ : List ℕ}
+        → Tells (recordNumbers a) returned answer′ → IsRefused returned → valuesAfter item a rows values ≡ values
+    stays item (Recorded.Record number session) rows values t refused = absurd (refused (t .number))
+    stays item Recorded.NoRecord rows values t refused = refl
+    stays item (Recorded.Refused refusal) rows values t refused = refl
 
 -- ---- an accepted call leaves a state that passes
 

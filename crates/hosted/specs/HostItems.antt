@@ -5,11 +5,9 @@ use Rattle.forms.specs.declared.forms.Form.{Form}
 use Rattle.forms.specs.declared.forms.Item.{Item}
 use Rattle.forms.specs.declared.forms.Item.the-variants.{Contract, Pair}
 use Rattle.forms.specs.declared.rows.Level.{Level}
-use Rattle.quote.specs.Quote.{valuesOf}
-use Rattle.spread.specs.Spread.{spreadValuesOf}
 use Rattle.state.specs.Memory.{Lent}
 use Rattle.values.specs.Values.{rowValues, quoteIn, spreadValues, spreadIn}
-use Rattle.reading.specs.Shown.{QuoteFor, shown, blankFor}
+use Rattle.reading.specs.Shown.{QuoteFor, shown, cellsFor, blankFor}
 use Rattle.host.specs.Promises.{HostReads, HostWrites}
 
 -- the host's header: one value a row behind the key, of a contract's quote or of a pair's
@@ -17,10 +15,14 @@ abbrev pub valuesFor : (item : Item) → Level → QuoteFor item → List ℕ
 valuesFor Contract level quote = rowValues level quote
 valuesFor Pair level quote = spreadValues level quote
 
--- the host's header: what a message is written from: the values of the quote that a host's values hold, a contract's or a pair's
+-- the host's header: the quote that a host's values hold, a contract's or a pair's
+abbrev pub quoteHeld : (item : Item) → Level → List ℕ → QuoteFor item
+quoteHeld Contract level values = quoteIn level values
+quoteHeld Pair level values = spreadIn level values
+
+-- the host's header: what a message is written from: the values of that quote
 abbrev pub laidFrom : Item → Level → List ℕ → Form → List ℕ
-laidFrom Contract level values form = valuesOf form (quoteIn level values)
-laidFrom Pair level values form = spreadValuesOf form (spreadIn level values)
+laidFrom item level values form = cellsFor item form (quoteHeld item level values)
 
 -- 01 "What may be asked", M-100: for a contract `HostRead`, for a pair `HostReadSpread` (`host`)
 abbrev pub HostReadItem : Item → Lent → ℕ → List ℕ → Level → List ℕ → ℕ → List ℕ → List ℕ → Type 0

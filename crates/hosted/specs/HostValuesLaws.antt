@@ -1,166 +1,191 @@
 -- The values that a host is told of an update are what its message's fields say.
-use Prim.Native.Nat.{ℕ, zero, suc, _+_, _-_, _<_}
-use mathlib.Core.Path.{_≡_, refl, sym, ap, ap₂, _∙_}
-use mathlib.Core.Bool.{true, true≢false}
+use Prim.Native.Nat.{ℕ}
+use mathlib.Core.Path.{_≡_, refl, sym, ap}
+use mathlib.Core.Bool.{Bool, true, false, _&&_, and-eq-true-iff, false≢true}
 use mathlib.Core.List.{List, [], _∷_, _++_}
-use mathlib.Core.Option.{none}
-use native.Mathlib.Omega.{arith}
-use lib.ListN.{length, getD, take, drop, replicate, length-drop, length-append, length-replicate, List·getD-append}
-use lib.Seq.{getD-take, getD-drop, getD-append-add, drop-drop, length-take-le}
-use Rattle.laws.specs.Choice.{clash}
+use mathlib.Core.Option.{Option, some}
+use borrow.Author.Tests.{ltb-true}
+use lib.Dec.{ltb}
+use Rattle.lookup.specs.Lookup.{segmentOf}
 use Rattle.pairs.specs.Lists.{Lists}
 use Rattle.forms.specs.declared.forms.Item.{Item}
 use Rattle.forms.specs.declared.forms.Item.the-variants.{Contract, Pair}
-use Rattle.forms.specs.declared.forms.Subject.the-variants.{Of}
 use Rattle.forms.specs.declared.rows.Level.{Level}
-use Rattle.forms.specs.declared.rows.Row.{Row}
-use Rattle.forms.specs.Forms.{recordForm, keyRowsOf}
-use Rattle.forms.specs.FormsLaws.{about-subject, record-form}
-use Rattle.forms.specs.Rows.{widthOf}
-use Rattle.forms.specs.Sizes.{mostRows}
-use Rattle.layout.specs.declared.read.RowRead.{RowRead}
-use Rattle.layout.specs.declared.read.RowRead.the-variants.{Cell, Field, Range}
-use Rattle.layout.specs.declared.read.Verdict.the-variants.{Good}
-use Rattle.layout.specs.Cells.{zerosBehind}
-use Rattle.layout.specs.FirstBad.{rowRead}
-use Rattle.layout.specs.Says.{rowAt, fieldAt, RowSays}
-use Rattle.layout.specs.Read.{readRow, Outcome, rowThen, readRows}
-use Rattle.layout.specs.SaysLaws.{row-exactly}
-use Rattle.quote.specs.Quote.{ofPair}
-use Rattle.quote.specs.QuoteTrip.{read-kept}
-use Rattle.spread.specs.SpreadTrip.{spread-read-kept}
-use Rattle.message.specs.declared.body.What.{What}
-use Rattle.message.specs.declared.body.What.the-variants as what
-use Rattle.message.specs.CallerLaws.{update-told}
-use Rattle.head.specs.Fields.{dataOf}
+use Rattle.forms.specs.declared.rows.Level.the-variants.{One, Two}
+use Rattle.forms.specs.Names.{Name, NamedRow, instrument, symbol, expiry, strike, optionType, secondInstrument, secondSymbol, secondExpiry, secondStrike, secondOptionType, marketType, timeStamp, buyPrice, buyQuantity, sellPrice, sellQuantity, lastPrice, tradedQuantity, status, openingPrice, highPrice, lowPrice, closePrice, averagePrice, allBuyers, allSellers, turnover as turnoverName}
+use Rattle.forms.specs.SameName.{orderLevel}
+use Rattle.forms.specs.Forms.{namedRows, sessionOf}
+use Rattle.layout.specs.Cells.{sessionCell}
+use Rattle.quote.specs.declared.quote.Quote.{Quote}
+use Rattle.quote.specs.Quote.{fieldValue, valuesBy}
+use Rattle.quote.specs.Shows.{mostOrders, ShowsFields}
+use Rattle.spread.specs.declared.spread.SpreadQuote.{SpreadQuote}
+use Rattle.spread.specs.Spread.{spreadFieldValue}
+use Rattle.spread.specs.Shows.{ShowsSpreadFields}
+use Rattle.head.specs.HeadLaws.{session-by}
 use Rattle.message.specs.Message.{Message}
 use Rattle.message.specs.Reads.{messageOf}
-use Rattle.message.specs.Numbers.{verdictOf, numberIn}
 use Rattle.slots.specs.Slots.{Slot, slot as recordSlot}
-use Rattle.slots.specs.Places.{formFor, recordRows}
-use Rattle.slots.specs.SlotsLaws.{rows-few, rows-kept}
-use Rattle.values.specs.ValuesLaws.{values-behind, spread-values-behind}
-use Rattle.history.specs.KeptLaws.{same-slot}
-use Rattle.history.specs.Kept.{cellsFor}
-use Rattle.reading.specs.Shown.{QuoteFor, shown}
-use Rattle.history.specs.Updates.{sameSlot, slotOf, itemIn, levelIn, isSlot, isOf}
+use Rattle.values.specs.Values.{valueRows, rowValues, spreadValues}
+use Rattle.reading.specs.Shown.{QuoteFor, shown, ShowsEach}
+use Rattle.told.specs.Shown.{valuesInFront}
+use Rattle.history.specs.RecordLaws.{update-says}
+use Rattle.history.specs.Updates.{slotOf, itemIn, levelIn}
+use Rattle.history.specs.Machine.{sequenceNumber, formSent}
 use Rattle.hosted.specs.HostItems.{valuesFor}
-use Rattle.hosted.specs.HostValues.{levelRows, ValuesSay}
-use Rattle.history.specs.Machine.{sequenceNumber}
+use Rattle.hosted.specs.HostValues.{ValueSays, EachSays, ValuesSay}
 
--- ---- rows that were read, each by its place
+-- ---- one value
 
--- good rows have each the cell that was read of its field
-pub record Reads (rows : List Row) (bytes cells : List ℕ) : Type 0 where
-  pub long : length cells ≡ length rows
-  pub each : (k : ℕ) → k < length rows → rowRead rows bytes k ≡ Cell (getD cells k 0)
+-- an order's name has a level of a side
+abbrev inSide : Name → Bool
+inSide name = ltb (orderLevel name) mostOrders
 
-rows-read : (i : ℕ) (rows : List Row) (bytes : List ℕ) → readRows i rows bytes .verdict ≡ Good → Reads rows bytes (readRows i rows bytes .cells)
-rows-read i [] bytes good = record { long = refl; each = λ k h. absurd (omega arith) }
-rows-read i (row ∷ rows) bytes good = go (readRow row (take (widthOf row) bytes)) refl good (rows-read (suc i) rows (drop (widthOf row) bytes))
-  where
-    rest : Outcome
-    rest = readRows (suc i) rows (drop (widthOf row) bytes)
+contract-says : (text : Name → Option (List ℕ)) (quote : Quote) → ShowsFields text quote → (name : Name) → inSide name ≡ true → ValueSays Contract text name (fieldValue quote name)
+contract-says text quote h instrument e = tt
+contract-says text quote h symbol e = tt
+contract-says text quote h expiry e = tt
+contract-says text quote h strike e = tt
+contract-says text quote h optionType e = tt
+contract-says text quote h secondInstrument e = tt
+contract-says text quote h secondSymbol e = tt
+contract-says text quote h secondExpiry e = tt
+contract-says text quote h secondStrike e = tt
+contract-says text quote h secondOptionType e = tt
+contract-says text quote h marketType e = h .market-type
+contract-says text quote h timeStamp e = (_, h .time-stamp, refl)
+contract-says text quote h (buyPrice k) e = (_, h .buy-price k (ltb-true k mostOrders e), refl)
+contract-says text quote h (buyQuantity k) e = (_, h .buy-quantity k (ltb-true k mostOrders e), refl)
+contract-says text quote h (sellPrice k) e = (_, h .sell-price k (ltb-true k mostOrders e), refl)
+contract-says text quote h (sellQuantity k) e = (_, h .sell-quantity k (ltb-true k mostOrders e), refl)
+contract-says text quote h lastPrice e = (_, h .last-price, refl)
+contract-says text quote h tradedQuantity e = (_, h .traded-quantity, refl)
+contract-says text quote h status e = h .status-letter
+contract-says text quote h openingPrice e = (_, h .opening-price, refl)
+contract-says text quote h highPrice e = (_, h .high-price, refl)
+contract-says text quote h lowPrice e = (_, h .low-price, refl)
+contract-says text quote h closePrice e = (_, h .close-price, refl)
+contract-says text quote h averagePrice e = (_, h .average-price, refl)
+contract-says text quote h allBuyers e = (_, h .all-buyers, refl)
+contract-says text quote h allSellers e = (_, h .all-sellers, refl)
+contract-says text quote h turnoverName e = (_, h .turnover-shown, refl)
 
-    go : (answer : RowRead) → readRow row (take (widthOf row) bytes) ≡ answer → rowThen answer i rest .verdict ≡ Good
-        → (rest .verdict ≡ Good → Reads rows (drop (widthOf row) bytes) (rest .cells)) → Reads (row ∷ rows) bytes (rowThen answer i rest .cells)
-    go (Cell cell) e good later = record { long = ap suc (later good .long); each = each }
-      where
-        each : (k : ℕ) → k < suc (length rows) → rowRead (row ∷ rows) bytes k ≡ Cell (getD (cell ∷ rest .cells) k 0)
-        each zero h = e
-        each (suc k) h = simp (← drop-drop) (later good .each k (omega arith))
-    go Field e good later = absurd (clash (cc))
-    go Range e good later = absurd (clash (cc))
+-- the fields that a pair has
+abbrev ofPairs : Name → Bool
+ofPairs instrument = false
+ofPairs symbol = false
+ofPairs expiry = false
+ofPairs strike = false
+ofPairs optionType = false
+ofPairs secondInstrument = false
+ofPairs secondSymbol = false
+ofPairs secondExpiry = false
+ofPairs secondStrike = false
+ofPairs secondOptionType = false
+ofPairs marketType = false
+ofPairs timeStamp = false
+ofPairs (buyPrice k) = ltb k mostOrders
+ofPairs (buyQuantity k) = ltb k mostOrders
+ofPairs (sellPrice k) = ltb k mostOrders
+ofPairs (sellQuantity k) = ltb k mostOrders
+ofPairs lastPrice = true
+ofPairs tradedQuantity = true
+ofPairs status = false
+ofPairs openingPrice = true
+ofPairs highPrice = true
+ofPairs lowPrice = true
+ofPairs closePrice = false
+ofPairs averagePrice = false
+ofPairs allBuyers = true
+ofPairs allSellers = true
+ofPairs turnoverName = false
 
--- ---- the values of rows that were read
+pair-says : (text : Name → Option (List ℕ)) (quote : SpreadQuote) → ShowsSpreadFields text quote → (name : Name) → ofPairs name ≡ true → ValueSays Pair text name (spreadFieldValue quote name)
+pair-says text quote h instrument e = tt
+pair-says text quote h symbol e = tt
+pair-says text quote h expiry e = tt
+pair-says text quote h strike e = tt
+pair-says text quote h optionType e = tt
+pair-says text quote h secondInstrument e = tt
+pair-says text quote h secondSymbol e = tt
+pair-says text quote h secondExpiry e = tt
+pair-says text quote h secondStrike e = tt
+pair-says text quote h secondOptionType e = tt
+pair-says text quote h marketType e = absurd (false≢true e)
+pair-says text quote h timeStamp e = absurd (false≢true e)
+pair-says text quote h (buyPrice k) e = (_, h .buy-price k (ltb-true k mostOrders e), refl)
+pair-says text quote h (buyQuantity k) e = (_, h .buy-quantity k (ltb-true k mostOrders e), refl)
+pair-says text quote h (sellPrice k) e = (_, h .sell-price k (ltb-true k mostOrders e), refl)
+pair-says text quote h (sellQuantity k) e = (_, h .sell-quantity k (ltb-true k mostOrders e), refl)
+pair-says text quote h lastPrice e = (_, h .last-price, refl)
+pair-says text quote h tradedQuantity e = (_, h .traded-quantity, refl)
+pair-says text quote h status e = absurd (false≢true e)
+pair-says text quote h openingPrice e = (_, h .opening-price, refl)
+pair-says text quote h highPrice e = (_, h .high-price, refl)
+pair-says text quote h lowPrice e = (_, h .low-price, refl)
+pair-says text quote h closePrice e = absurd (false≢true e)
+pair-says text quote h averagePrice e = absurd (false≢true e)
+pair-says text quote h allBuyers e = (_, h .all-buyers, refl)
+pair-says text quote h allSellers e = (_, h .all-sellers, refl)
+pair-says text quote h turnoverName e = absurd (false≢true e)
 
--- the values of the rows are the cells behind the key
-item-cells : (item : Item) (level : Level) (quote : QuoteFor item)
-    → take (recordRows item level) (drop (keyRowsOf item) (cellsFor item (recordForm item level) quote)) ≡ valuesFor item level quote
-item-cells Contract level quote = values-behind level quote
-item-cells Pair level quote = spread-values-behind level quote
+-- ---- one value a row
 
--- a quote that was read has the cells that were read
-item-kept : (item : Item) (level : Level) (bytes : List ℕ) → readRows 0 (levelRows item level) bytes .verdict ≡ Good
-    → cellsFor item (recordForm item level) (shown item (recordForm item level) (zerosBehind (readRows 0 (levelRows item level) bytes .cells)))
-    ≡ zerosBehind (readRows 0 (levelRows item level) bytes .cells)
-item-kept Contract level bytes good = read-kept (recordForm Contract level) bytes good (ap ofPair (about-subject (Of Contract level)))
-item-kept Pair level bytes good = spread-read-kept (recordForm Pair level) bytes good (ap ofPair (about-subject (Of Pair level)))
+abbrev allNamed : (Name → Bool) → List NamedRow → Bool
+allNamed test [] = true
+allNamed test (row ∷ rows) = test (row .name) && allNamed test rows
 
-module _ (item : Item) (level : Level) (bytes : List ℕ) (good : readRows 0 (levelRows item level) bytes .verdict ≡ Good)
-    (cells : List ℕ) (is : cells ≡ zerosBehind (readRows 0 (levelRows item level) bytes .cells))
-  where
-    abbrev read : List ℕ
-    read = readRows 0 (levelRows item level) bytes .cells
+each-says : (Says : Name → ℕ → Type 0) (test : Name → Bool) (given : Name → ℕ) → ((name : Name) → test name ≡ true → Says name (given name))
+    → (rows : List NamedRow) → allNamed test rows ≡ true → (behind : List ℕ) → EachSays Says rows (valuesBy rows given ++ behind)
+each-says Says test given says [] all behind = tt
+each-says Says test given says (row ∷ rows) all behind =
+    let both = and-eq-true-iff (test (row .name)) (allNamed test rows) .0 all in
+    (says (row .name) (both .0), each-says Says test given says rows (both .1) behind)
 
-    abbrev quote : QuoteFor item
-    quote = shown item (recordForm item level) cells
+contract-named : (level : Level) → allNamed inSide (valueRows Contract level) ≡ true
+unfolding valueRows namedRows
+contract-named One = refl
+contract-named Two = refl
 
-    reads : Reads (levelRows item level) bytes read
-    reads = rows-read 0 (levelRows item level) bytes good
+pair-named : (level : Level) → allNamed ofPairs (valueRows Pair level) ≡ true
+unfolding valueRows namedRows
+pair-named One = refl
+pair-named Two = refl
 
-    row-values : valuesFor item level quote ≡ take (recordRows item level) (drop (keyRowsOf item) (zerosBehind read))
-    row-values =
-        sym (item-cells item level quote)
-        ∙ ap (λ (cs : List ℕ). take (recordRows item level) (drop (keyRowsOf item) cs)) (ap (λ (cs : List ℕ). cellsFor item (recordForm item level) (shown item (recordForm item level) cs)) is ∙ item-kept item level bytes good)
-
-    rows-long : recordRows item level + keyRowsOf item ≡ length read
-    rows-long = rows-kept item level ∙ sym (reads .long)
-
-    put-long : length (valuesFor item level quote) ≡ recordRows item level
-    put-long =
-        ap length row-values
-        ∙ length-take-le (recordRows item level) (drop (keyRowsOf item) (zerosBehind read)) (simp (length-drop, length-append, length-replicate) (omega (arith, rows-long, rows-few item level)))
-
-    -- a value stands one behind its row's place from the first row behind the key on
-    value-at : (number : ℕ) (behind : List ℕ) (k : ℕ) → k < recordRows item level
-        → getD ((number ∷ valuesFor item level quote) ++ behind) (1 + k) 0 ≡ getD read (keyRowsOf item + k) 0
-    value-at number behind k h =
-        getD-append-add (number ∷ []) (valuesFor item level quote ++ behind) k 0
-        ∙ List·getD-append (valuesFor item level quote) behind 0 k (omega (arith, put-long))
-        ∙ ap (λ (cs : List ℕ). getD cs k 0) row-values
-        ∙ getD-take (recordRows item level) (drop (keyRowsOf item) (zerosBehind read)) k 0 h
-        ∙ getD-drop (keyRowsOf item) (zerosBehind read) k 0
-        ∙ List·getD-append read (replicate (mostRows - length read) 0) 0 (keyRowsOf item + k) (omega (arith, rows-long))
-
-    pub row-says : (number : ℕ) (behind : List ℕ) (k : ℕ) → k < recordRows item level
-        → RowSays (rowAt (levelRows item level) (keyRowsOf item + k)) (fieldAt (levelRows item level) bytes (keyRowsOf item + k)) (Cell (getD ((number ∷ valuesFor item level quote) ++ behind) (1 + k) 0))
-    row-says number behind k h =
-        row-exactly (rowAt (levelRows item level) (keyRowsOf item + k)) (fieldAt (levelRows item level) bytes (keyRowsOf item + k)) (Cell (getD ((number ∷ valuesFor item level quote) ++ behind) (1 + k) 0)) .0
-        (reads .each (keyRowsOf item + k) (omega (arith, rows-kept item level)) ∙ ap Cell (sym (value-at number behind k h)))
+values-say : (item : Item) (level : Level) (text : Name → Option (List ℕ)) (quote : QuoteFor item) → ShowsEach item text quote → (behind : List ℕ)
+    → EachSays (ValueSays item text) (valueRows item level) (valuesFor item level quote ++ behind)
+unfolding rowValues spreadValues
+values-say Contract level text quote h behind = each-says (ValueSays Contract text) inSide (fieldValue quote) (contract-says text quote h) (valueRows Contract level) (contract-named level) behind
+values-say Pair level text quote h behind = each-says (ValueSays Pair text) ofPairs (spreadFieldValue quote) (pair-says text quote h) (valueRows Pair level) (pair-named level) behind
 
 -- ---- the values of an update
 
 -- what a host is told of an update of a slot is what its message's fields say
-pub host-values-say : (lists : Lists) (letter : ℕ) (bytes : List ℕ) (slot : Slot) → isOf slot (messageOf lists letter bytes .what) ≡ true → (behind : List ℕ)
-    → ValuesSay bytes (itemIn slot) (levelIn slot)
-    ((sequenceNumber (messageOf lists letter bytes) ∷ valuesFor (itemIn slot) (levelIn slot) (shown (itemIn slot) (formFor slot) (messageOf lists letter bytes .cells))) ++ behind)
-host-values-say lists letter bytes (recordSlot item i place level) is behind = go (m .what) refl
-  where
-    m : Message
-    m = messageOf lists letter bytes
+module _ (lists : Lists) (letter i : ℕ) (s : segmentOf (lists .contracts) letter ≡ some i) (bytes : List ℕ) where
+  abbrev m : Message
+  m = messageOf lists letter bytes
 
-    Says : Type 0
-    Says = ValuesSay bytes item level ((sequenceNumber m ∷ valuesFor item level (shown item (recordForm item level) (m .cells))) ++ behind)
+  abbrev told : Item → Level → List ℕ → List ℕ
+  told item level behind = (valuesInFront item (sequenceNumber m) (sessionOf (formSent m)) ++ valuesFor item level (shown item (formSent m) (m .cells))) ++ behind
 
-    no-slot : (w : What) → m .what ≡ w → slotOf i w ≡ none → Says
-    no-slot w e n = absurd (true≢false (sym is ∙ ap (λ (x : What). isOf (recordSlot item i place level) x) e ∙ ap (isSlot (recordSlot item i place level)) n))
-
-    go : (w : What) → m .what ≡ w → Says
-    go what.Heartbeat e = no-slot what.Heartbeat e refl
-    go (what.PassedOver number) e = no-slot (what.PassedOver number) e refl
-    go (what.Bad fault) e = no-slot (what.Bad fault) e refl
-    go (what.Update number form there) e =
-        let u = update-told lists letter bytes (ap verdictOf e) number form there e in
-        let own : Level = u .tells .0 in
-        let told : sameSlot (recordSlot (u .item) i there own) (recordSlot item i place level) ≡ true = rw (e, u .tells .1) at is in
-        let slots : recordSlot (u .item) i there own ≡ recordSlot item i place level = same-slot (recordSlot (u .item) i there own) (recordSlot item i place level) told in
-        let items : u .item ≡ item = ap itemIn slots in
-        let levels : own ≡ level = ap levelIn slots in
-        let form-is : form ≡ recordForm item level = record-form form (u .item) own (u .tells .1) ∙ ap₂ recordForm items levels in
-        let good : readRows 0 (levelRows item level) (dataOf bytes) .verdict ≡ Good = rw form-is at (u .rows-good) in
-        let cells : m .cells ≡ zerosBehind (readRows 0 (levelRows item level) (dataOf bytes) .cells) = rw form-is at (u .cells-are) in
-        record {
-          number-is = ap numberIn e ∙ sym (u .number-is);
-          rows-say = row-says item level (dataOf bytes) good (m .cells) cells (sequenceNumber m) behind;
-        }
+  pub host-values-say : (slot : Slot) → slotOf i (m .what) ≡ some slot → (behind : List ℕ) → ValuesSay bytes (itemIn slot) (levelIn slot) (told (itemIn slot) (levelIn slot) behind)
+  host-values-say (recordSlot Contract j place level) is behind =
+      let u = update-says lists letter i s bytes (recordSlot Contract j place level) is in
+      record {
+        number-is = sym (u .number-is);
+        session-is = ap sessionCell (session-by bytes (formSent m) (u .form-is));
+        form = formSent m;
+        form-is = u .form-is;
+        tells = u .tells;
+        rows-say = values-say Contract level _ (shown Contract (formSent m) (m .cells)) (u .shows) behind;
+      }
+  host-values-say (recordSlot Pair j place level) is behind =
+      let u = update-says lists letter i s bytes (recordSlot Pair j place level) is in
+      record {
+        number-is = sym (u .number-is);
+        session-is = tt;
+        form = formSent m;
+        form-is = u .form-is;
+        tells = u .tells;
+        rows-say = values-say Pair level _ (shown Pair (formSent m) (m .cells)) (u .shows) behind;
+      }

@@ -1,29 +1,31 @@
 -- The values of what was written are those that were handed, from the first row behind the key on; minus zero is zero.
-use Prim.Native.Nat.{ℕ, zero, suc, _+_, _-_, _≤_, _<_, _^_}
-use mathlib.Core.Path.{_≡_, refl, sym, ap, _∙_}
+use Prim.Native.Nat.{ℕ, _+_, _-_, _≤_, _<_, _^_}
+use mathlib.Core.Path.{_≡_, refl, subst}
 use mathlib.Core.Bool.{Bool, true, false}
-use mathlib.Core.List.{List, [], _∷_}
+use mathlib.Core.List.{List}
 use mathlib.Core.Logic.{⊎-elim}
 use native.Mathlib.Omega.{arith}
 use borrow.Author.Tests.{lt-ltb, le-ltb, ne-eqb}
 use lib.Dec.{eqb, leb, ltb}
-use lib.ListN.{length, getD, take, drop, length-drop}
+use lib.ListN.{length, getD, drop}
 use lib.Seq.{getD-drop}
-use Rattle.laws.specs.Lists.{middle}
 use Rattle.laws.specs.Order.{order, same}
 use Rattle.decimal.specs.Denotes.{belowZero}
 use Rattle.forms.specs.declared.forms.Item.the-variants.{Contract, Pair}
 use Rattle.forms.specs.declared.rows.Level.{Level}
 use Rattle.forms.specs.declared.rows.Level.the-variants.{One, Two}
-use Rattle.forms.specs.Forms.{namedRows, rowsOf, recordForm}
+use Rattle.forms.specs.declared.forms.Form.{Form}
+use Rattle.forms.specs.declared.forms.Form.the-variants.{Heartbeat, LevelOne, LevelTwo, PairOne, PairTwo, FutureOne, FutureTwo, PreOpenOne, PreOpenTwo}
+use Rattle.forms.specs.declared.forms.Subject.{Subject}
+use Rattle.forms.specs.declared.forms.Subject.the-variants.{Nothing, Of}
+use Rattle.forms.specs.declared.rows.Markets.the-variants.{Normal, Any}
+use Rattle.forms.specs.Forms.{namedRows, rowsOf, subjectOf}
 use Rattle.layout.specs.declared.read.Verdict.the-variants as verdict
 use Rattle.layout.specs.Cells.{sided}
 use Rattle.layout.specs.Read.{isMarketType, isStatus}
 use Rattle.compose.specs.Write.{letterText, rowText, writeRows, writeRefusal}
 use Rattle.compose.specs.FirstBad.{refusalWritten}
 use Rattle.compose.specs.FirstBadLaws.{write-first}
-use Rattle.quote.specs.declared.quote.Quote.{Quote}
-use Rattle.spread.specs.declared.spread.SpreadQuote.{SpreadQuote}
 use Rattle.spread.specs.declared.spread.DifferenceCell.{DifferenceCell}
 use Rattle.spread.specs.declared.spread.DifferenceCell.the-variants as difference
 use Rattle.quote.specs.Quote.{priceOf, quantityOf, turnoverOf, valuesOf, seenQuote}
@@ -34,15 +36,8 @@ use Rattle.quote.specs.NumberLaws.{price-number, quantity-number, turnover-numb
 use Rattle.spread.specs.NumberLaws.{difference-number}
 use Rattle.layout.specs.Plain.{noValue, minusValue, valueOf, heldOf, letterOf}
 use Rattle.layout.specs.PlainLaws.{value-back}
-use Rattle.values.specs.Values.{first, most, valueRows, rowValues, quoteIn, spreadValues, spreadIn}
-use Rattle.told.specs.Shown.{valueCount}
+use Rattle.values.specs.Values.{first, valueRows, rowValues, quoteIn, spreadValues, spreadIn}
 use Rattle.hosted.specs.HostReadBack.{rowsIn}
-
--- what a form sees of a quote has its values
-seen-values : (level : Level) (quote : Quote) → rowValues level (seenQuote (recordForm Contract level) quote) ≡ rowValues level quote
-unfolding rowValues valueRows namedRows seenQuote
-seen-values One quote = refl
-seen-values Two quote = refl
 
 seen-difference : (d : DifferenceCell) → heldDifference (plainZero d) ≡ heldDifference d
 seen-difference difference.None = refl
@@ -52,11 +47,6 @@ seen-difference (difference.Amount amount) = go (amount .0) (eqb (amount .1) 0) 
     go true true t = rw t
     go true false t = rw t
     go false none t = refl
-
-seen-spread-values : (level : Level) (quote : SpreadQuote) → spreadValues level (seenSpread (recordForm Pair level) quote) ≡ spreadValues level quote
-unfolding spreadValues valueRows namedRows seenSpread
-seen-spread-values One quote = simp seen-difference
-seen-spread-values Two quote = simp seen-difference
 
 -- each number holds what its value stands for
 price-held : (v : ℕ) → heldPrice (priceOf (heldOf false v)) ≡ heldOf false v
@@ -79,56 +69,78 @@ letter-back taken none-taken v good = go (leb v 255) refl
     go true t = rw t
     go false t = absurd (let bad : 11 ≡ 0 = rw (t, none-taken) at good in omega arith)
 
--- the first numbers of a list, each by its place
-abbrev firsts : ℕ → List ℕ → List ℕ
-firsts zero vs = []
-firsts (suc n) vs = getD vs 0 0 ∷ firsts n (drop 1 vs)
-
-take-firsts : (n : ℕ) (vs : List ℕ) → n ≤ length vs → take n vs ≡ firsts n vs
-take-firsts zero vs h = refl
-take-firsts (suc n) [] h = absurd (omega arith)
-take-firsts (suc n) (v ∷ vs) h = ap (λ (l : List ℕ). v ∷ l) (take-firsts n vs (omega arith))
-
--- values whose rows can be written
-abbrev pub Writable : Level → List ℕ → List ℕ → Type 0
-Writable level key values = writeRows 0 (rowsOf (recordForm Contract level)) key (valuesOf (recordForm Contract level) (quoteIn level values)) .verdict ≡ verdict.Good
+-- values whose rows can be written in a form
+abbrev pub Writable : Form → Level → List ℕ → List ℕ → Type 0
+Writable form level key values = writeRows 0 (rowsOf form) key (valuesOf form (quoteIn level values)) .verdict ≡ verdict.Good
 
 module _ (key values : List ℕ) where
   abbrev vs : List ℕ
-  vs = drop first values
+  vs = drop (first Contract) values
 
-  row-written : (level : Level) → Writable level key values → (k : ℕ) → k < length (rowsOf (recordForm Contract level))
-      → refusalWritten (rowsOf (recordForm Contract level)) key (valuesOf (recordForm Contract level) (quoteIn level values)) k ≡ 0
-  row-written level good = rw good at (write-first (rowsOf (recordForm Contract level)) key (valuesOf (recordForm Contract level) (quoteIn level values)))
+  row-written : (form : Form) (level : Level) → Writable form level key values → (k : ℕ) → k < length (rowsOf form)
+      → refusalWritten (rowsOf form) key (valuesOf form (quoteIn level values)) k ≡ 0
+  row-written form level good = rw good at (write-first (rowsOf form) key (valuesOf form (quoteIn level values)))
 
-  values-held : (level : Level) → Writable level key values → rowValues level (quoteIn level values) ≡ rowsIn Contract level values
-  unfolding rowValues valueRows namedRows quoteIn rowsOf valuesOf rowText
-  values-held One good =
-      let market : letterOf (getD vs 0 0) ≡ getD vs 0 0 = letter-back isMarketType refl (getD vs 0 0) (row-written One good 5 (omega arith)) in
-      let status : letterOf (getD vs 7 0) ≡ getD vs 7 0 = letter-back isStatus refl (getD vs 7 0) (row-written One good 12 (omega arith)) in
+  -- what a form of a contract sees of the quote that values hold has these values
+  abbrev Seen : Subject → Form → Type 0
+  Seen Nothing form = Unit {0}
+  Seen (Of Contract level) form = Writable form level key values → rowValues level (seenQuote form (quoteIn level values)) ≡ rowsIn Contract form level values
+  Seen (Of Pair level) form = Unit {0}
+
+  values-held : (form : Form) → Seen (subjectOf form) form
+  unfolding rowValues valueRows namedRows quoteIn rowsOf valuesOf rowText seenQuote
+  values-held Heartbeat = tt
+  values-held PairOne = tt
+  values-held PairTwo = tt
+  values-held LevelOne = λ good.
+      let market : letterOf (getD vs 0 0) ≡ getD vs 0 0 = letter-back (isMarketType Normal) refl (getD vs 0 0) (row-written LevelOne One good 5 (omega arith)) in
+      let status : letterOf (getD vs 8 0) ≡ getD vs 8 0 = letter-back isStatus refl (getD vs 8 0) (row-written LevelOne One good 12 (omega arith)) in
       simp (price-held, quantity-held, turnover-held, value-back, market, status) (simp getD-drop)
-  values-held Two good =
-      let market : letterOf (getD vs 0 0) ≡ getD vs 0 0 = letter-back isMarketType refl (getD vs 0 0) (row-written Two good 5 (omega arith)) in
-      let status : letterOf (getD vs 23 0) ≡ getD vs 23 0 = letter-back isStatus refl (getD vs 23 0) (row-written Two good 28 (omega arith)) in
+  values-held LevelTwo = λ good.
+      let market : letterOf (getD vs 0 0) ≡ getD vs 0 0 = letter-back (isMarketType Normal) refl (getD vs 0 0) (row-written LevelTwo Two good 5 (omega arith)) in
+      let status : letterOf (getD vs 24 0) ≡ getD vs 24 0 = letter-back isStatus refl (getD vs 24 0) (row-written LevelTwo Two good 28 (omega arith)) in
+      simp (price-held, quantity-held, turnover-held, value-back, market, status) (simp getD-drop)
+  values-held FutureOne = λ good.
+      let market : letterOf (getD vs 0 0) ≡ getD vs 0 0 = letter-back (isMarketType Any) refl (getD vs 0 0) (row-written FutureOne One good 5 (omega arith)) in
+      let status : letterOf (getD vs 8 0) ≡ getD vs 8 0 = letter-back isStatus refl (getD vs 8 0) (row-written FutureOne One good 13 (omega arith)) in
+      simp (price-held, quantity-held, turnover-held, value-back, market, status) (simp getD-drop)
+  values-held FutureTwo = λ good.
+      let market : letterOf (getD vs 0 0) ≡ getD vs 0 0 = letter-back (isMarketType Any) refl (getD vs 0 0) (row-written FutureTwo Two good 5 (omega arith)) in
+      let status : letterOf (getD vs 24 0) ≡ getD vs 24 0 = letter-back isStatus refl (getD vs 24 0) (row-written FutureTwo Two good 29 (omega arith)) in
+      simp (price-held, quantity-held, turnover-held, value-back, market, status) (simp getD-drop)
+  values-held PreOpenOne = λ good.
+      let market : letterOf (getD vs 0 0) ≡ getD vs 0 0 = letter-back (isMarketType Any) refl (getD vs 0 0) (row-written PreOpenOne One good 5 (omega arith)) in
+      let status : letterOf (getD vs 8 0) ≡ getD vs 8 0 = letter-back isStatus refl (getD vs 8 0) (row-written PreOpenOne One good 13 (omega arith)) in
+      simp (price-held, quantity-held, turnover-held, value-back, market, status) (simp getD-drop)
+  values-held PreOpenTwo = λ good.
+      let market : letterOf (getD vs 0 0) ≡ getD vs 0 0 = letter-back (isMarketType Any) refl (getD vs 0 0) (row-written PreOpenTwo Two good 5 (omega arith)) in
+      let status : letterOf (getD vs 24 0) ≡ getD vs 24 0 = letter-back isStatus refl (getD vs 24 0) (row-written PreOpenTwo Two good 29 (omega arith)) in
       simp (price-held, quantity-held, turnover-held, value-back, market, status) (simp getD-drop)
 
-  pub values-seen : (level : Level) → Writable level key values → rowValues level (seenQuote (recordForm Contract level) (quoteIn level values)) ≡ rowsIn Contract level values
-  values-seen level good = seen-values level (quoteIn level values) ∙ values-held level good
-
-  -- which are those that were handed
-  pub values-handed : (level : Level) → length values ≡ most → rowsIn Contract level values ≡ drop first (take (valueCount Contract level) values)
-  unfolding valueRows namedRows
-  values-handed One long = sym (take-firsts 14 vs (omega (arith, length-drop first values))) ∙ middle values 1 15 (omega arith)
-  values-handed Two long = sym (take-firsts 32 vs (omega (arith, length-drop first values))) ∙ middle values 1 33 (omega arith)
+  pub values-seen : (form : Form) (level : Level) → subjectOf form ≡ Of Contract level → Writable form level key values → rowValues level (seenQuote form (quoteIn level values)) ≡ rowsIn Contract form level values
+  values-seen form level e = subst (λ (subject : Subject). Seen subject form) e (values-held form)
 
 -- the same of a pair, whose rows have no letters
-spread-values-held : (level : Level) (values : List ℕ) → spreadValues level (spreadIn level values) ≡ rowsIn Pair level values
-unfolding spreadValues valueRows namedRows spreadIn
-spread-values-held One values = simp (difference-held, quantity-held, value-back) (simp getD-drop)
-spread-values-held Two values = simp (difference-held, quantity-held, value-back) (simp getD-drop)
+module _ (values : List ℕ) where
+  abbrev SeenSpread : Subject → Form → Type 0
+  SeenSpread Nothing form = Unit {0}
+  SeenSpread (Of Contract level) form = Unit {0}
+  SeenSpread (Of Pair level) form = spreadValues level (seenSpread form (spreadIn level values)) ≡ rowsIn Pair form level values
 
-pub spread-values-seen : (level : Level) (values : List ℕ) → spreadValues level (seenSpread (recordForm Pair level) (spreadIn level values)) ≡ rowsIn Pair level values
-spread-values-seen level values = seen-spread-values level (spreadIn level values) ∙ spread-values-held level values
+  spread-values-held : (form : Form) → SeenSpread (subjectOf form) form
+  unfolding spreadValues valueRows namedRows spreadIn seenSpread
+  spread-values-held Heartbeat = tt
+  spread-values-held LevelOne = tt
+  spread-values-held LevelTwo = tt
+  spread-values-held PairOne = simp (seen-difference, difference-held, quantity-held, value-back) (simp getD-drop)
+  spread-values-held PairTwo = simp (seen-difference, difference-held, quantity-held, value-back) (simp getD-drop)
+  spread-values-held FutureOne = tt
+  spread-values-held FutureTwo = tt
+  spread-values-held PreOpenOne = tt
+  spread-values-held PreOpenTwo = tt
+
+  pub spread-values-seen : (form : Form) (level : Level) → subjectOf form ≡ Of Pair level → spreadValues level (seenSpread form (spreadIn level values)) ≡ rowsIn Pair form level values
+  spread-values-seen form level e = subst (λ (subject : Subject). SeenSpread subject form) e (spread-values-held form)
 
 -- a price of a pair reads back as it was handed, minus zero as zero
 pub difference-back : (v : ℕ) → v < 2 ^ 64 → (v ≡ minusValue → ⊥) → valueOf true (heldOf true v) ≡ v

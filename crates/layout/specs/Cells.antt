@@ -8,6 +8,8 @@ use Rattle.decimal.specs.Denotes.{belowZero}
 use Rattle.forms.specs.Sizes.{mostRows}
 use Rattle.layout.specs.declared.cells.Held.{Held}
 use Rattle.layout.specs.declared.cells.Held.the-variants.{Nothing, Units, Below}
+use Rattle.forms.specs.declared.forms.Session.{Session}
+use Rattle.forms.specs.declared.forms.Session.the-variants.{Normal, PreOpen}
 use Rattle.forms.specs.declared.rows.Row.{Row}
 use Rattle.forms.specs.declared.rows.Row.the-variants.{Key, MarketType, Status, Price, Quantity, Turnover, Difference}
 
@@ -44,6 +46,15 @@ cellOf Nothing = none
 cellOf (Units n) = n
 cellOf (Below n) = minus + n
 
+-- M-104: a record says which session wrote it: 0 normal, 1 pre-open
+abbrev pub sessionCell : Session → ℕ
+sessionCell Normal = 0
+sessionCell PreOpen = 1
+
+-- M-104: a session's cell of 1 reads as pre-open, any other as normal
+abbrev pub sessionIn : ℕ → Session
+sessionIn cell = cond (eqb cell 1) PreOpen Normal
+
 -- lent memory: a letter's cell holds its byte; any larger number counts as 0
 abbrev pub byteIn : ℕ → ℕ
 byteIn cell = cond (leb cell 255) cell 0
@@ -55,7 +66,7 @@ zerosBehind cells = cells ++ replicate (mostRows - length cells) 0
 -- 01 "The message": what a row takes of the key
 abbrev pub keyUsed : Row → ℕ
 keyUsed (Key width) = width
-keyUsed MarketType = 0
+keyUsed (MarketType markets) = 0
 keyUsed Status = 0
 keyUsed (Price width) = 0
 keyUsed (Quantity width) = 0

@@ -42,7 +42,7 @@ letterOf value = cond (leb value 255) value 0
 -- 01 "The message", M-100: a value as its row sees it: a key's text has none, and minus zero is zero
 abbrev pub seenValue : Row → ℕ → ℕ
 seenValue (Key width) value = 0
-seenValue MarketType value = letterOf value
+seenValue (MarketType markets) value = letterOf value
 seenValue Status value = letterOf value
 seenValue (Price width) value = value
 seenValue (Quantity width) value = value

@@ -11,6 +11,8 @@ use Rattle.scan.specs.declared.Number.{Number}
 use Rattle.scan.specs.declared.Number.the-variants.{None, Amount, Below, Malformed, OutOfRange}
 use Rattle.layout.specs.declared.cells.Held.the-variants as held
 use Rattle.layout.specs.declared.cells.Held.the-variants.{Nothing, Units}
+use Rattle.forms.specs.declared.rows.Markets.{Markets}
+use Rattle.forms.specs.declared.rows.Markets.the-variants.{Normal, Any}
 use Rattle.forms.specs.declared.rows.Row.{Row}
 use Rattle.forms.specs.declared.rows.Row.the-variants.{Key, MarketType, Status, Price, Quantity, Turnover, Difference}
 use Rattle.layout.specs.declared.read.RowRead.{RowRead}
@@ -40,9 +42,10 @@ SmallRead (Below units) = Small (held.Below units)
 SmallRead Malformed = Unit {0}
 SmallRead OutOfRange = Unit {0}
 
--- 01 "The message": market type 'N'
-abbrev pub isMarketType : ℕ → Bool
-isMarketType byte = eqb byte 78
+-- 01 "The message": market type 'N'; M-104: 'N', 'O', 'S' or 'A'
+abbrev pub isMarketType : Markets → ℕ → Bool
+isMarketType Normal byte = eqb byte 78
+isMarketType Any byte = eqb byte 78 || (eqb byte 79 || (eqb byte 83 || eqb byte 65))
 
 -- 01 "The message": status is 'S' or space
 abbrev pub isStatus : ℕ → Bool
@@ -59,7 +62,7 @@ numberCell kind field = ofNumber (readAs kind field)
 -- 01 "The message": one row's field; a key's text is only looked up, and its cell is 0
 unfoldable pub readRow : Row → List ℕ → RowRead
 readRow (Key width) field = Cell 0
-readRow MarketType field = letterCell isMarketType (numberAt 1 field 0)
+readRow (MarketType markets) field = letterCell (isMarketType markets) (numberAt 1 field 0)
 readRow Status field = letterCell isStatus (numberAt 1 field 0)
 readRow (Price width) field = numberCell price field
 readRow (Quantity width) field = numberCell quantity field

@@ -9,6 +9,8 @@ use Rattle.decimal.specs.declared.Kind.{Kind}
 use Rattle.decimal.specs.Denotes.{Shape, Denotes, AllSpaces}
 use Rattle.decimal.specs.Kinds.{price, quantity, turnover, difference}
 use Rattle.scan.specs.Answers.{Beyond}
+use Rattle.forms.specs.declared.rows.Markets.{Markets}
+use Rattle.forms.specs.declared.rows.Markets.the-variants.{Normal, Any}
 use Rattle.forms.specs.declared.rows.Row.{Row}
 use Rattle.forms.specs.declared.rows.Row.the-variants.{Key, MarketType, Status, Price, Quantity, Turnover, Difference}
 use Rattle.layout.specs.declared.cells.Held.{Held}
@@ -29,9 +31,10 @@ LetterSays Takes letter (Cell cell) = Takes letter × (cell ≡ letter)
 LetterSays Takes letter Field = Takes letter → ⊥
 LetterSays Takes letter Range = ⊥
 
--- 01 "The message": market type 'N'
-abbrev pub IsMarketType : ℕ → Type 0
-IsMarketType letter = letter ≡ 78
+-- 01 "The message": market type 'N'; M-104: 'N', 'O', 'S' or 'A'
+abbrev pub IsMarketType : Markets → ℕ → Type 0
+IsMarketType Normal letter = letter ≡ 78
+IsMarketType Any letter = (letter ≡ 78) ⊎ ((letter ≡ 79) ⊎ ((letter ≡ 83) ⊎ (letter ≡ 65)))
 
 -- 01 "The message": status is 'S' or space
 abbrev pub IsStatus : ℕ → Type 0
@@ -56,7 +59,7 @@ abbrev pub RowSays : Row → List ℕ → RowRead → Type 0
 RowSays (Key width) field (Cell cell) = cell ≡ 0
 RowSays (Key width) field Field = ⊥
 RowSays (Key width) field Range = ⊥
-RowSays MarketType field answer = LetterSays IsMarketType (letterIn field) answer
+RowSays (MarketType markets) field answer = LetterSays (IsMarketType markets) (letterIn field) answer
 RowSays Status field answer = LetterSays IsStatus (letterIn field) answer
 RowSays (Price width) field answer = NumberSays price field answer
 RowSays (Quantity width) field answer = NumberSays quantity field answer

@@ -14,6 +14,8 @@ use Rattle.scan.specs.declared.Number.the-variants.{None, Amount, Malformed, Ou
 use Rattle.scan.specs.Answers.{Says}
 use Rattle.scan.specs.Read.{readAs}
 use Rattle.scan.specs.ReadLaws.{reads-exactly}
+use Rattle.forms.specs.declared.rows.Markets.{Markets}
+use Rattle.forms.specs.declared.rows.Markets.the-variants.{Normal, Any}
 use Rattle.forms.specs.declared.rows.Row.{Row}
 use Rattle.forms.specs.declared.rows.Row.the-variants.{Key, MarketType, Status, Price, Quantity, Turnover, Difference}
 use Rattle.layout.specs.declared.cells.Held.{Held}
@@ -65,6 +67,10 @@ module _ (kind : Kind) (field : List ℕ) where
 
 -- ---- any row
 
+market-is : (markets : Markets) (b : ℕ) → isMarketType markets b ≡ true ↔ IsMarketType markets b
+market-is Normal b = eqb-is b 78
+market-is Any b = or-is (eqb-is b 78) (or-is (eqb-is b 79) (or-is (eqb-is b 83) (eqb-is b 65)))
+
 key-exactly : (width : ℕ) (field : List ℕ) (answer : RowRead) → Cell 0 ≡ answer ↔ RowSays (Key width) field answer
 key-exactly width field (Cell cell) = ((λ e. cc), (λ h. ap Cell (sym h)))
 key-exactly width field Field = ((λ e. clash (cc)), (λ h. absurd h))
@@ -73,7 +79,7 @@ key-exactly width field Range = ((λ e. clash (cc)), (λ h. absurd h))
 pub row-exactly : (row : Row) (field : List ℕ) (answer : RowRead) → readRow row field ≡ answer ↔ RowSays row field answer
 unfolding readRow
 row-exactly (Key width) field answer = key-exactly width field answer
-row-exactly MarketType field answer = letter-exactly isMarketType IsMarketType (λ b. eqb-is b 78) (letterIn field) answer
+row-exactly (MarketType markets) field answer = letter-exactly (isMarketType markets) (IsMarketType markets) (market-is markets) (letterIn field) answer
 row-exactly Status field answer = letter-exactly isStatus IsStatus (λ b. or-is (eqb-is b 83) (eqb-is b 32)) (letterIn field) answer
 row-exactly (Price width) field answer = number-exactly price field answer
 row-exactly (Quantity width) field answer = number-exactly quantity field answer

@@ -1,6 +1,7 @@
 ghost use mathlib.Core.Path.{_≡_};
-ghost use Rattle.layout.specs.Cells.{sided, sideIn, heldIn, Small, cellOf, byteIn};
+ghost use Rattle.layout.specs.Cells.{sided, sideIn, heldIn, Small, cellOf, sessionCell, sessionIn, byteIn};
 ghost use Rattle.layout.specs.Plain.{valueOf, heldOf};
+use forms::Session;
 
 // What a cell holds for "none".
 pub const NONE: u64 = 0xffff_ffff_ffff_ffff;
@@ -102,6 +103,25 @@ pub fn value_of(signed: bool, held: Held) -> u64
             NO_ROOM
         }
     }
+}
+
+// The cell of a session, and the session that any cell means.
+pub fn session_cell(session: Session) -> u64
+    ensures { λ r. ⌜ r ≡ sessionCell session ⌝ }
+{
+    match session {
+        Session::Normal => 0,
+        Session::PreOpen => 1,
+    }
+}
+
+pub fn session_in(cell: u64) -> Session
+    ensures { λ r. ⌜ r ≡ sessionIn cell ⌝ }
+{
+    if cell == 1 {
+        return Session::PreOpen;
+    }
+    Session::Normal
 }
 
 // A letter's byte; a cell above 255 holds none.

@@ -14,6 +14,7 @@ use amount::Quantity;
 use amount::Turnover;
 use forms::Form;
 use forms::MOST_ROWS;
+use forms::Markets;
 use forms::Row;
 
 // A row's field as read: its cell, or what is wrong with it.
@@ -44,10 +45,27 @@ fn of_number(number: Number) -> RowRead
     }
 }
 
-fn market_type(byte: u8) -> RowRead
-    ensures { λ r. ⌜ rowNumbers r ≡ rowNumbers (letterCell isMarketType byte) ⌝ }
+// Whether a row takes a market type, which is read or to be written.
+pub fn is_market(markets: Markets, letter: u64) -> bool
+    ensures { λ r. ⌜ r ≡ isMarketType markets letter ⌝ }
 {
-    if byte == b'N' {
+    match markets {
+        Markets::Normal => letter == b'N' as u64,
+        Markets::Any => match letter {
+            // N, O, S, A.
+            78 => true,
+            79 => true,
+            83 => true,
+            65 => true,
+            _ => false,
+        },
+    }
+}
+
+fn market_type(markets: Markets, byte: u8) -> RowRead
+    ensures { λ r. ⌜ rowNumbers r ≡ rowNumbers (letterCell (isMarketType markets) byte) ⌝ }
+{
+    if is_market(markets, byte as u64) {
         RowRead::Cell(byte as u64)
     } else {
         RowRead::Field
@@ -71,7 +89,7 @@ fn read_row(row: Row, field: &[u8]) -> RowRead
 {
     match row {
         Row::Key(_) => RowRead::Cell(0),
-        Row::MarketType => market_type(wire::u8_at(field, 0)),
+        Row::MarketType(markets) => market_type(markets, wire::u8_at(field, 0)),
         Row::Status => status(wire::u8_at(field, 0)),
         Row::Price(_) => of_number(Price::read(field)),
         Row::Quantity(_) => of_number(Quantity::read(field)),

@@ -6,8 +6,8 @@ use quotebox::Listed;
 use quotebox::Started;
 use runs::Run;
 
-// The runs of the gap rows of two segments.
-pub const RUNS: usize = 132;
+// The runs of the gap rows of as many segments as a list may have.
+pub const RUNS: usize = runs::MOST;
 
 pub struct Began {
     pub answer: Started,

@@ -1,6 +1,7 @@
 -- What a caller may rely on where a message has no fault.
 use Prim.Native.Nat.{ℕ, _≤_}
 use mathlib.Core.Path.{_≡_, refl, ap, sym, _∙_}
+use mathlib.Core.Bool.{Bool, true, false, cond}
 use mathlib.Core.List.{List}
 use mathlib.Core.Option.{Option, none, some}
 use native.Mathlib.Omega.{arith}
@@ -30,9 +31,9 @@ use Rattle.head.specs.declared.head.Head.{Head}
 use Rattle.head.specs.declared.head.Head.the-variants.{Good, Bad}
 use Rattle.message.specs.Good.{GoodMessage, PlaceFor, HasContract}
 use Rattle.head.specs.GoodHead.{NumberFor, HasNumber}
-use Rattle.head.specs.Fields.{letterOf, secondOf, formIn, lengthOf, numberOf, dataOf}
+use Rattle.head.specs.Fields.{letterOf, segmentLetterOf, secondOf, formIn, lengthOf, numberOf, dataOf}
 use Rattle.head.specs.Rules.{headOf}
-use Rattle.message.specs.Message.{TellsOf, messagePlace, ofPlace, ofSubject, ofNamed}
+use Rattle.message.specs.Message.{TellsOf, messagePlace, marketIn, updates, actingFor, acting, actsAs, ofPlace, ofSubject, ofNamed}
 use Rattle.message.specs.Reads.{rowsRead, ofVerdict, contentsBy, contentsOf, messageOf}
 use Rattle.message.specs.MessageLaws.{good-head, bad-head, length-is}
 use Rattle.message.specs.Numbers.{verdictOf, numberIn}
@@ -42,6 +43,7 @@ use Rattle.head.specs.RulesLaws.{unlike}
 -- what an update with no fault is, in the terms of its bytes
 pub record IsUpdate (lists : Lists) (letter : ℕ) (bytes : List ℕ) (number : ℕ) (form : Form) (place : ℕ) : Type 0 where
   pub form-is : formIn bytes ≡ is.Form form
+  pub segment-is : segmentLetterOf bytes ≡ letter
   pub item : Item
   pub tells : TellsOf item form
   pub number-is : numberOf bytes ≡ number
@@ -102,6 +104,37 @@ named-update (is.Form own) n found e = subject-update (subjectOf own) own refl n
 named-update is.NoLength n found e = absurd (let z : _≡_ {A = ℕ} 0 1 = cc in omega arith)
 named-update is.PassedOver n found e = absurd (let z : _≡_ {A = ℕ} 0 1 = cc in omega arith)
 
+-- what acts as a form has that form, and what is passed over by its market type has a number as before
+subject-acts : (subject : Subject) (own : Form) (market : ℕ) (form : Form) → actingFor subject own market ≡ is.Form form → is.Form own ≡ is.Form form
+subject-acts Nothing own market form e = e
+subject-acts (Of item level) own market form e = go (updates item market) e
+  where
+    go : (t : Bool) → cond t (is.Form own) is.PassedOver ≡ is.Form form → is.Form own ≡ is.Form form
+    go true e = e
+    go false e = absurd (let z : _≡_ {A = ℕ} 0 1 = cc in omega arith)
+
+acts-form : (named : Named) (market : ℕ) (form : Form) → acting named market ≡ is.Form form → named ≡ is.Form form
+acts-form (is.Form own) market form e = subject-acts (subjectOf own) own market form e
+acts-form is.NoLength market form e = e
+acts-form is.PassedOver market form e = e
+
+pub acts-as : (bytes : List ℕ) (form : Form) → actsAs bytes ≡ is.Form form → formIn bytes ≡ is.Form form
+unfolding actsAs
+acts-as bytes form e = acts-form (formIn bytes) (marketIn (dataOf bytes)) form e
+
+subject-acts-number : (subject : Subject) (own : Form) → subjectOf own ≡ subject → (market number : ℕ) → NumberFor subject number → HasNumber (actingFor subject own market) number
+subject-acts-number Nothing own s market number h = rw s h
+subject-acts-number (Of item level) own s market number h = go (updates item market)
+  where
+    go : (t : Bool) → HasNumber (cond t (is.Form own) is.PassedOver) number
+    go true = rw s h
+    go false = h
+
+acts-number : (named : Named) (market number : ℕ) → HasNumber named number → HasNumber (acting named market) number
+acts-number (is.Form own) market number h = subject-acts-number (subjectOf own) own refl market number h
+acts-number is.NoLength market number h = h
+acts-number is.PassedOver market number h = h
+
 module _ (lists : Lists) (letter : ℕ) (bytes : List ℕ) (good : verdictOf (messageOf lists letter bytes .what) ≡ Good) where
   rules : GoodMessage lists letter bytes
   rules = good-exact lists letter bytes .0 good
@@ -125,29 +158,32 @@ module _ (lists : Lists) (letter : ℕ) (bytes : List ℕ) (good : verdictOf (me
   unfolding contentsBy
   rows-good = rows-pass (rowsRead bytes .verdict) _ (sym (ap (λ m. verdictOf (m .what)) contents-good) ∙ good)
 
-  what-is : messageOf lists letter bytes .what ≡ ofNamed (formIn bytes) (numberOf bytes) (messagePlace lists letter bytes)
+  what-is : messageOf lists letter bytes .what ≡ ofNamed (actsAs bytes) (numberOf bytes) (messagePlace lists letter bytes)
   unfolding contentsBy
   what-is = ap (λ m. m .what) contents-good ∙ rw rows-good
 
   -- its number is the number field
   pub number-is : numberIn (messageOf lists letter bytes .what) ≡ numberOf bytes
+  unfolding actsAs
   number-is =
-      ap numberIn what-is ∙ named-number (formIn bytes) (numberOf bytes) (messagePlace lists letter bytes) (rules .numbering) (rules .contract)
+      ap numberIn what-is ∙ named-number (actsAs bytes) (numberOf bytes) (messagePlace lists letter bytes) (acts-number (formIn bytes) (marketIn (dataOf bytes)) (numberOf bytes) (rules .numbering)) (rules .contract)
 
   pub update-told : (number : ℕ) (form : Form) (place : ℕ) → messageOf lists letter bytes .what ≡ what.Update number form place
       → IsUpdate lists letter bytes number form place
   unfolding contentsBy
   update-told number form place e =
-      let p = named-update (formIn bytes) (numberOf bytes) (messagePlace lists letter bytes) (sym what-is ∙ e) in
+      let p = named-update (actsAs bytes) (numberOf bytes) (messagePlace lists letter bytes) (sym what-is ∙ e) in
+      let named : formIn bytes ≡ is.Form form = acts-as bytes form (p .named-is) in
       record {
-        form-is = p .named-is;
+        form-is = named;
+        segment-is = rules .code .same-segment;
         item = p .item;
         tells = p .tells;
         number-is = p .number-is;
-        length-is = form-length bytes form (p .named-is);
+        length-is = form-length bytes form named;
         place-is = p .found-is;
-        rows-good = rw (p .named-is) at rows-good;
-        cells-are = rw (p .named-is) at (ap (λ m. m .cells) contents-good);
+        rows-good = rw named at rows-good;
+        cells-are = rw named at (ap (λ m. m .cells) contents-good);
       }
 
   -- lent cells in which its rows are stored have its cells in front

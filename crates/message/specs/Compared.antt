@@ -15,18 +15,22 @@ use Rattle.forms.specs.declared.forms.Named.{Named}
 use Rattle.forms.specs.declared.forms.Named.the-variants as is
 use Rattle.forms.specs.declared.forms.Subject.{Subject}
 use Rattle.forms.specs.declared.forms.Subject.the-variants.{Nothing, Of}
-use Rattle.forms.specs.Forms.{subjectOf}
+use lib.ListN.{take}
+use Rattle.forms.specs.Forms.{subjectOf, keyBytesOf}
 use Rattle.head.specs.declared.head.Fault.{Fault}
 use Rattle.head.specs.declared.head.Fault.the-variants.{Frame, Code, Trailer, Length, Checksum, Numbering, Field, Range, Contract}
-use Rattle.head.specs.Fields.{formIn}
 use Rattle.message.specs.declared.body.What.{What}
 use Rattle.message.specs.declared.body.What.the-variants.{Heartbeat, PassedOver, Update, Bad}
-use Rattle.message.specs.Message.{messageKey, placeThere}
+use Rattle.message.specs.Message.{messageKey, placeThere, actsAs}
 
 -- M-102: the keys compared with a key in a segment of its file, where there is one
 abbrev pub comparedThere : Item → Lists → List ℕ → Option ℕ → ℕ
 comparedThere item lists key none = 0
 comparedThere item lists key (some segment) = lookup (habitOf item) (fileOf item lists) segment key .compared
+
+-- M-102: the keys compared with the key with which data begins, if it tells of a contract, and if of a pair
+abbrev pub keysIn : Lists → List ℕ → Option ℕ → Item → ℕ
+keysIn lists «data» segment item = comparedThere item lists (take (keyBytesOf item) «data») segment
 
 -- M-102: the keys compared with a message's key, if it tells of a contract, and if of a pair
 abbrev pub keysThere : Lists → List ℕ → Option ℕ → Item → ℕ
@@ -37,7 +41,7 @@ abbrev pub comparedFor : Subject → (Item → ℕ) → ℕ
 comparedFor Nothing keys = 0
 comparedFor (Of item level) keys = keys item
 
--- M-102: by what a message is named in the table of forms: what is passed over has none
+-- M-102: by what a message acts as: what is passed over has none
 abbrev pub comparedAs : Named → (Item → ℕ) → ℕ
 comparedAs (is.Form form) keys = comparedFor (subjectOf form) keys
 comparedAs is.NoLength keys = 0
@@ -45,7 +49,7 @@ comparedAs is.PassedOver keys = 0
 
 -- M-102: the keys that a message's lookup compares, once it has come to 13
 unfoldable pub messageCompared : Lists → ℕ → List ℕ → ℕ
-messageCompared lists letter bytes = comparedAs (formIn bytes) (keysThere lists bytes (segmentOf (lists .contracts) letter))
+messageCompared lists letter bytes = comparedAs (actsAs bytes) (keysThere lists bytes (segmentOf (lists .contracts) letter))
 
 -- M-102: a key that was looked up: its place, 13 where it has none, and the keys compared
 pub record Seeks (item : Item) (lists : Lists) (key : List ℕ) (segment : Option ℕ) (answer : Sought) : Type 0 where

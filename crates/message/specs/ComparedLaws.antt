@@ -1,7 +1,7 @@
 -- Laws of the keys that a message's lookup compares: none before 13, and never more than the binary digits of the most keys of a file,
 -- which are few beside the message's bytes.
 use Prim.Native.Nat.{ℕ, _*_, _≤_}
-use mathlib.Core.Path.{_≡_, refl, sym, ap, _∙_}
+use mathlib.Core.Path.{_≡_, refl, sym, ap, subst, _∙_}
 use mathlib.Core.Bool.{true, false, true≢false}
 use mathlib.Core.List.{List}
 use mathlib.Core.Option.{Option, none, some}
@@ -28,21 +28,21 @@ use Rattle.forms.specs.declared.rows.Level.{Level}
 use Rattle.forms.specs.declared.rows.Level.the-variants.{One, Two}
 use Rattle.forms.specs.declared.forms.Form.{Form}
 use Rattle.forms.specs.Forms.{namedRows, rowsOf, recordForm, subjectOf}
-use Rattle.forms.specs.FormsLaws.{record-form}
+use Rattle.forms.specs.declared.forms.Form.the-variants.{Heartbeat, LevelOne, LevelTwo, PairOne, PairTwo, FutureOne, FutureTwo, PreOpenOne, PreOpenTwo}
 use Rattle.forms.specs.Rows.{messageLength}
 use Rattle.head.specs.declared.head.Fault.{Fault}
 use Rattle.head.specs.declared.head.Head.{Head}
 use Rattle.head.specs.declared.head.Head.the-variants as head
-use Rattle.head.specs.Fields.{formIn, lengthOf}
+use Rattle.head.specs.Fields.{lengthOf}
 use Rattle.head.specs.Head.{frameRules, formRules, headRules}
 use Rattle.head.specs.HeadLaws.{framed-exact}
 use Rattle.head.specs.Rules.{firstFault, headOf}
 use Rattle.head.specs.RulesLaws.{good-hold, bad-broken}
 use Rattle.message.specs.declared.body.What.the-variants as what
-use Rattle.message.specs.CallerLaws.{form-length}
+use Rattle.message.specs.CallerLaws.{form-length, acts-as}
 use Rattle.message.specs.MessageLaws.{bad-head}
 use Rattle.message.specs.Reads.{messageOf}
-use Rattle.message.specs.Message.{Message, messageKey}
+use Rattle.message.specs.Message.{Message, messageKey, actsAs}
 use Rattle.message.specs.Compared.{comparedThere, keysThere, comparedFor, comparedAs, messageCompared, keySought, Seeks}
 
 -- a lookup in a segment reports what is sought
@@ -91,12 +91,22 @@ contract-most = refl
 pub pair-most : digits (habitOf Pair .most) ≡ 11
 pair-most = refl
 
-long-enough : (item : Item) (level : Level) (keys : ℕ) → keys ≤ digits (habitOf item .most) → 249 * keys ≤ 13 * messageLength (rowsOf (recordForm item level))
+-- an update has 204 bytes or more, and of a pair, of which fewer keys are compared, 227
+abbrev LongEnough : Subject → Form → Type 0
+LongEnough Nothing form = Unit {0}
+LongEnough (Of item level) form = 204 * digits (habitOf item .most) ≤ 13 * messageLength (rowsOf form)
+
+long-enough : (form : Form) → LongEnough (subjectOf form) form
 unfolding rowsOf namedRows
-long-enough Contract One keys h = omega (arith, contract-most)
-long-enough Contract Two keys h = omega (arith, contract-most)
-long-enough Pair One keys h = omega (arith, pair-most)
-long-enough Pair Two keys h = omega (arith, pair-most)
+long-enough Heartbeat = tt
+long-enough LevelOne = omega (arith, contract-most)
+long-enough LevelTwo = omega (arith, contract-most)
+long-enough PairOne = omega (arith, pair-most)
+long-enough PairTwo = omega (arith, pair-most)
+long-enough FutureOne = omega (arith, contract-most)
+long-enough FutureTwo = omega (arith, contract-most)
+long-enough PreOpenOne = omega (arith, contract-most)
+long-enough PreOpenTwo = omega (arith, contract-most)
 
 item-most : (item : Item) → digits (habitOf item .most) ≤ 13
 item-most Contract = omega (arith, contract-most)
@@ -117,7 +127,7 @@ module _ (lists : Lists) (headers : Headers lists) (letter : ℕ) where
   -- so that a message's compares at most 13
   pub message-most : (bytes : List ℕ) → messageCompared lists letter bytes ≤ 13
   unfolding messageCompared
-  message-most bytes = named (formIn bytes)
+  message-most bytes = named (actsAs bytes)
     where
       told : (subject : Subject) → comparedFor subject (keysThere lists bytes (segmentOf (lists .contracts) letter)) ≤ 13
       told Nothing = omega arith
@@ -128,18 +138,19 @@ module _ (lists : Lists) (headers : Headers lists) (letter : ℕ) where
       named is.NoLength = omega arith
       named is.PassedOver = omega arith
 
-  -- and 13 for each 249 bytes of it, since an update of a contract has no fewer, and of a pair, which has fewer, it is 11
-  pub message-long : (bytes : List ℕ) → 249 * messageCompared lists letter bytes ≤ 13 * lengthOf bytes
+  -- and 13 for each 204 bytes of it, since an update has no fewer
+  pub message-long : (bytes : List ℕ) → 204 * messageCompared lists letter bytes ≤ 13 * lengthOf bytes
   unfolding messageCompared
-  message-long bytes = named (formIn bytes) refl
+  message-long bytes = named (actsAs bytes) refl
     where
-      told : (form : Form) → formIn bytes ≡ is.Form form → (subject : Subject) → subjectOf form ≡ subject
-          → 249 * comparedFor subject (keysThere lists bytes (segmentOf (lists .contracts) letter)) ≤ 13 * lengthOf bytes
+      told : (form : Form) → actsAs bytes ≡ is.Form form → (subject : Subject) → subjectOf form ≡ subject
+          → 204 * comparedFor subject (keysThere lists bytes (segmentOf (lists .contracts) letter)) ≤ 13 * lengthOf bytes
       told form e Nothing s = omega arith
       told form e (Of item level) s =
-          rw (form-length bytes form e, record-form form item level s) (long-enough item level _ (item-compared item (messageKey item bytes)))
+          let wide = subst (λ (subject : Subject). LongEnough subject form) s (long-enough form) in
+          rw (form-length bytes form (acts-as bytes form e)) (omega (arith, wide, item-compared item (messageKey item bytes)))
 
-      named : (n : Named) → formIn bytes ≡ n → 249 * comparedAs n (keysThere lists bytes (segmentOf (lists .contracts) letter)) ≤ 13 * lengthOf bytes
+      named : (n : Named) → actsAs bytes ≡ n → 204 * comparedAs n (keysThere lists bytes (segmentOf (lists .contracts) letter)) ≤ 13 * lengthOf bytes
       named (is.Form form) e = told form e (subjectOf form) refl
       named is.NoLength e = omega arith
       named is.PassedOver e = omega arith

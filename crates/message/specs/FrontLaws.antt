@@ -13,13 +13,13 @@ use Rattle.lookup.specs.Lookup.{segmentOf}
 use Rattle.pairs.specs.Lists.{Lists}
 use Rattle.forms.specs.Sizes.{bareLength}
 use Rattle.head.specs.GoodHead.{Framed}
-use Rattle.head.specs.Fields.{dataAt, letterOf, secondOf, lengthOf, numberOf, dataOf, sumSent, endByte, formIn, sumIn, rightSum}
+use Rattle.head.specs.Fields.{dataAt, letterOf, segmentLetterOf, secondOf, lengthOf, numberOf, dataOf, sumSent, endByte, formIn, sumIn, rightSum}
 use Rattle.head.specs.Rules.{headOf}
 use Rattle.head.specs.Tests.{framed, coded, trailed, summed}
 use Rattle.head.specs.HeadLaws.{framed-exact}
 use Rattle.forms.specs.declared.forms.Item.{Item}
 use Rattle.forms.specs.Forms.{keyBytesOf}
-use Rattle.message.specs.Message.{messageKey, keyPlace, messagePlace}
+use Rattle.message.specs.Message.{messageKey, keyPlace, messagePlace, actsAs}
 use Rattle.message.specs.Reads.{contentsBy, contentsOf, messageOf}
 
 -- the length stands in the first four bytes
@@ -54,6 +54,10 @@ module _ (bytes : List ℕ) (f : Framed bytes) where
   unfolding formIn
   form-same = rw (letter-same, second-same, length-same)
 
+  segment-same : segmentLetterOf (ownBytes bytes) ≡ segmentLetterOf bytes
+  unfolding segmentLetterOf
+  segment-same = rw letter-same
+
   sum-same : sumIn (ownBytes bytes) ≡ sumIn bytes
   unfolding sumIn
   sum-same = rw (letter-same, second-same)
@@ -74,6 +78,10 @@ module _ (bytes : List ℕ) (f : Framed bytes) where
   unfolding dataOf
   data-same = rw (length-same, part-of-front dataAt (lengthOf bytes - bareLength) (lengthOf bytes) bytes (omega arith))
 
+  acts-same : actsAs (ownBytes bytes) ≡ actsAs bytes
+  unfolding actsAs
+  acts-same = rw (form-same, data-same)
+
   own-framed : Framed (ownBytes bytes)
   own-framed =
       let long : length (ownBytes bytes) ≡ lengthOf bytes = length-take-le (lengthOf bytes) bytes (f .within) in
@@ -85,7 +93,7 @@ module _ (bytes : List ℕ) (f : Framed bytes) where
   module _ (letter : ℕ) (segment : Option ℕ) where
     coded-same : coded letter segment (ownBytes bytes) ≡ coded letter segment bytes
     unfolding coded
-    coded-same = rw (letter-same, second-same)
+    coded-same = rw (segment-same, letter-same, second-same)
 
     head-same : headOf letter segment (ownBytes bytes) ≡ headOf letter segment bytes
     unfolding headOf trailed summed
@@ -98,7 +106,7 @@ module _ (bytes : List ℕ) (f : Framed bytes) where
 
     by-place : (place : Item → Option ℕ) → contentsBy place (ownBytes bytes) ≡ contentsBy place bytes
     unfolding contentsBy
-    by-place place = rw (form-same, length-same, data-same, sequence-same)
+    by-place place = rw (acts-same, form-same, length-same, data-same, sequence-same)
 
     pub contents-same : contentsOf lists letter (ownBytes bytes) ≡ contentsOf lists letter bytes
     contents-same = ap (λ (place : Item → Option ℕ). contentsBy place (ownBytes bytes)) places-same ∙ by-place (messagePlace lists letter bytes)

@@ -18,7 +18,7 @@ use Rattle.layout.specs.Says.{rowAt, fieldAt, RowSays}
 use Rattle.forms.specs.Forms.{subjectOf, formsOf}
 use Rattle.head.specs.Fields.{letterOf, secondOf, lengthOf, numberOf, dataOf, sumSent, endByte, formIn, sumIn, rightSum}
 use Rattle.head.specs.GoodHead.{Framed, Coded, HasLength, HasSum, HasNumber}
-use Rattle.message.specs.Message.{messagePlace, rowsIn}
+use Rattle.message.specs.Message.{messagePlace, actsAs, rowsIn}
 use Rattle.pairs.specs.Items.{fileOf, habitOf}
 
 -- 01, the table's rows 11 and 12: every row's field is well formed and in range: it says the cell that is kept of it
@@ -64,4 +64,4 @@ pub record GoodMessage (lists : Lists) (letter : ℕ) (bytes : List ℕ) : Type 
   pub checksum : HasSum (sumIn bytes) (sumSent bytes) (rightSum bytes)
   pub numbering : HasNumber (formIn bytes) (numberOf bytes)
   pub rows : GoodRows (rowsIn (formIn bytes)) (dataOf bytes)
-  pub contract : HasContract (formIn bytes) (messagePlace lists letter bytes)
+  pub contract : HasContract (actsAs bytes) (messagePlace lists letter bytes)

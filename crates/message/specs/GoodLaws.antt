@@ -38,7 +38,7 @@ use Rattle.head.specs.HeadLaws.{framed-exact, coded-exact, trailed-exact, lengt
 use Rattle.message.specs.declared.body.What.{What}
 use Rattle.head.specs.declared.head.Head.{Head}
 use Rattle.head.specs.declared.head.Head.the-variants.{Good, Bad}
-use Rattle.message.specs.Message.{messagePlace, placeThere, keyPlace, rowsIn, ofNamed}
+use Rattle.message.specs.Message.{messagePlace, placeThere, keyPlace, actsAs, rowsIn, ofNamed}
 use Rattle.pairs.specs.Items.{fileOf}
 use Rattle.pairs.specs.ItemsLaws.{sound-headers, segments-of, sound-of}
 use Rattle.message.specs.Reads.{rowsRead, ofVerdict, contentsBy, contentsOf, ofHead, messageOf}
@@ -112,9 +112,9 @@ module _ (lists : Lists) (letter : ℕ) (bytes : List ℕ) where
   pub rules-exact : Hold (messageRules lists letter bytes) ↔ GoodMessage lists letter bytes
   rules-exact =
       let head = hold-append (headRules letter (segmentOf (lists .contracts) letter) bytes) (bodyRules lists letter bytes) in
-      let body = hold-append (rowRules 0 (rowsIn (formIn bytes)) (dataOf bytes)) (keyRules (formIn bytes) (messagePlace lists letter bytes)) in
+      let body = hold-append (rowRules 0 (rowsIn (formIn bytes)) (dataOf bytes)) (keyRules (actsAs bytes) (messagePlace lists letter bytes)) in
       let rows = rows-exact 0 (rowsIn (formIn bytes)) (dataOf bytes) in
-      let key = contract-exact (formIn bytes) (messagePlace lists letter bytes) in (
+      let key = contract-exact (actsAs bytes) (messagePlace lists letter bytes) in (
         (λ h.
             let p = head .0 h in
             let q = body .0 (p .1) in
@@ -147,12 +147,12 @@ module _ (lists : Lists) (letter : ℕ) (bytes : List ℕ) where
 
 -- what a good message is, by its code and length, its number and its key
 pub good-what : (lists : Lists) (letter : ℕ) (bytes : List ℕ) → GoodMessage lists letter bytes
-    → messageOf lists letter bytes .what ≡ ofNamed (formIn bytes) (numberOf bytes) (messagePlace lists letter bytes)
+    → messageOf lists letter bytes .what ≡ ofNamed (actsAs bytes) (numberOf bytes) (messagePlace lists letter bytes)
 unfolding messageOf contentsBy
 good-what lists letter bytes g = by-head (headOf letter (segmentOf (lists .contracts) letter) bytes) (good-exact lists letter bytes .1 g)
   where
     named : What
-    named = ofNamed (formIn bytes) (numberOf bytes) (messagePlace lists letter bytes)
+    named = ofNamed (actsAs bytes) (numberOf bytes) (messagePlace lists letter bytes)
 
     by-rows : (v : Verdict) → verdictOf (ofVerdict v named) ≡ Good → ofVerdict v named ≡ named
     by-rows verdict.Good e = refl

@@ -12,6 +12,7 @@ use Rattle.layout.specs.Cells.{zerosBehind}
 use Rattle.forms.specs.declared.forms.Form.{Form}
 use Rattle.forms.specs.declared.forms.Item.{Item}
 use Rattle.forms.specs.declared.forms.Named.the-variants as is
+use mathlib.Core.Bool.{Bool, true, false, cond}
 use Rattle.forms.specs.declared.forms.Subject.the-variants.{Nothing}
 use Rattle.forms.specs.AnswersLaws.{tells}
 use Rattle.forms.specs.Forms.{rowsOf, subjectOf}
@@ -29,7 +30,7 @@ use Rattle.head.specs.FaultsLaws.{head-told}
 use Rattle.head.specs.Head.{formRules}
 use Rattle.head.specs.Rules.{headOf, firstFault}
 use Rattle.message.specs.NumbersLaws.{what-told}
-use Rattle.message.specs.Message.{Message, TellsOf, placeIn, placeThere, placesThere, messageKey, messagePlace, keyPlace, ofPlace}
+use Rattle.message.specs.Message.{Message, TellsOf, placeIn, placeThere, placesThere, messageKey, messagePlace, keyPlace, updates, acting, actsAs, ofPlace, ofNamed}
 use Rattle.message.specs.Compared.{keysThere, comparedAs, messageCompared, soFar}
 use Rattle.message.specs.Reads.{Outlines, rowsRead, ofVerdict, bare, contentsBy, contentsOf, messageOf, ReadsMessage, ReadsFormed}
 
@@ -59,9 +60,9 @@ places-by-segment lists letter bytes e = λ i item. placeThere item lists (messa
 
 -- and the keys compared there
 pub keys-by-segment : (lists : Lists) (letter : ℕ) (bytes : List ℕ) {segment : Option ℕ} → segment ≡ segmentOf (lists .contracts) letter
-    → comparedAs (formIn bytes) (keysThere lists bytes segment) ≡ messageCompared lists letter bytes
+    → comparedAs (actsAs bytes) (keysThere lists bytes segment) ≡ messageCompared lists letter bytes
 unfolding messageCompared
-keys-by-segment lists letter bytes e = λ i. comparedAs (formIn bytes) (keysThere lists bytes (e i))
+keys-by-segment lists letter bytes e = λ i. comparedAs (actsAs bytes) (keysThere lists bytes (e i))
 
 -- a message's outline
 abbrev pub outlineOf : Message → ℕ → Outline
@@ -79,46 +80,60 @@ pub sought-outlined : (number : ℕ) (form : Form) (whole : ℕ) (found : Option
 sought-outlined number form whole none e = record { tells = tells refl; long = refl; steps = e }
 sought-outlined number form whole (some place) e = record { tells = tells refl; long = refl; steps = e }
 
+-- an update acts as its form where its market type updates, and else is passed over
+module _ (form : Form) (item : Item) (s : TellsOf item form) (market : ℕ) where
+  pub acts : (t : Bool) → updates item market ≡ t → acting (is.Form form) market ≡ cond t (is.Form form) is.PassedOver
+  acts t e = rw (s .1, e)
+
+  pub acts-outlined : updates item market ≡ true → (number whole : ℕ) (place : Item → Option ℕ) (keys : Item → ℕ) {answer : Outline}
+      → Outlines (bare (ofPlace number form (place item)) whole) (keys item) answer
+      → Outlines (bare (ofNamed (acting (is.Form form) market) number place) whole) (comparedAs (acting (is.Form form) market) keys) answer
+  acts-outlined e number whole place keys o = rw (acts true e, s .1) o
+
+  pub passed-outlined : updates item market ≡ false → (number whole : ℕ) (place : Item → Option ℕ) (keys : Item → ℕ)
+      → Outlines (bare (ofNamed (acting (is.Form form) market) number place) whole) (comparedAs (acting (is.Form form) market) keys) (record { what = what.PassedOver number; length = whole; compared = 0 })
+  passed-outlined e number whole place keys = rw (acts false e) (outlined refl)
+
 -- a message with a good head, by the place of its key and the keys compared with it
 module _ (place : Item → Option ℕ) (keys : Item → ℕ) (bytes : List ℕ) (whole : ℕ) (long : whole ≡ lengthOf bytes) where
   -- one with no rows leaves the lent cells as they are
   module _ (cells : List ℕ) where
     pub heartbeat-reads : (form : Form) → formIn bytes ≡ is.Form form → subjectOf form ≡ Nothing
-        → ReadsMessage (contentsBy place bytes) (comparedAs (formIn bytes) keys) (rowsRead bytes .cells) cells (record { what = what.Heartbeat; length = whole; compared = 0 }) cells
-    unfolding contentsBy
-    heartbeat-reads form e s = rw (long, e, s, nothing-rows form s) (record { told = outlined refl; stored = refl })
+        → ReadsMessage (contentsBy place bytes) (comparedAs (actsAs bytes) keys) (rowsRead bytes .cells) cells (record { what = what.Heartbeat; length = whole; compared = 0 }) cells
+    unfolding contentsBy actsAs
+    heartbeat-reads form e s = rw (long, e, s, nothing-rows form s) (rw s (record { told = outlined refl; stored = refl }))
 
     pub passed-over-reads : formIn bytes ≡ is.PassedOver
-        → ReadsMessage (contentsBy place bytes) (comparedAs (formIn bytes) keys) (rowsRead bytes .cells) cells (record { what = what.PassedOver (numberOf bytes); length = whole; compared = 0 }) cells
-    unfolding contentsBy
+        → ReadsMessage (contentsBy place bytes) (comparedAs (actsAs bytes) keys) (rowsRead bytes .cells) cells (record { what = what.PassedOver (numberOf bytes); length = whole; compared = 0 }) cells
+    unfolding contentsBy actsAs
     passed-over-reads e = rw (long, e) (record { told = outlined refl; stored = refl })
 
     pub no-length-reads : formIn bytes ≡ is.NoLength
-        → ReadsMessage (contentsBy place bytes) (comparedAs (formIn bytes) keys) (rowsRead bytes .cells) cells (record { what = what.PassedOver (numberOf bytes); length = whole; compared = 0 }) cells
-    unfolding contentsBy
+        → ReadsMessage (contentsBy place bytes) (comparedAs (actsAs bytes) keys) (rowsRead bytes .cells) cells (record { what = what.PassedOver (numberOf bytes); length = whole; compared = 0 }) cells
+    unfolding contentsBy actsAs
     no-length-reads e = rw (long, e) (record { told = outlined refl; stored = refl })
 
-  module _ (form : Form) (e : formIn bytes ≡ is.Form form) (item : Item) (s : TellsOf item form) where
-    -- an update's rows are read, and then its key is looked up
+  module _ (form : Form) (e : formIn bytes ≡ is.Form form) where
+    -- the rows of a form are read, and then it acts by its market type
     pub update-reads : (verdict other : Verdict) → verdict ≡ other → (cells cells′ : List ℕ) → ReadsRows (rowsOf form) (dataOf bytes) cells verdict cells′
-        → (answer : Outline) → Outlines (bare (ofVerdict other (ofPlace (numberOf bytes) form (place item))) whole) (keys item) answer
-        → ReadsMessage (contentsBy place bytes) (comparedAs (formIn bytes) keys) (rowsRead bytes .cells) cells answer cells′
+        → (answer : Outline) → Outlines (bare (ofVerdict other (ofNamed (actsAs bytes) (numberOf bytes) place)) whole) (comparedAs (actsAs bytes) keys) answer
+        → ReadsMessage (contentsBy place bytes) (comparedAs (actsAs bytes) keys) (rowsRead bytes .cells) cells answer cells′
     unfolding contentsBy
     update-reads verdict other same cells cells′ read answer o =
         let v : other ≡ readRows 0 (rowsOf form) (dataOf bytes) .verdict = sym same ∙ verdict-told verdict (readRows 0 (rowsOf form) (dataOf bytes) .verdict) (read .answers) in
-        record { told = outlined (outline-told o ∙ rw (long, e, s .1, ← v)); stored = rw e (read .cells-stored) }
+        record { told = outlined (outline-told o ∙ rw (long, e, ← v)); stored = rw e (read .cells-stored) }
 
-    pub update-is : (w : What) (read : Outcome) → readRows 0 (rowsOf form) (dataOf bytes) ≡ read → w ≡ ofVerdict (read .verdict) (ofPlace (numberOf bytes) form (place item))
+    pub update-is : (w : What) (read : Outcome) → readRows 0 (rowsOf form) (dataOf bytes) ≡ read → w ≡ ofVerdict (read .verdict) (ofNamed (actsAs bytes) (numberOf bytes) place)
         → contentsBy place bytes ≡ record { what = w; length = whole; cells = zerosBehind (read .cells) }
     unfolding contentsBy
-    update-is w read same what-is = rw (long, e, s .1, same, what-is)
+    update-is w read same what-is = rw (long, e, same, what-is)
 
 -- a message with a good frame, by what the rest of its head was judged
 module _ (place : Item → Option ℕ) (keys : Item → ℕ) (bytes cells : List ℕ) (judged : Head) (told : headNumbers judged ≡ headNumbers (firstFault (formRules bytes))) where
   form-is : {h : Head} → judged ≡ h → firstFault (formRules bytes) ≡ h
   form-is e = sym (head-told judged (firstFault (formRules bytes)) told) ∙ e
 
-  pub good-form : {answer : Outline} {cells′ : List ℕ} → judged ≡ head.Good → ReadsMessage (contentsBy place bytes) (comparedAs (formIn bytes) keys) (rowsRead bytes .cells) cells answer cells′
+  pub good-form : {answer : Outline} {cells′ : List ℕ} → judged ≡ head.Good → ReadsMessage (contentsBy place bytes) (comparedAs (actsAs bytes) keys) (rowsRead bytes .cells) cells answer cells′
       → ReadsFormed place keys bytes cells answer cells′
   good-form e reads = rw (form-is e) reads
 

@@ -20,7 +20,7 @@ use Rattle.head.specs.declared.head.Fault.the-variants.{Field, Range, Contract}
 use Rattle.head.specs.Fields.{dataOf, formIn}
 use Rattle.head.specs.Head.{headRules}
 use Rattle.head.specs.Tests.{isSome, isFormed, isInRange}
-use Rattle.message.specs.Message.{messagePlace, rowsIn}
+use Rattle.message.specs.Message.{messagePlace, actsAs, rowsIn}
 
 -- 01, the order of checks: rows in turn from row i on, 11 before 12 in a row
 abbrev pub rowRules : ℕ → List Row → List ℕ → List (Rule Fault)
@@ -44,7 +44,7 @@ keyRules is.PassedOver place = []
 -- 01, the order of checks: 11 to 13
 abbrev pub bodyRules : Lists → ℕ → List ℕ → List (Rule Fault)
 bodyRules lists letter bytes =
-    rowRules 0 (rowsIn (formIn bytes)) (dataOf bytes) ++ keyRules (formIn bytes) (messagePlace lists letter bytes)
+    rowRules 0 (rowsIn (formIn bytes)) (dataOf bytes) ++ keyRules (actsAs bytes) (messagePlace lists letter bytes)
 
 -- 01, the order of checks: 5 to 13
 abbrev pub messageRules : Lists → ℕ → List ℕ → List (Rule Fault)

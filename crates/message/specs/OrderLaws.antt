@@ -31,7 +31,7 @@ use Rattle.forms.specs.Forms.{subjectOf}
 use Rattle.head.specs.Fields.{lengthOf, numberOf, dataOf, formIn}
 use Rattle.head.specs.Head.{headRules}
 use Rattle.head.specs.Rules.{headOf, firstFault}
-use Rattle.message.specs.Message.{messagePlace, rowsIn, ofPlace, ofSubject, ofNamed}
+use Rattle.message.specs.Message.{messagePlace, actsAs, rowsIn, ofPlace, ofSubject, ofNamed}
 use Rattle.message.specs.Reads.{rowsRead, ofVerdict, ofHead, contentsBy, contentsOf, messageOf}
 use Rattle.message.specs.Numbers.{verdictOf}
 use Rattle.head.specs.Tests.{isSome}
@@ -81,9 +81,9 @@ module _ (lists : Lists) (letter : ℕ) (bytes : List ℕ) where
   unfolding contentsBy
   body-first =
       let place : Item → Option ℕ = messagePlace lists letter bytes in
-      verdict-then (rowsRead bytes .verdict) (ofNamed (formIn bytes) (numberOf bytes) place)
-      ∙ ap₂ andThen (rows-first 0 (rowsIn (formIn bytes)) (dataOf bytes)) (key-first (formIn bytes) (numberOf bytes) place)
-      ∙ sym (first-append (rowRules 0 (rowsIn (formIn bytes)) (dataOf bytes)) (keyRules (formIn bytes) place))
+      verdict-then (rowsRead bytes .verdict) (ofNamed (actsAs bytes) (numberOf bytes) place)
+      ∙ ap₂ andThen (rows-first 0 (rowsIn (formIn bytes)) (dataOf bytes)) (key-first (actsAs bytes) (numberOf bytes) place)
+      ∙ sym (first-append (rowRules 0 (rowsIn (formIn bytes)) (dataOf bytes)) (keyRules (actsAs bytes) place))
 
   abbrev headHere : Head
   headHere = headOf letter (segmentOf (lists .contracts) letter) bytes

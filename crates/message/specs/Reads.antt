@@ -23,7 +23,7 @@ use Rattle.head.specs.Head.{formRules}
 use Rattle.head.specs.Rules.{headOf, firstFault}
 use Rattle.message.specs.Numbers.{TellsWhat}
 use Rattle.message.specs.Compared.{comparedAs, soFar}
-use Rattle.message.specs.Message.{Message, messagePlace, ofNamed, rowsIn}
+use Rattle.message.specs.Message.{Message, messagePlace, actsAs, ofNamed, rowsIn}
 
 -- 01 "The message": the rows of the data, read in turn
 abbrev pub rowsRead : List ℕ → Outcome
@@ -39,7 +39,7 @@ ofVerdict (verdict.Range row) good = what.Bad (fault.Range row)
 unfoldable pub contentsBy : (Item → Option ℕ) → List ℕ → Message
 contentsBy place bytes =
     record {
-      what = ofVerdict (rowsRead bytes .verdict) (ofNamed (formIn bytes) (numberOf bytes) place);
+      what = ofVerdict (rowsRead bytes .verdict) (ofNamed (actsAs bytes) (numberOf bytes) place);
       length = lengthOf bytes;
       cells = zerosBehind (rowsRead bytes .cells);
     }
@@ -86,4 +86,4 @@ pub record ReadsMessage (message : Message) (compared : ℕ) (read cells : List 
 abbrev pub ReadsFormed : (Item → Option ℕ) → (Item → ℕ) → List ℕ → List ℕ → Outline → List ℕ → Type 0
 ReadsFormed place keys bytes cells answer cells′ =
     let head : Head = firstFault (formRules bytes) in
-    ReadsMessage (ofHead head (lengthOf bytes) (contentsBy place bytes)) (comparedAs (formIn bytes) keys) (cellsBy head bytes) cells answer cells′
+    ReadsMessage (ofHead head (lengthOf bytes) (contentsBy place bytes)) (comparedAs (actsAs bytes) keys) (cellsBy head bytes) cells answer cells′

@@ -12,8 +12,8 @@ ghost use Rattle.forms.specs.Forms.{keyBytesOf};
 ghost use Rattle.head.specs.GoodHead.{Framed};
 ghost use Rattle.head.specs.Fields.{lengthOf, formIn};
 ghost use Rattle.head.specs.Tests.{framed, isHeartbeat};
-ghost use Rattle.message.specs.Message.{TellsOf, placeThere, placesThere, ofPlace};
-ghost use Rattle.message.specs.Compared.{comparedThere, keysThere, comparedAs, messageCompared, keySought, Seeks};
+ghost use Rattle.message.specs.Message.{TellsOf, placeThere, placesIn, placesThere, marketIn, updates, acting, actsAs, ofPlace, ofNamed};
+ghost use Rattle.message.specs.Compared.{comparedThere, keysIn, keysThere, comparedAs, messageCompared, keySought, Seeks};
 ghost use Rattle.message.specs.Reads.{rowsRead, cellsRead, contentsBy, bare, messageOf, Outlines, ReadsMessage, ReadsFormed};
 use head::Fault;
 use head::Head;
@@ -92,6 +92,40 @@ fn placed(
     }
 }
 
+// Of a contract only the normal market's updates; a pair has no market type.
+fn updates(item: Item, data: &[u8]) -> bool
+    ensures { λ r. ⌜ r ≡ updates item (marketIn (now («data» .entry))) ⌝ }
+{
+    match item {
+        Item::Contract => wire::u8_at(data, layout::KEY_BYTES) == b'N',
+        Item::Pair => true,
+    }
+}
+
+// An update with good rows: another market's is passed over, and its key isn't looked up.
+fn acted(
+    list: &[u8],
+    spreads: &[u8],
+    segment: Found,
+    data: &[u8],
+    whole: usize,
+    number: u32,
+    form: Form,
+    item: Item,
+) -> Outline
+    requires { ⌜ TellsOf item form ⌝ }
+    ensures { λ r. ⌜ Outlines (bare (ofNamed (acting (Named.Form form) (marketIn (now («data» .entry)))) number (placesIn (lists (now (list .entry)) (now (spreads .entry))) (now («data» .entry)) (placeOf segment))) whole) (comparedAs (acting (Named.Form form) (marketIn (now («data» .entry)))) (keysIn (lists (now (list .entry)) (now (spreads .entry))) (now («data» .entry)) (placeOf segment))) r ⌝ }
+{
+    if updates(item, data) {
+        return placed(list, spreads, segment, data, whole, number, form, item);
+    }
+    Outline {
+        what: What::PassedOver(number),
+        length: whole,
+        compared: 0,
+    }
+}
+
 // A fault before 13: no key was looked up.
 fn bad(fault: Fault, bytes: &[u8]) -> Outline
     requires { ⌜ keySought fault ≡ false ⌝ }
@@ -116,13 +150,13 @@ fn update(
     cells: &mut [u64; MOST_ROWS],
 ) -> Outline
     requires { ⌜ Framed (now bytes) × (whole ≡ lengthOf (now bytes)) × (formIn (now bytes) ≡ Named.Form form) × TellsOf item form ⌝ }
-    ensures { λ r. ⌜ ReadsMessage (contentsBy (placesThere (lists (now (list .entry)) (now (spreads .entry))) (now (bytes .entry)) (placeOf segment)) (now (bytes .entry))) (comparedAs (formIn (now (bytes .entry))) (keysThere (lists (now (list .entry)) (now (spreads .entry))) (now (bytes .entry)) (placeOf segment))) (rowsRead (now (bytes .entry)) .cells) (now (cells .entry)) r (now (cells .exit)) ⌝ }
+    ensures { λ r. ⌜ ReadsMessage (contentsBy (placesThere (lists (now (list .entry)) (now (spreads .entry))) (now (bytes .entry)) (placeOf segment)) (now (bytes .entry))) (comparedAs (actsAs (now (bytes .entry))) (keysThere (lists (now (list .entry)) (now (spreads .entry))) (now (bytes .entry)) (placeOf segment))) (rowsRead (now (bytes .entry)) .cells) (now (cells .entry)) r (now (cells .exit)) ⌝ }
 {
     let number = head::number_of(bytes);
     let end = whole - head::TRAILER;
     let data = &bytes[head::DATA..end];
     match layout::read_update(form, data, cells) {
-        Verdict::Good => placed(list, spreads, segment, data, whole, number, form, item),
+        Verdict::Good => acted(list, spreads, segment, data, whole, number, form, item),
         Verdict::Field(row) => bad(Fault::Field(row), bytes),
         Verdict::Range(row) => bad(Fault::Range(row), bytes),
     }
@@ -138,7 +172,7 @@ fn contents(
     cells: &mut [u64; MOST_ROWS],
 ) -> Outline
     requires { ⌜ (framed (now bytes) ≡ true) × (named ≡ formIn (now bytes)) ⌝ }
-    ensures { λ r. ⌜ ReadsMessage (contentsBy (placesThere (lists (now (list .entry)) (now (spreads .entry))) (now (bytes .entry)) (placeOf segment)) (now (bytes .entry))) (comparedAs (formIn (now (bytes .entry))) (keysThere (lists (now (list .entry)) (now (spreads .entry))) (now (bytes .entry)) (placeOf segment))) (rowsRead (now (bytes .entry)) .cells) (now (cells .entry)) r (now (cells .exit)) ⌝ }
+    ensures { λ r. ⌜ ReadsMessage (contentsBy (placesThere (lists (now (list .entry)) (now (spreads .entry))) (now (bytes .entry)) (placeOf segment)) (now (bytes .entry))) (comparedAs (actsAs (now (bytes .entry))) (keysThere (lists (now (list .entry)) (now (spreads .entry))) (now (bytes .entry)) (placeOf segment))) (rowsRead (now (bytes .entry)) .cells) (now (cells .entry)) r (now (cells .exit)) ⌝ }
 {
     let whole = head::length_of(bytes);
     match named {

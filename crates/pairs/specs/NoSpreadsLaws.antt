@@ -16,7 +16,7 @@ use Rattle.files.specs.BelowLaws.{all-pass}
 use Rattle.files.specs.File.{segmentsOf, entryAt, letterAt, zeroAt, countAt, offsetAt}
 use Rattle.pairs.specs.Habits.{pairs}
 use Rattle.pairs.specs.NoSpreads.{emptyEntry, emptyEntries, noSpreads}
-use Rattle.contracts.specs.Sound.{Header, HeaderBy}
+use Rattle.contracts.specs.Sound.{Header, HeaderBy, mostSegments}
 use Rattle.contracts.specs.SoundTests.{bodySound}
 use Rattle.pairs.specs.SpreadLaws.{spread-header-exact}
 use Rattle.pairs.specs.SpreadTests.{pairsListed, spreadHeaderSound, spreadsSound}
@@ -77,7 +77,7 @@ module _ (list : List ℕ) where
       ap₂ (λ (b n : ℕ). b * 256 ^ w + n) (entry-byte i j h (omega arith)) (ap (numberAt w (noSpreads list)) on ∙ entry-number w i (j + 1) h (omega arith))
 
   module _ (h : Header list) where
-    few : segmentsOf list ≤ 2
+    few : segmentsOf list ≤ mostSegments
     few = h .few-segments
 
     segments-back : segmentsOf (noSpreads list) ≡ segmentsOf list

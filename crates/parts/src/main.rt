@@ -3,8 +3,8 @@
 mod gaps;
 mod leaves;
 mod lists;
-mod rows;
 mod say;
+mod updates;
 
 use amount::Difference;
 use amount::Price;
@@ -31,8 +31,8 @@ fn answer(kind: u8, asked: &[u8], row: &mut [u32; CELLS]) {
         b'O' => gaps::say_off(row),
         b'G' => gaps::say_gaps(row),
         b'B' => gaps::say_back(asked),
-        b'U' => rows::say_read(asked),
-        b'W' => rows::say_written(asked, &mut io::buffer()),
+        b'U' => updates::say_read(asked),
+        b'W' => updates::say_written(asked, &mut io::buffer()),
         _ => leaves::say_text(kind, asked, &mut io::buffer()),
     }
     say(b"\n");

@@ -6,7 +6,7 @@ use lib.Dec.{ltb}
 use lib.ListN.{getD}
 use lib.Seq.{sets}
 use Rattle.forms.specs.declared.forms.Form.{Form}
-use Rattle.forms.specs.declared.forms.Form.the-variants.{Heartbeat, LevelOne, LevelTwo, PairOne, PairTwo}
+use Rattle.forms.specs.declared.forms.Form.the-variants.{Heartbeat, LevelOne, LevelTwo, PairOne, PairTwo, FutureOne, FutureTwo, PreOpenOne, PreOpenTwo}
 use Rattle.layout.specs.Cells.{none, byteIn}
 use Rattle.forms.specs.Sizes.{mostRows, keyRowCount, pairRowCount}
 use Rattle.quote.specs.declared.quote.Order.{Order}
@@ -16,11 +16,48 @@ use Rattle.quote.specs.Quote.{priceIn, quantityIn, turnoverIn, valueOfPr
 
 -- ---- where rows stand
 
+-- a word of our own: the rows of both forms of F at a level
+abbrev pub futureOne : Places
+futureOne =
+    record {
+      «market_type» = keyRowCount;
+      «time_stamp» = 6;
+      buy = 7;
+      «more_buy» = mostRows;
+      sell = 9;
+      «more_sell» = mostRows;
+      last = 11;
+      status = 13;
+      opening = 14;
+      close = 17;
+      totals = mostRows;
+      turnover = 19;
+    }
+
+-- a word of our own: the same at level 2
+abbrev pub futureTwo : Places
+futureTwo =
+    record {
+      «market_type» = keyRowCount;
+      «time_stamp» = 6;
+      buy = 7;
+      «more_buy» = 9;
+      sell = 17;
+      «more_sell» = 19;
+      last = 27;
+      status = 29;
+      opening = 30;
+      close = 33;
+      totals = 35;
+      turnover = 37;
+    }
+
 -- a word of our own: the rows of a form; one that it has not is none of the cells
 abbrev pub placesOf : Form → Places
 placesOf Heartbeat =
     record {
       «market_type» = mostRows;
+      «time_stamp» = mostRows;
       buy = mostRows;
       «more_buy» = mostRows;
       sell = mostRows;
@@ -35,6 +72,7 @@ placesOf Heartbeat =
 placesOf LevelOne =
     record {
       «market_type» = keyRowCount;
+      «time_stamp» = mostRows;
       buy = 6;
       «more_buy» = mostRows;
       sell = 8;
@@ -49,6 +87,7 @@ placesOf LevelOne =
 placesOf LevelTwo =
     record {
       «market_type» = keyRowCount;
+      «time_stamp» = mostRows;
       buy = 6;
       «more_buy» = 8;
       sell = 16;
@@ -63,6 +102,7 @@ placesOf LevelTwo =
 placesOf PairOne =
     record {
       «market_type» = mostRows;
+      «time_stamp» = mostRows;
       buy = pairRowCount;
       «more_buy» = mostRows;
       sell = 12;
@@ -77,6 +117,7 @@ placesOf PairOne =
 placesOf PairTwo =
     record {
       «market_type» = mostRows;
+      «time_stamp» = mostRows;
       buy = pairRowCount;
       «more_buy» = 12;
       sell = 20;
@@ -88,6 +129,10 @@ placesOf PairTwo =
       totals = 35;
       turnover = mostRows;
     }
+placesOf FutureOne = futureOne
+placesOf FutureTwo = futureTwo
+placesOf PreOpenOne = futureOne
+placesOf PreOpenTwo = futureTwo
 
 -- a word of our own: the rows that stand in turn behind the last row's place are not far behind it
 abbrev pub near : ℕ
@@ -114,6 +159,7 @@ abbrev pub quoteAt : Places → List ℕ → Quote
 quoteAt at cells =
     record {
       «market_type» = byteIn (cellFrom cells (at .«market_type»));
+      «time_stamp» = quantityIn (cellFrom cells (at .«time_stamp»));
       buy = sideAt orderIn (at .buy) (at .«more_buy») cells;
       sell = sideAt orderIn (at .sell) (at .«more_sell») cells;
       last = priceIn (cellFrom cells (at .last));
@@ -166,6 +212,6 @@ putTrades at quote =
 abbrev pub putOwn : Places → Quote → List ℕ → List ℕ
 putOwn at quote values =
     putAt
-    (puts (putAt (putAt values (at .«market_type») (quote .«market_type»)) (at .status) (quote .status)) (at .close)
+    (puts (putAt (putAt (putAt values (at .«market_type») (quote .«market_type»)) (at .«time_stamp») (valueOfQuantity (quote .«time_stamp»))) (at .status) (quote .status)) (at .close)
     (valueOfPrice (quote .close) ∷ valueOfPrice (quote .average) ∷ []))
     (at .turnover) (valueOfTurnover (quote .turnover))

@@ -5,7 +5,7 @@ use mathlib.Core.List.{List}
 use native.Mathlib.Omega.{arith}
 use lib.ListN.{replicate}
 use Rattle.forms.specs.declared.forms.Form.{Form}
-use Rattle.forms.specs.declared.forms.Form.the-variants.{Heartbeat, LevelOne, LevelTwo, PairOne, PairTwo}
+use Rattle.forms.specs.declared.forms.Form.the-variants.{Heartbeat, LevelOne, LevelTwo, PairOne, PairTwo, FutureOne, FutureTwo, PreOpenOne, PreOpenTwo}
 use Rattle.quote.specs.declared.quote.Places.{Places}
 use Rattle.quote.specs.declared.quote.Quote.{Quote}
 use Rattle.forms.specs.Sizes.{mostRows}
@@ -20,6 +20,10 @@ places-fit LevelOne = record { sides = (omega arith, omega arith, omega arith, o
 places-fit LevelTwo = record { sides = (omega arith, omega arith, omega arith, omega arith); others = (omega arith, omega arith, omega arith, omega arith) }
 places-fit PairOne = record { sides = (omega arith, omega arith, omega arith, omega arith); others = (omega arith, omega arith, omega arith, omega arith) }
 places-fit PairTwo = record { sides = (omega arith, omega arith, omega arith, omega arith); others = (omega arith, omega arith, omega arith, omega arith) }
+places-fit FutureOne = record { sides = (omega arith, omega arith, omega arith, omega arith); others = (omega arith, omega arith, omega arith, omega arith) }
+places-fit FutureTwo = record { sides = (omega arith, omega arith, omega arith, omega arith); others = (omega arith, omega arith, omega arith, omega arith) }
+places-fit PreOpenOne = record { sides = (omega arith, omega arith, omega arith, omega arith); others = (omega arith, omega arith, omega arith, omega arith) }
+places-fit PreOpenTwo = record { sides = (omega arith, omega arith, omega arith, omega arith); others = (omega arith, omega arith, omega arith, omega arith) }
 
 pub quote-laid : (form : Form) (cells : List ℕ) → quoteAt (placesOf form) cells ≡ quoteOf form cells
 unfolding quoteOf namedRows
@@ -28,6 +32,10 @@ quote-laid LevelOne cells = refl
 quote-laid LevelTwo cells = refl
 quote-laid PairOne cells = refl
 quote-laid PairTwo cells = refl
+quote-laid FutureOne cells = refl
+quote-laid FutureTwo cells = refl
+quote-laid PreOpenOne cells = refl
+quote-laid PreOpenTwo cells = refl
 
 -- both sides of a quote, over no values
 abbrev pub sidesLaid : {A : Type 0} → (A → List ℕ) → A → Places → List A → List A → List ℕ
@@ -43,3 +51,7 @@ values-laid LevelOne quote = refl
 values-laid LevelTwo quote = refl
 values-laid PairOne quote = refl
 values-laid PairTwo quote = refl
+values-laid FutureOne quote = refl
+values-laid FutureTwo quote = refl
+values-laid PreOpenOne quote = refl
+values-laid PreOpenTwo quote = refl

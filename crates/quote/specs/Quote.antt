@@ -18,7 +18,7 @@ use Rattle.forms.specs.declared.forms.Form.{Form}
 use Rattle.forms.specs.declared.forms.Item.the-variants.{Contract, Pair}
 use Rattle.forms.specs.declared.forms.Subject.{Subject}
 use Rattle.forms.specs.declared.forms.Subject.the-variants.{Nothing as NoSubject, Of}
-use Rattle.forms.specs.Names.{Name, NamedRow, instrument, symbol, expiry, strike, optionType, secondInstrument, secondSymbol, secondExpiry, secondStrike, secondOptionType, marketType, buyPrice, buyQuantity, sellPrice, sellQuantity, lastPrice, tradedQuantity, status, openingPrice, highPrice, lowPrice, closePrice, averagePrice, allBuyers, allSellers, turnover as turnoverName}
+use Rattle.forms.specs.Names.{Name, NamedRow, instrument, symbol, expiry, strike, optionType, secondInstrument, secondSymbol, secondExpiry, secondStrike, secondOptionType, marketType, timeStamp, buyPrice, buyQuantity, sellPrice, sellQuantity, lastPrice, tradedQuantity, status, openingPrice, highPrice, lowPrice, closePrice, averagePrice, allBuyers, allSellers, turnover as turnoverName}
 use Rattle.forms.specs.SameName.{sameName}
 use Rattle.forms.specs.Forms.{namedRows}
 use Rattle.layout.specs.Cells.{none as noCell, heldIn, byteIn, zerosBehind}
@@ -113,11 +113,12 @@ ofPair NoSubject = false
 ofPair (Of Contract level) = false
 ofPair (Of Pair level) = true
 
--- 000 sections 4.4 and 4.5, 003 sections 4.5 and 4.6: the fields of an update, each picked by its name
+-- 000 sections 4.4 and 4.5, 003 sections 4.5 and 4.6, 002 sections 4.4 and 4.5: the fields of an update, each picked by its name
 abbrev pub quoteBy : List NamedRow → List ℕ → Quote
 quoteBy rows cells =
     record {
       «market_type» = byteIn (cellNamed rows marketType cells);
+      «time_stamp» = quantityIn (cellNamed rows timeStamp cells);
       buy = sideIn orderIn buyPrice buyQuantity rows cells;
       sell = sideIn orderIn sellPrice sellQuantity rows cells;
       last = priceIn (cellNamed rows lastPrice cells);
@@ -150,6 +151,7 @@ fieldValue quote secondExpiry = 0
 fieldValue quote secondStrike = 0
 fieldValue quote secondOptionType = 0
 fieldValue quote marketType = quote .«market_type»
+fieldValue quote timeStamp = valueOfQuantity (quote .«time_stamp»)
 fieldValue quote (buyPrice k) = valueOfPrice (getD (quote .buy) k noOrder .price)
 fieldValue quote (buyQuantity k) = valueOfQuantity (getD (quote .buy) k noOrder .quantity)
 fieldValue quote (sellPrice k) = valueOfPrice (getD (quote .sell) k noOrder .price)
@@ -199,6 +201,7 @@ abbrev pub seenBy : List NamedRow → Quote → Quote
 seenBy rows quote =
     record {
       «market_type» = whereNamed rows marketType (quote .«market_type») 0;
+      «time_stamp» = whereNamed rows timeStamp (quote .«time_stamp») quantity.None;
       buy = seenSide (seenOrder rows) noOrder buyPrice buyQuantity (quote .buy);
       sell = seenSide (seenOrder rows) noOrder sellPrice sellQuantity (quote .sell);
       last = whereNamed rows lastPrice (quote .last) price.None;

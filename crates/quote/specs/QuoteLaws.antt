@@ -6,8 +6,8 @@ use mathlib.Core.List.{List, _++_}
 use mathlib.Core.Option.{some}
 use lib.ListN.{length, getD}
 use Rattle.forms.specs.declared.forms.Form.{Form}
-use Rattle.forms.specs.declared.forms.Form.the-variants.{Heartbeat, LevelOne, LevelTwo, PairOne, PairTwo}
-use Rattle.forms.specs.Names.{Name, NamedRow, marketType, buyPrice, buyQuantity, sellPrice, sellQuantity, lastPrice, tradedQuantity, status, openingPrice, highPrice, lowPrice, closePrice, averagePrice, allBuyers, allSellers, turnover as turnoverName}
+use Rattle.forms.specs.declared.forms.Form.the-variants.{Heartbeat, LevelOne, LevelTwo, PairOne, PairTwo, FutureOne, FutureTwo, PreOpenOne, PreOpenTwo}
+use Rattle.forms.specs.Names.{Name, NamedRow, marketType, timeStamp, buyPrice, buyQuantity, sellPrice, sellQuantity, lastPrice, tradedQuantity, status, openingPrice, highPrice, lowPrice, closePrice, averagePrice, allBuyers, allSellers, turnover as turnoverName}
 use Rattle.forms.specs.Forms.{namedRows, rowsOf, subjectOf}
 use Rattle.layout.specs.Cells.{zerosBehind}
 use Rattle.layout.specs.Plain.{valueOf, seenValues}
@@ -37,6 +37,10 @@ quote-numbered LevelOne is cells = simp (price-kept, quantity-kept, turnover-kep
 quote-numbered LevelTwo is cells = simp (price-kept, quantity-kept, turnover-kept)
 quote-numbered PairOne is cells = absurd (false≢true (sym is))
 quote-numbered PairTwo is cells = absurd (false≢true (sym is))
+quote-numbered FutureOne is cells = simp (price-kept, quantity-kept, turnover-kept)
+quote-numbered FutureTwo is cells = simp (price-kept, quantity-kept, turnover-kept)
+quote-numbered PreOpenOne is cells = simp (price-kept, quantity-kept, turnover-kept)
+quote-numbered PreOpenTwo is cells = simp (price-kept, quantity-kept, turnover-kept)
 
 pub cells-back : (form : Form) → ofPair (subjectOf form) ≡ false → (cells : List ℕ) → valuesOf form (quoteOf form cells) ≡ zerosBehind (seenValues (rowsOf form) cells)
 cells-back form is cells = quote-numbered form is cells ∙ sym (ap zerosBehind (seen-from 0 (rowsOf form) cells))
@@ -59,6 +63,7 @@ module _ (given : Name → ℕ) (rows : List NamedRow) (rest : List ℕ) (held :
       λ i.
       record {
         «market_type» = letter-seen given rows rest marketType (quote .«market_type») (is marketType) market i;
+        «time_stamp» = number-seen given rows rest held quantity-number timeStamp (quote .«time_stamp») (is timeStamp) i;
         buy = side-seen given rows rest orderIn (seenOrder rows) noOrder buyPrice buyQuantity (quote .buy) (λ k. order-seen (buyPrice k) (buyQuantity k) (getD (quote .buy) k noOrder) (is (buyPrice k)) (is (buyQuantity k))) i;
         sell = side-seen given rows rest orderIn (seenOrder rows) noOrder sellPrice sellQuantity (quote .sell) (λ k. order-seen (sellPrice k) (sellQuantity k) (getD (quote .sell) k noOrder) (is (sellPrice k)) (is (sellQuantity k))) i;
         last = number-seen given rows rest held price-number lastPrice (quote .last) (is lastPrice) i;
@@ -74,14 +79,15 @@ module _ (given : Name → ℕ) (rows : List NamedRow) (rest : List ℕ) (held :
         turnover = number-seen given rows rest held turnover-number turnoverName (quote .turnover) (is turnoverName) i;
       }
 
--- ---- level 2 sees the whole quote
+-- ---- level 2 of F sees the whole quote
 
-pub seen-whole : (quote : Quote) → length (quote .buy) ≡ mostOrders → length (quote .sell) ≡ mostOrders → seenQuote LevelTwo quote ≡ quote
+pub seen-whole : (quote : Quote) → length (quote .buy) ≡ mostOrders → length (quote .sell) ≡ mostOrders → seenQuote FutureTwo quote ≡ quote
 unfolding seenQuote namedRows
 seen-whole quote b s =
     λ i.
     record {
       «market_type» = quote .«market_type»;
+      «time_stamp» = quote .«time_stamp»;
       buy = all-orders noOrder (quote .buy) b i;
       sell = all-orders noOrder (quote .sell) s i;
       last = quote .last;

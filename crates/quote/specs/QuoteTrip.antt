@@ -10,10 +10,11 @@ use lib.Dec.{lit<}
 use lib.ListN.{length, getD, take, drop, replicate}
 use Rattle.wire.specs.Number.{numberAt}
 use Rattle.decimal.specs.Kinds.{difference}
+use Rattle.forms.specs.declared.rows.Markets.the-variants.{Normal, Any}
 use Rattle.forms.specs.declared.rows.Row.{Row}
 use Rattle.forms.specs.declared.rows.Row.the-variants.{Key, MarketType, Status, Price, Difference, Quantity, Turnover}
 use Rattle.forms.specs.declared.forms.Form.{Form}
-use Rattle.forms.specs.declared.forms.Form.the-variants.{Heartbeat, LevelOne, LevelTwo, PairOne, PairTwo}
+use Rattle.forms.specs.declared.forms.Form.the-variants.{Heartbeat, LevelOne, LevelTwo, PairOne, PairTwo, FutureOne, FutureTwo, PreOpenOne, PreOpenTwo}
 use Rattle.layout.specs.declared.read.RowRead.{RowRead}
 use Rattle.layout.specs.declared.read.RowRead.the-variants.{Cell, Field, Range}
 use Rattle.layout.specs.declared.read.Verdict.the-variants.{Good}
@@ -56,7 +57,7 @@ letter-seen taken small byte cell e = go (taken byte) refl
 cell-seen : (row : Row) (field : List ℕ) (cell : ℕ) → readRow row field ≡ Cell cell → seenValue row cell ≡ cell
 unfolding readRow
 cell-seen (Key width) field cell e = cc
-cell-seen MarketType field cell e = letter-seen isMarketType market-small (numberAt 1 field 0) cell e
+cell-seen (MarketType markets) field cell e = letter-seen (isMarketType markets) (market-small markets) (numberAt 1 field 0) cell e
 cell-seen Status field cell e = letter-seen isStatus status-small (numberAt 1 field 0) cell e
 cell-seen (Price width) field cell e = refl
 cell-seen (Difference width) field cell e =
@@ -154,15 +155,31 @@ letters : (form : Form) → ofPair (subjectOf form) ≡ false → (quote : Quote
 unfolding rowsOf namedRows valuesOf rowText
 letters Heartbeat is quote key good = ((λ k e. absurd (never e)), (λ k e. absurd (never e)))
 letters LevelOne is quote key good = (
-  (λ k e. market-small (quote .«market_type») (letter-taken isMarketType (quote .«market_type») (good keyRowCount (omega arith)))),
+  (λ k e. market-small Normal (quote .«market_type») (letter-taken (isMarketType Normal) (quote .«market_type») (good keyRowCount (omega arith)))),
   (λ k e. status-small (quote .status) (letter-taken isStatus (quote .status) (good 12 (omega arith)))),
 )
 letters LevelTwo is quote key good = (
-  (λ k e. market-small (quote .«market_type») (letter-taken isMarketType (quote .«market_type») (good keyRowCount (omega arith)))),
+  (λ k e. market-small Normal (quote .«market_type») (letter-taken (isMarketType Normal) (quote .«market_type») (good keyRowCount (omega arith)))),
   (λ k e. status-small (quote .status) (letter-taken isStatus (quote .status) (good 28 (omega arith)))),
 )
 letters PairOne is quote key good = absurd (false≢true (sym is))
 letters PairTwo is quote key good = absurd (false≢true (sym is))
+letters FutureOne is quote key good = (
+  (λ k e. market-small Any (quote .«market_type») (letter-taken (isMarketType Any) (quote .«market_type») (good keyRowCount (omega arith)))),
+  (λ k e. status-small (quote .status) (letter-taken isStatus (quote .status) (good 13 (omega arith)))),
+)
+letters FutureTwo is quote key good = (
+  (λ k e. market-small Any (quote .«market_type») (letter-taken (isMarketType Any) (quote .«market_type») (good keyRowCount (omega arith)))),
+  (λ k e. status-small (quote .status) (letter-taken isStatus (quote .status) (good 29 (omega arith)))),
+)
+letters PreOpenOne is quote key good = (
+  (λ k e. market-small Any (quote .«market_type») (letter-taken (isMarketType Any) (quote .«market_type») (good keyRowCount (omega arith)))),
+  (λ k e. status-small (quote .status) (letter-taken isStatus (quote .status) (good 13 (omega arith)))),
+)
+letters PreOpenTwo is quote key good = (
+  (λ k e. market-small Any (quote .«market_type») (letter-taken (isMarketType Any) (quote .«market_type») (good keyRowCount (omega arith)))),
+  (λ k e. status-small (quote .status) (letter-taken isStatus (quote .status) (good 29 (omega arith)))),
+)
 
 own-values : (form : Form) → ofPair (subjectOf form) ≡ false → (quote : Quote) → Byte form marketType (quote .«market_type») × Byte form status (quote .status)
     → zerosBehind (seenValues (rowsOf form) (valuesOf form quote)) ≡ valuesOf form quote
@@ -172,6 +189,10 @@ own-values LevelOne is quote small = rw (byte-back (quote .«market_type») (sma
 own-values LevelTwo is quote small = rw (byte-back (quote .«market_type») (small .0 keyRowCount refl), byte-back (quote .status) (small .1 28 refl))
 own-values PairOne is quote small = absurd (false≢true (sym is))
 own-values PairTwo is quote small = absurd (false≢true (sym is))
+own-values FutureOne is quote small = rw (byte-back (quote .«market_type») (small .0 keyRowCount refl), byte-back (quote .status) (small .1 13 refl))
+own-values FutureTwo is quote small = rw (byte-back (quote .«market_type») (small .0 keyRowCount refl), byte-back (quote .status) (small .1 29 refl))
+own-values PreOpenOne is quote small = rw (byte-back (quote .«market_type») (small .0 keyRowCount refl), byte-back (quote .status) (small .1 13 refl))
+own-values PreOpenTwo is quote small = rw (byte-back (quote .«market_type») (small .0 keyRowCount refl), byte-back (quote .status) (small .1 29 refl))
 
 module _ (form : Form) (is : ofPair (subjectOf form) ≡ false) (quote : Quote) (key : List ℕ) (good : writeRows 0 (rowsOf form) key (valuesOf form quote) .verdict ≡ Good) where
   small : Byte form marketType (quote .«market_type») × Byte form status (quote .status)

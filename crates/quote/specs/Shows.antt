@@ -1,5 +1,5 @@
 -- What a quote shows of an update's data, each of its fields from the field of the same name: demand 2, and 000 sections 4.4 and
--- 4.5, 003 sections 4.5 and 4.6.
+-- 4.5, 003 sections 4.5 and 4.6, 002 sections 4.4 and 4.5.
 use Prim.Native.Nat.{ℕ, _<_}
 use mathlib.Core.Path.{_≡_}
 use mathlib.Core.Bool.{cond}
@@ -12,7 +12,7 @@ use Rattle.decimal.specs.Kinds.{price, quantity, turnover}
 use Rattle.layout.specs.declared.cells.Held.{Held}
 use Rattle.layout.specs.declared.cells.Held.the-variants.{Nothing, Units}
 use Rattle.layout.specs.Says.{HeldSays}
-use Rattle.forms.specs.Names.{Name, NamedRow, marketType, buyPrice, buyQuantity, sellPrice, sellQuantity, lastPrice, tradedQuantity, status, openingPrice, highPrice, lowPrice, closePrice, averagePrice, allBuyers, allSellers, turnover as turnoverName}
+use Rattle.forms.specs.Names.{Name, NamedRow, marketType, timeStamp, buyPrice, buyQuantity, sellPrice, sellQuantity, lastPrice, tradedQuantity, status, openingPrice, highPrice, lowPrice, closePrice, averagePrice, allBuyers, allSellers, turnover as turnoverName}
 use Rattle.forms.specs.SameName.{sameName}
 use Rattle.forms.specs.Rows.{widthOf}
 use Rattle.quote.specs.declared.quote.Quote.{Quote}
@@ -63,9 +63,10 @@ abbrev pub ShowsLetter : Option (List ℕ) → ℕ → Type 0
 ShowsLetter none letter = letter ≡ 0
 ShowsLetter (some field) letter = letter ≡ numberAt 1 field 0
 
--- 000 sections 4.4 and 4.5, 003 sections 4.5 and 4.6: every field of a quote beside the text of its name
+-- 000 sections 4.4 and 4.5, 003 sections 4.5 and 4.6, 002 sections 4.4 and 4.5: every field of a quote beside the text of its name
 pub record ShowsFields (text : Name → Option (List ℕ)) (quote : Quote) : Type 0 where
   pub market-type : ShowsLetter (text marketType) (quote .«market_type»)
+  pub time-stamp : Shows quantity (text timeStamp) (heldQuantity (quote .«time_stamp»))
   pub buy-price : (k : ℕ) → k < mostOrders → Shows price (text (buyPrice k)) (heldPrice (getD (quote .buy) k noOrder .price))
   pub buy-quantity : (k : ℕ) → k < mostOrders → Shows quantity (text (buyQuantity k)) (heldQuantity (getD (quote .buy) k noOrder .quantity))
   pub sell-price : (k : ℕ) → k < mostOrders → Shows price (text (sellPrice k)) (heldPrice (getD (quote .sell) k noOrder .price))

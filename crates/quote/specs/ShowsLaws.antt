@@ -11,11 +11,12 @@ use lib.ListN.{length, getD, take, drop, replicate, List·getD-append}
 use Rattle.laws.specs.Choice.{clash}
 use Rattle.decimal.specs.declared.Kind.{Kind}
 use Rattle.decimal.specs.Kinds.{price, quantity, turnover, difference}
+use Rattle.forms.specs.declared.rows.Markets.the-variants.{Normal, Any}
 use Rattle.forms.specs.declared.rows.Row.{Row}
 use Rattle.forms.specs.declared.rows.Row.the-variants.{Key, MarketType, Status, Price, Difference, Quantity, Turnover}
 use Rattle.forms.specs.declared.forms.Form.{Form}
-use Rattle.forms.specs.declared.forms.Form.the-variants.{Heartbeat, LevelOne, LevelTwo, PairOne, PairTwo}
-use Rattle.forms.specs.Names.{Name, NamedRow, marketType, buyPrice, buyQuantity, sellPrice, sellQuantity, lastPrice, tradedQuantity, status, openingPrice, highPrice, lowPrice, closePrice, averagePrice, allBuyers, allSellers, turnover as turnoverName}
+use Rattle.forms.specs.declared.forms.Form.the-variants.{Heartbeat, LevelOne, LevelTwo, PairOne, PairTwo, FutureOne, FutureTwo, PreOpenOne, PreOpenTwo}
+use Rattle.forms.specs.Names.{Name, NamedRow, marketType, timeStamp, buyPrice, buyQuantity, sellPrice, sellQuantity, lastPrice, tradedQuantity, status, openingPrice, highPrice, lowPrice, closePrice, averagePrice, allBuyers, allSellers, turnover as turnoverName}
 use Rattle.forms.specs.SameName.{nameNumber, sameName}
 use Rattle.forms.specs.Sizes.{mostRows}
 use Rattle.forms.specs.NamesLaws.{same-name}
@@ -43,7 +44,7 @@ shows-number kind small field cell h = rw (h .2, says-held kind small field (h .
 -- what a row's field is shown as, whatever its width
 abbrev pub ShownAs : Row → List ℕ → ℕ → Type 0
 ShownAs (Key width) field cell = Unit {0}
-ShownAs MarketType field cell = byteIn cell ≡ numberAt 1 field 0
+ShownAs (MarketType markets) field cell = byteIn cell ≡ numberAt 1 field 0
 ShownAs Status field cell = byteIn cell ≡ numberAt 1 field 0
 ShownAs (Price width) field cell = HeldSays price field (heldIn false cell)
 ShownAs (Difference width) field cell = HeldSays difference field (heldIn true cell)
@@ -53,7 +54,7 @@ ShownAs (Turnover width) field cell = HeldSays turnover field (heldIn false cell
 -- a row by its kind alone
 abbrev pub kindOf : Row → Row
 kindOf (Key width) = Key 0
-kindOf MarketType = MarketType
+kindOf (MarketType markets) = MarketType Normal
 kindOf Status = Status
 kindOf (Price width) = Price 0
 kindOf (Difference width) = Difference 0
@@ -62,7 +63,9 @@ kindOf (Turnover width) = Turnover 0
 
 row-shows : (row : Row) (field : List ℕ) (cell : ℕ) → RowSays row field (Cell cell) → ShownAs (kindOf row) field cell
 row-shows (Key width) field cell h = tt
-row-shows MarketType field cell h = rw (h .1, h .0) refl
+row-shows (MarketType Normal) field cell h = rw (h .1, h .0) refl
+row-shows (MarketType Any) field cell h =
+    rw (h .1) (⊎-elim (λ e. rw e refl) (⊎-elim (λ e. rw e refl) (⊎-elim (λ e. rw e refl) (λ e. rw e refl))) (h .0))
 row-shows Status field cell h = rw (h .1) (⊎-elim (λ e. rw e refl) (λ e. rw e refl) (h .0))
 row-shows (Price width) field cell h = shows-number price (lit< tt) field cell h
 row-shows (Difference width) field cell h = shows-number difference (lit< tt) field cell h
@@ -74,8 +77,8 @@ row-shows (Turnover width) field cell h = shows-number turnover (lit< tt) field 
 -- the kind of each name's row, by the name's number; a pair's prices have a sign
 abbrev pub kinds : Row → List Row
 kinds price =
-    Key 0 ∷ Key 0 ∷ Key 0 ∷ Key 0 ∷ Key 0 ∷ Key 0 ∷ Key 0 ∷ Key 0 ∷ Key 0 ∷ Key 0 ∷ MarketType ∷ price ∷ Quantity 0 ∷ price ∷ Quantity 0
-    ∷ price ∷ Quantity 0 ∷ Status ∷ price ∷ price ∷ price ∷ price ∷ price ∷ Quantity 0 ∷ Quantity 0 ∷ Turnover 0 ∷ []
+    Key 0 ∷ Key 0 ∷ Key 0 ∷ Key 0 ∷ Key 0 ∷ Key 0 ∷ Key 0 ∷ Key 0 ∷ Key 0 ∷ Key 0 ∷ MarketType Normal ∷ price ∷ Quantity 0 ∷ price ∷ Quantity 0
+    ∷ price ∷ Quantity 0 ∷ Status ∷ price ∷ price ∷ price ∷ price ∷ price ∷ Quantity 0 ∷ Quantity 0 ∷ Turnover 0 ∷ Quantity 0 ∷ []
 
 abbrev pub kindNamed : Row → Name → Row
 kindNamed price name = getD (kinds price) (nameNumber name) (Key 0)
@@ -184,7 +187,8 @@ module _ (prices : Row) (rows : List NamedRow) (kinded : Kinded prices rows) (by
   shows-rows : prices ≡ Price 0 → ShowsFields text (quoteBy rows (zerosBehind read))
   shows-rows is =
       record {
-        market-type = letter MarketType (λ f c h. h) (text marketType) (rowNamed rows marketType) (found prices rows kinded 0 bytes good marketType);
+        market-type = letter (MarketType Normal) (λ f c h. h) (text marketType) (rowNamed rows marketType) (found prices rows kinded 0 bytes good marketType);
+        time-stamp = quantity-shown timeStamp refl;
         buy-price = λ k h. rw (at-level noOrder (orderBy orderIn buyPrice buyQuantity) k h) (price-shown (buyPrice k) is);
         buy-quantity = λ k h. rw (at-level noOrder (orderBy orderIn buyPrice buyQuantity) k h) (quantity-shown (buyQuantity k) refl);
         sell-price = λ k h. rw (at-level noOrder (orderBy orderIn sellPrice sellQuantity) k h) (price-shown (sellPrice k) is);
@@ -210,6 +214,10 @@ form-kinded LevelOne = refl
 form-kinded LevelTwo = refl
 form-kinded PairOne = refl
 form-kinded PairTwo = refl
+form-kinded FutureOne = refl
+form-kinded FutureTwo = refl
+form-kinded PreOpenOne = refl
+form-kinded PreOpenTwo = refl
 
 -- of each form whose rows are good
 pub shows-fields : (form : Form) → ofPair (subjectOf form) ≡ false → (bytes : List ℕ) → readRows 0 (rowsOf form) bytes .verdict ≡ Good

@@ -41,6 +41,7 @@ pub struct Order {
 // The rows of an update behind its key. What a form has no row for reads as none, and is not looked at in writing.
 pub struct Quote {
     pub market_type: u8,
+    pub time_stamp: QuantityCell,
     pub buy: [Order; MOST_ORDERS],
     pub sell: [Order; MOST_ORDERS],
     pub last: PriceCell,
@@ -61,6 +62,7 @@ pub struct Quote {
 // behind the total of the buyers that of the sellers.
 pub struct Places {
     pub market_type: usize,
+    pub time_stamp: usize,
     pub buy: usize,
     pub more_buy: usize,
     pub sell: usize,
@@ -75,6 +77,7 @@ pub struct Places {
 
 const NO_PLACES: Places = Places {
     market_type: MOST_ROWS,
+    time_stamp: MOST_ROWS,
     buy: MOST_ROWS,
     more_buy: MOST_ROWS,
     sell: MOST_ROWS,
@@ -89,6 +92,7 @@ const NO_PLACES: Places = Places {
 
 const LEVEL_ONE: Places = Places {
     market_type: KEY_ROWS,
+    time_stamp: MOST_ROWS,
     buy: 6,
     more_buy: MOST_ROWS,
     sell: 8,
@@ -103,6 +107,7 @@ const LEVEL_ONE: Places = Places {
 
 const LEVEL_TWO: Places = Places {
     market_type: KEY_ROWS,
+    time_stamp: MOST_ROWS,
     buy: 6,
     more_buy: 8,
     sell: 16,
@@ -115,8 +120,39 @@ const LEVEL_TWO: Places = Places {
     turnover: 36,
 };
 
+const FUTURE_ONE: Places = Places {
+    market_type: KEY_ROWS,
+    time_stamp: 6,
+    buy: 7,
+    more_buy: MOST_ROWS,
+    sell: 9,
+    more_sell: MOST_ROWS,
+    last: 11,
+    status: 13,
+    opening: 14,
+    close: 17,
+    totals: MOST_ROWS,
+    turnover: 19,
+};
+
+const FUTURE_TWO: Places = Places {
+    market_type: KEY_ROWS,
+    time_stamp: 6,
+    buy: 7,
+    more_buy: 9,
+    sell: 17,
+    more_sell: 19,
+    last: 27,
+    status: 29,
+    opening: 30,
+    close: 33,
+    totals: 35,
+    turnover: 37,
+};
+
 const PAIR_ONE: Places = Places {
     market_type: MOST_ROWS,
+    time_stamp: MOST_ROWS,
     buy: PAIR_ROWS,
     more_buy: MOST_ROWS,
     sell: 12,
@@ -131,6 +167,7 @@ const PAIR_ONE: Places = Places {
 
 const PAIR_TWO: Places = Places {
     market_type: MOST_ROWS,
+    time_stamp: MOST_ROWS,
     buy: PAIR_ROWS,
     more_buy: 12,
     sell: 20,
@@ -152,6 +189,10 @@ pub fn places_of(form: Form) -> Places
         Form::LevelTwo => LEVEL_TWO,
         Form::PairOne => PAIR_ONE,
         Form::PairTwo => PAIR_TWO,
+        Form::FutureOne => FUTURE_ONE,
+        Form::FutureTwo => FUTURE_TWO,
+        Form::PreOpenOne => FUTURE_ONE,
+        Form::PreOpenTwo => FUTURE_TWO,
     }
 }
 
@@ -288,6 +329,7 @@ pub fn quote_of(form: Form, cells: &[u64; MOST_ROWS]) -> Quote
     let totals = at.totals;
     Quote {
         market_type: letter_at(cells, at.market_type),
+        time_stamp: quantity_at(cells, at.time_stamp),
         buy: side_at(cells, at.buy, at.more_buy),
         sell: side_at(cells, at.sell, at.more_sell),
         last: price_at(cells, last),
@@ -352,15 +394,17 @@ fn put_trades(quote: Quote, at: Places, values: &mut [u64; MOST_ROWS])
     );
 }
 
-// What only contracts are told of: market type, status, close and average price, turnover.
+// What only contracts are told of: market type, time stamp, status, close and average price, turnover.
 fn put_own(quote: Quote, at: Places, values: &mut [u64; MOST_ROWS])
     requires { ⌜ Room at ⌝ }
     ensures { λ _. ⌜ now (values .exit) ≡ putOwn at quote (now (values .entry)) ⌝ }
 {
+    let time_stamp = quote.time_stamp;
     let close = quote.close;
     let average = quote.average;
     let turnover = quote.turnover;
     put_value(quote.market_type as u64, at.market_type, values);
+    put_value(quantity_value(time_stamp), at.time_stamp, values);
     put_value(quote.status as u64, at.status, values);
     put_two(price_value(close), price_value(average), at.close, values);
     put_value(turnover_value(turnover), at.turnover, values);

@@ -1,3 +1,4 @@
+pub mod KeptLaws
 pub mod ReadRules
 pub mod Record
 pub mod RecordLaws

@@ -15,13 +15,13 @@ use Rattle.state.specs.Memory.{Lent}
 use Rattle.reading.specs.declared.record.Reading.{Reading}
 use Rattle.reading.specs.declared.record.SpreadReading.{SpreadReading}
 use Rattle.reading.specs.ReadRules.{recordRules}
-use Rattle.reading.specs.Record.{recordOfKey, recordNumber, recordValues, blank, blankSpread, quoteAt, quoteBeside}
+use Rattle.reading.specs.Record.{recordOfKey, recordNumber, recordSession, recordValues, stampShown, blank, blankSpread, quoteAt, quoteBeside}
 
--- 01 "What may be asked": a record holds its update's number and rows; a contract or a pair with no update taken reads as "no
--- record"
+-- 01 "What may be asked": a record holds its update's number and rows, M-104: and its session; a contract or a pair with no update
+-- taken reads as "no record"
 pub record ReadsFor {A : Type 0} (show : Form → List ℕ → A) (blank : A) (item : Item) (lent : Lent) (letter : ℕ) (key : List ℕ) (level : Level) (answer : Recorded) (quote : A) : Type 0 where
-  pub answers : recordedNumbers answer ≡ answered (firstBroken (recordRules item lent letter key)) (recordValues (recordNumber (lent .records) (recordOfKey item (lent .lists) letter key level)))
-  pub quotes : quote ≡ quoteBeside blank (firstBroken (recordRules item lent letter key)) (quoteAt show blank item (lent .records) (recordOfKey item (lent .lists) letter key level) level)
+  pub answers : recordedNumbers answer ≡ answered (firstBroken (recordRules item lent letter key)) (recordValues (recordNumber (lent .records) (recordOfKey item (lent .lists) letter key level)) (recordSession item (lent .records) (recordOfKey item (lent .lists) letter key level)))
+  pub quotes : quote ≡ quoteBeside blank (firstBroken (recordRules item lent letter key)) (quoteAt show blank item (stampShown item letter) (lent .records) (recordOfKey item (lent .lists) letter key level) level)
 
 -- 01 "What may be asked": a contract's record
 abbrev pub ReadRecord : Lent → ℕ → List ℕ → Level → Reading → Type 0

@@ -1,6 +1,7 @@
 -- Laws of reading a record: where it stands, and its cells by row.
-use Prim.Native.Nat.{ℕ, _+_, _-_, _<_}
+use Prim.Native.Nat.{ℕ, _+_, _-_, _≤_, _<_}
 use mathlib.Core.Path.{_≡_, refl, ap, ap₂, sym, _∙_}
+use mathlib.Core.Bool.{Bool}
 use mathlib.Core.List.{List, [], _∷_, _++_}
 use mathlib.Core.Option.{Option, none, some}
 use native.Mathlib.Omega.{arith}
@@ -24,7 +25,7 @@ use Rattle.pairs.specs.Items.{fileOf, habitOf}
 use Rattle.pairs.specs.ItemsLaws.{habit-few, header-of, segments-of}
 use Rattle.message.specs.Message.{placeIn, placeThere, keyPlace}
 use Rattle.state.specs.Memory.{Lent}
-use Rattle.slots.specs.Slots.{slot}
+use Rattle.slots.specs.Slots.{slot, cellsInFront}
 use Rattle.slots.specs.SlotsLaws.{slot-inside, cells-by-rows}
 use Rattle.slots.specs.Places.{slotAt, slotIn, recordRows, recordAt, frontOf}
 use Rattle.state.specs.declared.refusal.Refusal.{Refusal}
@@ -34,7 +35,7 @@ use Rattle.state.specs.AnswersLaws.{accepted-by, refused-by}
 use Rattle.state.specs.State.{segmentRules}
 use Rattle.state.specs.StateLaws.{state-held}
 use Rattle.reading.specs.declared.record.Place.the-variants as place
-use Rattle.reading.specs.Record.{slotThere, recordOfKey, Finds, cellsAt}
+use Rattle.reading.specs.Record.{slotThere, recordOfKey, Finds, stampSeen, cellsAt}
 use Rattle.reading.specs.ReadRules.{recordRules}
 
 zeros-behind : (item : Item) (level : Level)
@@ -50,16 +51,18 @@ key-zeros Contract = refl
 key-zeros Pair = refl
 
 -- the record's cells copied over zeros, behind the key's
-pub cells-copied : (item : Item) (records : List ℕ) (at : ℕ) (level : Level) → at + recordRows item level < length records
-    → paste (replicate mostRows 0) (keyRowsOf item) (drop (at + 1) records) (recordRows item level) ≡ cellsAt item records at level
+pub cells-copied : (item : Item) (stamped : Bool) (records : List ℕ) (at : ℕ) (level : Level) → at + cellsInFront item + recordRows item level ≤ length records
+    → stampSeen stamped (paste (replicate mostRows 0) (keyRowsOf item) (drop (at + cellsInFront item) records) (recordRows item level)) ≡ cellsAt item stamped records at level
 unfolding cellsAt
-cells-copied item records at level h =
+cells-copied item stamped records at level h =
     let rows : ℕ = recordRows item level in
-    let part : List ℕ = take rows (drop (at + 1) records) in
+    let behind : List ℕ = drop (at + cellsInFront item) records in
+    let part : List ℕ = take rows behind in
     let front : List ℕ = replicate (keyRowsOf item) 0 ++ part in
-    let there : length part ≡ rows = length-take-le rows (drop (at + 1) records) (simp length-drop (omega arith)) in
+    let there : length part ≡ rows = length-take-le rows behind (simp length-drop (omega arith)) in
     let long : keyRowsOf item + rows ≡ length front = simp (length-append, length-replicate, there) in
-    ap₂ (λ (zeros behind : List ℕ). zeros ++ part ++ behind) (key-zeros item) (zeros-behind item level ∙ ap (λ (n : ℕ). replicate (mostRows - n) 0) long)
+    ap (stampSeen stamped)
+    (ap₂ (λ (zeros behind : List ℕ). zeros ++ part ++ behind) (key-zeros item) (zeros-behind item level ∙ ap (λ (n : ℕ). replicate (mostRows - n) 0) long))
 
 -- ---- the rules
 
@@ -104,7 +107,7 @@ module _ (item : Item) (lent : Lent) (letter : ℕ) (key : List ℕ) where
           omega (arith, place-under, habit-few item (header-of (lent .lists) headers item .few-keys i (rw (segments-of (lent .lists) headers item) inside)))
 
       -- the record lies in the cells lent
-      pub record-lent : (level : Level) → recordAt item (frontOf item (lent .lists) i) place level + recordRows item level < length (lent .records)
+      pub record-lent : (level : Level) → recordAt item (frontOf item (lent .lists) i) place level + cellsInFront item + recordRows item level ≤ length (lent .records)
       record-lent level =
           let there = segment-has (lent .lists .contracts) letter i s .0 in
           omega (arith, state-held lent letter e .records-lent, slot-inside (lent .lists) headers (slot item i place level) (there, place-under), cells-by-rows item level)
@@ -119,9 +122,9 @@ module _ (item : Item) (lent : Lent) (letter : ℕ) (key : List ℕ) (level : Le
   here = recordOfKey item (lent .lists) letter key level
 
   abbrev pub FoundAt : ℕ → Type 0
-  FoundAt at = (checks ≡ none) × (at ≡ here) × (at + recordRows item level < length (lent .records))
+  FoundAt at = (checks ≡ none) × (at ≡ here) × (at + cellsInFront item + recordRows item level ≤ length (lent .records))
 
-  pub finds-at : checks ≡ none → {at : ℕ} → at ≡ here → at + recordRows item level < length (lent .records) → Finds item lent letter key level (place.At at)
+  pub finds-at : checks ≡ none → {at : ℕ} → at ≡ here → at + cellsInFront item + recordRows item level ≤ length (lent .records) → Finds item lent letter key level (place.At at)
   finds-at e same there = record { says = rw (e, same); inside = λ _. rw (← same) there }
 
   pub finds-refused : (r : Refusal) → checks ≡ some r → Finds item lent letter key level (place.Refused r)

@@ -1,26 +1,33 @@
-// A contract's or a pair's record of a level: its number, then one cell for each row behind the key.
+// A contract's or a pair's record of a level: its number, a contract's session, then one cell for each row behind the key.
 ghost use mathlib.Core.Path.{_≡_};
-ghost use Prim.Native.Nat.{_+_, _<_};
+ghost use mathlib.Core.Bool.{true};
+ghost use Prim.Native.Nat.{_+_, _≤_};
 ghost use lib.ListN.{length};
 ghost use Rattle.pairs.specs.Lists.{lists};
 ghost use Rattle.quote.specs.Quote.{quoteOf};
 ghost use Rattle.spread.specs.Spread.{spreadQuoteOf};
 ghost use Rattle.state.specs.Memory.{lends};
+ghost use Rattle.slots.specs.Slots.{cellsInFront};
 ghost use Rattle.slots.specs.Places.{recordRows};
-ghost use Rattle.reading.specs.Record.{cellsAt, Finds, blank, blankSpread, ReadsAt};
+ghost use Rattle.reading.specs.Record.{stampShown, cellsAt, Finds, blank, blankSpread, ReadsAt};
 ghost use Rattle.reading.specs.Reads.{ReadRecord, ReadSpread};
 use layout::Form;
 use layout::Item;
 use layout::KEY_BYTES;
+use layout::KEY_ROWS;
 use layout::Level;
 use layout::MOST_ROWS;
 use layout::PAIR_BYTES;
+use layout::Session;
 use lookup::Found;
 use quote::Quote;
 use spread::SpreadQuote;
 use state::Asked;
 use state::Recorded;
 use state::Refusal;
+
+// The time stamp's row: the one behind the market type's.
+const TIME_STAMP: usize = KEY_ROWS + 1;
 
 // With the quote of a record; beside any other answer every row is none.
 pub struct Reading {
@@ -40,20 +47,31 @@ enum Place {
     Refused(Refusal),
 }
 
-// The cells of a record by row: those of the key, and any behind the last row, are 0.
-fn cells_at(item: Item, records: &[u64], at: usize, level: Level) -> [u64; MOST_ROWS]
-    requires { ⌜ at + recordRows item level < length (now records) ⌝ }
-    ensures { λ r. ⌜ r ≡ cellsAt item (now (records .entry)) at level ⌝ }
+// Of contracts F's alone show their time stamp: D and T have none, whatever stands in its cell.
+fn stamp_shown(letter: u8) -> bool
+    ensures { λ r. ⌜ r ≡ stampShown Item.Contract letter ⌝ }
+{
+    letter == b'F'
+}
+
+// The cells of a record by row: those of the key, and any behind the last row, are 0. The time stamp is none where it isn't shown.
+fn cells_at(item: Item, stamped: bool, records: &[u64], at: usize, level: Level) -> [u64; MOST_ROWS]
+    requires { ⌜ at + cellsInFront item + recordRows item level ≤ length (now records) ⌝ }
+    ensures { λ r. ⌜ r ≡ cellsAt item stamped (now (records .entry)) at level ⌝ }
 {
     let count = slots::record_rows(item, level);
     let key = layout::key_rows_of(item);
-    let first = at + 1;
+    let first = at + slots::cells_in_front(item);
     let mut cells = [0u64; MOST_ROWS];
     let mut i = 0;
     while i < count {
         cells[key + i] = records[first + i];
         i += 1;
     }
+    if stamped {
+        return cells;
+    }
+    cells[TIME_STAMP] = layout::NONE;
     cells
 }
 
@@ -90,7 +108,7 @@ fn blank() -> Quote
     ensures { λ r. ⌜ r ≡ blank ⌝ }
 {
     let cells = [layout::NONE; MOST_ROWS];
-    quote::quote_of(Form::LevelTwo, &cells)
+    quote::quote_of(Form::FutureTwo, &cells)
 }
 
 fn blank_spread() -> SpreadQuote
@@ -100,9 +118,9 @@ fn blank_spread() -> SpreadQuote
     spread::spread_quote_of(Form::PairTwo, &cells)
 }
 
-fn read_at(records: &[u64], at: usize, level: Level) -> Reading
-    requires { ⌜ at + recordRows Item.Contract level < length (now records) ⌝ }
-    ensures { λ r. ⌜ ReadsAt quoteOf blank Item.Contract (now (records .entry)) at level (r .answer) (r .quote) ⌝ }
+fn read_at(records: &[u64], at: usize, stamped: bool, level: Level) -> Reading
+    requires { ⌜ at + cellsInFront Item.Contract + recordRows Item.Contract level ≤ length (now records) ⌝ }
+    ensures { λ r. ⌜ ReadsAt quoteOf blank Item.Contract stamped (now (records .entry)) at level (r .answer) (r .quote) ⌝ }
 {
     let number = records[at];
     if number == 0 {
@@ -111,16 +129,17 @@ fn read_at(records: &[u64], at: usize, level: Level) -> Reading
             quote: blank(),
         };
     }
-    let cells = cells_at(Item::Contract, records, at, level);
+    let session = layout::session_in(records[at + 1]);
+    let cells = cells_at(Item::Contract, stamped, records, at, level);
     Reading {
-        answer: Recorded::Record(number),
+        answer: Recorded::Record(number, session),
         quote: quote::quote_of(layout::record_form(Item::Contract, level), &cells),
     }
 }
 
 fn read_spread_at(records: &[u64], at: usize, level: Level) -> SpreadReading
-    requires { ⌜ at + recordRows Item.Pair level < length (now records) ⌝ }
-    ensures { λ r. ⌜ ReadsAt spreadQuoteOf blankSpread Item.Pair (now (records .entry)) at level (r .answer) (r .quote) ⌝ }
+    requires { ⌜ at + cellsInFront Item.Pair + recordRows Item.Pair level ≤ length (now records) ⌝ }
+    ensures { λ r. ⌜ ReadsAt spreadQuoteOf blankSpread Item.Pair true (now (records .entry)) at level (r .answer) (r .quote) ⌝ }
 {
     let number = records[at];
     if number == 0 {
@@ -129,9 +148,9 @@ fn read_spread_at(records: &[u64], at: usize, level: Level) -> SpreadReading
             quote: blank_spread(),
         };
     }
-    let cells = cells_at(Item::Pair, records, at, level);
+    let cells = cells_at(Item::Pair, true, records, at, level);
     SpreadReading {
-        answer: Recorded::Record(number),
+        answer: Recorded::Record(number, Session::Normal),
         quote: spread::spread_quote_of(layout::record_form(Item::Pair, level), &cells),
     }
 }
@@ -157,7 +176,7 @@ pub fn read_record(
         key,
         level,
     ) {
-        Place::At(at) => read_at(records, at, level),
+        Place::At(at) => read_at(records, at, stamp_shown(letter), level),
         Place::Refused(refusal) => Reading {
             answer: Recorded::Refused(refusal),
             quote: blank(),

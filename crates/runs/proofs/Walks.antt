@@ -1,6 +1,6 @@
 -- What the walks by hand share, in this crate and in those that lend runs.
 --   A run, and the array of runs that a call looks at, in memory
---     R, Runs          the types `Run` and `[Run; 132]`
+--     R, Runs          the types `Run` and `[Run; MOST]`
 --     as-field, field-runs     the array as a field of a struct, and back
 --     slot-in, slot-out        the array in its slot is its runs side by side, and back
 --     at-place, within         where element i of a row lies; its distance fits a usize
@@ -84,7 +84,7 @@ use denote.Triple.Entry.{Args, Res, alive, onEntry}
 use denote.Triple.Clauses.{Ended, Clauses, Lasts, atExit, closing, ensured, lasts}
 use denote.Triple.Spec.{Back, Meets, tripleOf}
 use Rattle.runs.specs.declared.run.Run.{Run}
-use Rattle.runs.specs.Rows.{blank, blanks, over}
+use Rattle.runs.specs.Rows.{blank, blanks, over, mostRuns}
 use Rattle.runs.proofs.Locals.{Blocks, envOf, stored, Passed, enters}
 use Rattle.runs.proofs.run.Run as T
 use Rattle.runs.proofs.run.Run.Laws as T′
@@ -101,13 +101,13 @@ abbrev pub R : RattleType
 R = T.the-row
 
 abbrev pub Runs : RattleType
-Runs = Array R 132
+Runs = Array R mostRuns
 
 abbrev pub run-mir : Ty
 run-mir = T′.mir
 
 abbrev pub runs-mir : Ty
-runs-mir = tyArray run-mir 132
+runs-mir = tyArray run-mir mostRuns
 
 -- a slice of numbers
 abbrev pub Numbers : Type 0
@@ -127,14 +127,14 @@ abbrev pub runs-val : List Run → Val
 runs-val xs = only (array-vals run-vals xs)
 
 pub runs-tells : Tells Runs (Is Runs) (λ xs. runs-val xs ∷ [])
-runs-tells = array-tells R run-vals run-tells 132
+runs-tells = array-tells R run-vals run-tells mostRuns
 
 pub runs-typed : {M : Type 1} (𝓤 : URA M) (H : Heap 𝓤) (A : Atoms 𝓤) (W : Given 𝓤 H A) (xs : List Run) {v : Val} → Is Runs xs (v ∷ []) → Holds (hasTy runs-mir v) × WT v
-runs-typed 𝓤 H A W xs is = array-typed R (LL.lawful T.the-type T′.the-laws 𝓤 H A W .typed) 132 xs _ is .0
+runs-typed 𝓤 H A W xs is = array-typed R (LL.lawful T.the-type T′.the-laws 𝓤 H A W .typed) mostRuns xs _ is .0
 
 -- an array of runs owns only facts
 pub runs-makes : {M : Type 1} (𝓤 : URA M) (H : Heap 𝓤) (A : Atoms 𝓤) (W : Given 𝓤 H A) → Makes 𝓤 H A Runs (Is Runs)
-runs-makes 𝓤 H A W = array-makes 𝓤 H A W R (LL.makes T.the-type T′.the-plain 𝓤 H A) 132
+runs-makes 𝓤 H A W = array-makes 𝓤 H A W R (LL.makes T.the-type T′.the-plain 𝓤 H A) mostRuns
 
 -- as a field of a struct an array of runs is one of tuples, with the same facts
 abbrev pub field-val : List Run → Val
@@ -152,10 +152,10 @@ each-same [] (u ∷ us) = ((λ s. absurd s), (λ s. absurd s))
 each-same (x ∷ xs) [] = ((λ s. absurd s), (λ s. absurd s))
 each-same (x ∷ xs) (u ∷ us) = let rest = each-same xs us in ((λ s. (s .0, rest .0 (s .1))), (λ s. (s .0, rest .1 (s .1))))
 
-pub field-runs : (xs : List Run) (v : Val) → Is (Array (T.the-field .row) 132) (map (T.the-type .to) xs) (v ∷ []) → Is Runs xs (v ∷ [])
+pub field-runs : (xs : List Run) (v : Val) → Is (Array (T.the-field .row) mostRuns) (map (T.the-type .to) xs) (v ∷ []) → Is Runs xs (v ∷ [])
 field-runs xs v p = (p .0, ((p .1 .0 .0, sym (length-map xs (T.the-type .to)) ∙ p .1 .0 .1), each-same xs (p .0) .0 (p .1 .1)))
 
-pub as-field : (xs : List Run) (v : Val) → Is Runs xs (v ∷ []) → Is (Array (T.the-field .row) 132) (map (T.the-type .to) xs) (v ∷ [])
+pub as-field : (xs : List Run) (v : Val) → Is Runs xs (v ∷ []) → Is (Array (T.the-field .row) mostRuns) (map (T.the-type .to) xs) (v ∷ [])
 as-field xs v p = (p .0, ((p .1 .0 .0, length-map xs (T.the-type .to) ∙ p .1 .0 .1), each-same xs (p .0) .1 (p .1 .1)))
 
 module _ {M : Type 1} {𝓤 : URA M} {H : Heap 𝓤} {A : Atoms 𝓤} {K : Type 0} {W : Given 𝓤 H A} {G : Goal 𝓤 H} {Γ : List (Item 𝓤)} where
@@ -165,13 +165,13 @@ module _ {M : Type 1} {𝓤 : URA M} {H : Heap 𝓤} {A : Atoms 𝓤} {K : Type 
       owned t Runs (Is Runs) (runs-makes 𝓤 H A W) xs (v ∷ []) is $ move t (1 ∷ []) $
       use1 W (‵ (fat fullShare (rawTy runs-mir) l 0 v)) (W .laws .at-raw fullShare runs-mir l 0 v) $ fjoin t $
       fpack t (List Val) (λ vs. fsep (cellAt fullShare (Runs .mir) vs l 0) (Runs .own xs vs)) (v ∷ []) $
-      use1 W (‵ (arr-parts (shares R) 132 .part fullShare xs l 0)) (array-apart 𝓤 H A W R fullShare tt 132 xs l 0) $ fsplit t $ toss t $ k)
+      use1 W (‵ (arr-parts (shares R) mostRuns .part fullShare xs l 0)) (array-apart 𝓤 H A W R fullShare tt mostRuns xs l 0) $ fsplit t $ toss t $ k)
 
-  pub slot-out : K → (xs : List Run) (l : ℕ) → length xs ≡ 132 → (Is Runs xs (runs-val xs ∷ []) → Seq K W (‵ (fat fullShare runs-mir l 0 (runs-val xs)) ∷ Γ) G) → Seq K W (‵ (row R fullShare xs l 0) ∷ Γ) G
+  pub slot-out : K → (xs : List Run) (l : ℕ) → length xs ≡ mostRuns → (Is Runs xs (runs-val xs ∷ []) → Seq K W (‵ (fat fullShare runs-mir l 0 (runs-val xs)) ∷ Γ) G) → Seq K W (‵ (row R fullShare xs l 0) ∷ Γ) G
   unfolding partOf
   slot-out t xs l long k =
-      feqI t ℕ (length xs) 132 long $ fjoin t $
-      use1 W (‵ (partAt Runs fullShare xs l 0)) (array-whole 𝓤 H A W R fullShare 132 xs l 0) $ fpick t (λ vs. fsplit t $ move t (1 ∷ []) $
+      feqI t ℕ (length xs) mostRuns long $ fjoin t $
+      use1 W (‵ (partAt Runs fullShare xs l 0)) (array-whole 𝓤 H A W R fullShare mostRuns xs l 0) $ fpick t (λ vs. fsplit t $ move t (1 ∷ []) $
       facts t Runs (Is Runs) (shows 𝓤 H A Runs) xs vs (λ is.
       rewrite t 0 (λ (us : List Val). ‵ (cellAt fullShare (Runs .mir) us l 0)) (runs-tells xs vs is) refl $
       use1 W (‵ (fat fullShare runs-mir l 0 (runs-val xs))) (W .laws .raw-at fullShare runs-mir l 0 (runs-val xs)) $ k (subst (Is Runs xs) (runs-tells xs vs is) is)))
@@ -434,7 +434,7 @@ Lent κ b o ys = flent κ (arr-parts (shares R) (length ys) .part fullShare ys b
 abbrev LentAgain : Lft → Share → Lft → (b o : ℕ) → GName → List Run → Fml
 LentAgain κ q κ′ b o γ ys = fsep (Lent κ′ b o ys) (fsep (fobor κ q (Held R (length ys) b o γ)) (fsep (fobs γ (codedHoleys R .code (heres R ys))) (fauth γ (codedHoleys R .code (heres R ys)))))
 
-room : (xs : List Run) → length xs ≡ 132 → Room R (length xs)
+room : (xs : List Run) → length xs ≡ mostRuns → Room R (length xs)
 room xs long = subst (λ (n : ℕ). Room R n) (sym long) (lit< tt, lit< tt)
 
 module _ {M : Type 1} {𝓤 : URA M} {H : Heap 𝓤} {A : Atoms 𝓤} {K : Type 0} {W : Given 𝓤 H A} {G : Goal 𝓤 H} {Γ : List (Item 𝓤)} where
@@ -449,7 +449,7 @@ module _ {M : Type 1} {𝓤 : URA M} {H : Heap 𝓤} {A : Atoms 𝓤} {K : Type 
       → ((α : ℕ) (γ : GName) → Seq K W (‵ (shared ℓ (α ∷ []) l 0 γ xs) ∷ ‵ (Lent (α ∷ []) l 0 xs) ∷ ‵ (flft (α ∷ []) fullShare) ∷ Γ) G) → Seq K W (‵ (fat fullShare runs-mir l 0 (runs-val xs)) ∷ Γ) G
   lends-shared t z ℓ xs l is k = slot-in t xs l (runs-val xs) is $ lft-new t z (λ α. move t (1 ∷ []) $ lends-whole t z ℓ (α ∷ []) l 0 xs (room xs (is .1 .0 .1)) (k α))
 
-  pub shared-back : K → Soaks G → (xs : List Run) (l α : ℕ) → length xs ≡ 132 → Step K W (‵ (fat fullShare runs-mir l 0 (runs-val xs)) ∷ Γ) G (‵ (flft (α ∷ []) fullShare) ∷ ‵ (Lent (α ∷ []) l 0 xs) ∷ Γ) G
+  pub shared-back : K → Soaks G → (xs : List Run) (l α : ℕ) → length xs ≡ mostRuns → Step K W (‵ (fat fullShare runs-mir l 0 (runs-val xs)) ∷ Γ) G (‵ (flft (α ∷ []) fullShare) ∷ ‵ (Lent (α ∷ []) l 0 xs) ∷ Γ) G
   shared-back t z xs l α long = step (λ k. lft-end t z $ lent-back t z $ fsplit t $ toss t $ slot-out t xs l long (λ is. k))
 
   pub lends-row : K → Soaks G → (ℓ : Lifetime) (xs : List Run) (l : ℕ) → Is Runs xs (runs-val xs ∷ [])
@@ -458,7 +458,7 @@ module _ {M : Type 1} {𝓤 : URA M} {H : Heap 𝓤} {A : Atoms 𝓤} {K : Type 
       slot-in t xs l (runs-val xs) is $ lft-new t z (λ α. move t (1 ∷ []) $ use1 W (‵ (cells (in-memory R) xs l 0)) (whole-in 𝓤 H A W R xs l 0) $
       use1 W (later (some (λ (γ : GName). ‵ (held ℓ (α ∷ []) l 0 γ xs) ⊛ ‵ (flent (α ∷ []) (Held R (length xs) l 0 γ))))) (lends-slice 𝓤 H A W R ℓ (α ∷ []) xs l 0 (room xs (is .1 .0 .1))) $ await t z $ pick t (λ γ. split t $ k α γ))
 
-  pub row-back : K → Soaks G → (xs ys : List Run) (l α : ℕ) (γ : GName) → length xs ≡ 132 → (Is Runs ys (runs-val ys ∷ []) → Seq K W (‵ (fat fullShare runs-mir l 0 (runs-val ys)) ∷ Γ) G)
+  pub row-back : K → Soaks G → (xs ys : List Run) (l α : ℕ) (γ : GName) → length xs ≡ mostRuns → (Is Runs ys (runs-val ys ∷ []) → Seq K W (‵ (fat fullShare runs-mir l 0 (runs-val ys)) ∷ Γ) G)
       → Seq K W (‵ (flft (α ∷ []) fullShare) ∷ ‵ (flent (α ∷ []) (Held R (length xs) l 0 γ)) ∷ ‵ (last γ xs ys) ∷ Γ) G
   row-back t z xs ys l α γ long k =
       lft-end t z $ move t (2 ∷ []) $ fsplit t $ move t (2 ∷ 3 ∷ 0 ∷ []) $
@@ -515,10 +515,10 @@ loads t held others = and-then t (load t (from t (stop t)) held) others
 
 module _ {M : Type 1} {𝓤 : URA M} {H : Heap 𝓤} {A : Atoms 𝓤} {K : Type 0} {W : Given 𝓤 H A} {Γ : List (Item 𝓤)} {E : Env 𝓤 H} {C : Calls 𝓤 H} {Λ : Loops 𝓤 H} {p : Post 𝓤 H} {d : Place} {rest : Body} {os : List Operand} (mem : Memory → SProp 𝓤) (run : Routine → Fun 𝓤) (fm : FmC 𝓤 H (W .laws) C) where
   pub limits : K → Triple 𝓤 (C #runs·run·at-most) (AtMost 𝓤 H A mem run) → (n : ℕ) → n < 2 ^ 64 → Opds K W (raw (AtMost 𝓤 H A mem run .pre (to-at-most 𝓤 H A mem run n)) ∷ Γ) E os (vint w64 n ∷ [])
-      → Step K W Γ (lands C Λ E d (vint w64 (min n 132)) rest p) Γ (runs C Λ E (seq (call #runs·run·at-most os d) rest) p)
+      → Step K W Γ (lands C Λ E d (vint w64 (min n mostRuns)) rest p) Γ (runs C Λ E (seq (call #runs·run·at-most os d) rest) p)
   limits t known n fits operands = step (λ k.
       owned t usize (Is usize) (uint-makes 𝓤 H A W w64) n (vint w64 n ∷ []) (refl, fits) $
-      calls-for fm at-most.ended (at-most.clauses 𝓤 H A mem run) known (to-at-most 𝓤 H A mem run n .0) tt (id⊢ 𝓤 (emp 𝓤)) t (λ r zs. r ≡ min n 132) (λ r zs. id⊢ 𝓤 _) operands (λ w r zs e.
+      calls-for fm at-most.ended (at-most.clauses 𝓤 H A mem run) known (to-at-most 𝓤 H A mem run n .0) tt (id⊢ 𝓤 (emp 𝓤)) t (λ r zs. r ≡ min n mostRuns) (λ r zs. id⊢ 𝓤 _) operands (λ w r zs e.
       facts t usize (Is usize) (shows 𝓤 H A usize) r (w ∷ []) (λ is. subst (λ (u : Val). Seq K W Γ (lands C Λ E d u rest p)) (sym (ap only (is .0) ∙ ap (vint w64) e)) k)))
 
   module _ (κ : Lft) (q : Share) (b o : ℕ) (γ : GName) (ys : List Run) where
@@ -586,7 +586,7 @@ pub record Halves (P Q : RattleType) : Type 0 where
 
 -- those of a struct of the two
 abbrev pub halved : (P Q : RattleType) (answer : P .Denot → Q .Denot) (left : P .Denot → List Run) (spell : P .Denot → List Val) (answered : P .Denot → Val) → Tells P (Is P) spell
-    → ((r : P .Denot) (vs : List Val) → Is P r vs → Is Q (answer r) (answered r ∷ []) × Is (Array (T.the-field .row) 132) (map (T.the-type .to) (left r)) (field-val (left r) ∷ [])) → Halves P Q
+    → ((r : P .Denot) (vs : List Val) → Is P r vs → Is Q (answer r) (answered r ∷ []) × Is (Array (T.the-field .row) mostRuns) (map (T.the-type .to) (left r)) (field-val (left r) ∷ [])) → Halves P Q
 halved P Q answer left spell answered tells fields = record {
   answer = answer;
   left = left;
@@ -636,7 +636,7 @@ module _ {M : Type 1} {𝓤 : URA M} {H : Heap 𝓤} {A : Atoms 𝓤} {K : Type 
       → PutsAt K W (Left κ q γ ys zs Γ₂) E d vunit (Left κ q γ ys zs Γ₃) → Reads K W (Left κ q γ ys zs Γ₃) α (spotOf 𝓤 H E f .1) (spotOf 𝓤 H E f .2 + e₀) (h .answered r)
       → (Is Q (h .answer r) (h .answered r ∷ []) → PutsAt K W (Left κ q γ ys zs Γ₃) E 0 (h .answered r) (Left κ q γ ys zs Γ₄)) → HoldsAt K W (Left κ q γ ys zs Γ₄) E 0 (h .answered r)
       → Step K W Γ₅ (prop (Kf (h .answered r))) (Left κ q γ ys zs Γ₄) (frees E (prop (Kf (h .answered r))))
-      → (length (h .left r) ≡ 132 → Seq K W (‵ (Q .own (h .answer r) (h .answered r ∷ [])) ∷ Γ₅) (prop (Kf (h .answered r))))
+      → (length (h .left r) ≡ mostRuns → Seq K W (‵ (Q .own (h .answer r) (h .answered r ∷ [])) ∷ Γ₅) (prop (Kf (h .answered r))))
       → Seq K W (‵ (P .own r (w ∷ [])) ∷ Had κ q b o γ ys Γ)
       (lands C Λ E (place f []) w (leaving i s j d f τ) (atRet E Kf))
   leaves t known P Q h makes r w {Kf} {i} {s} {j} {d} {f} {τ = τ} {Γ = Γ} s₀ s₁ f₀ f₁ put pointer put-pointer pointed count made had lent put-unit told put-answer told-again freed k =

@@ -9,7 +9,7 @@ use lib.Seq.{take-nil, drop-nil, take-suc, drop-cons, take-suc-set, length-take-
 use Rattle.laws.specs.Lists.{take-min}
 use Rattle.laws.specs.Moves.{stores-at}
 use Rattle.runs.specs.declared.run.Run.{Run}
-use Rattle.runs.specs.Rows.{flat, blank}
+use Rattle.runs.specs.Rows.{flat, blank, mostRuns}
 
 -- two numbers a run
 pub length-flat : (rows : List Run) → length (flat rows) ≡ 2 * length rows
@@ -84,24 +84,24 @@ paired-more runs numbers i h k e =
     ∙ ap (λ (n : ℕ). take n numbers) (sym far)
 
 -- the front of an array of runs, of which so many are lent
-module _ (runs : List Run) (lent : ℕ) (long : length runs ≡ 132) where
-  front-min : take (min lent 132) runs ≡ take lent runs
+module _ (runs : List Run) (lent : ℕ) (long : length runs ≡ mostRuns) where
+  front-min : take (min lent mostRuns) runs ≡ take lent runs
   front-min = ap (λ (n : ℕ). take (min lent n) runs) (sym long) ∙ take-min lent runs
 
-  front-numbers : take (2 * min lent 132) (flat runs) ≡ flat (take lent runs)
-  front-numbers = sym (flat-take (min lent 132) runs) ∙ ap flat front-min
+  front-numbers : take (2 * min lent mostRuns) (flat runs) ≡ flat (take lent runs)
+  front-numbers = sym (flat-take (min lent mostRuns) runs) ∙ ap flat front-min
 
-  pub front-length : length (take lent runs) ≡ min lent 132
+  pub front-length : length (take lent runs) ≡ min lent mostRuns
   front-length = length-take lent runs ∙ ap (min lent) long
 
 -- what holds of the numbers lent holds of the runs lent, seen as numbers
-pub in-front : (P : List ℕ → Type 0) (runs : List Run) (numbers : List ℕ) (lent count : ℕ) → length runs ≡ 132 → count ≡ min lent 132 → numbers ≡ flat runs
+pub in-front : (P : List ℕ → Type 0) (runs : List Run) (numbers : List ℕ) (lent count : ℕ) → length runs ≡ mostRuns → count ≡ min lent mostRuns → numbers ≡ flat runs
     → P (take (2 * count) numbers) → P (flat (take lent runs))
 in-front P runs numbers lent count long few e p =
     subst P (ap₂ (λ (n : ℕ) (l : List ℕ). take (2 * n) l) few e ∙ front-numbers runs lent long) p
 
 -- the same of the runs left
-pub in-fronts : (P : List ℕ → List ℕ → Type 0) (runs runs′ : List Run) (numbers numbers′ : List ℕ) (lent count : ℕ) → length runs ≡ 132 → length runs′ ≡ 132 → count ≡ min lent 132
+pub in-fronts : (P : List ℕ → List ℕ → Type 0) (runs runs′ : List Run) (numbers numbers′ : List ℕ) (lent count : ℕ) → length runs ≡ mostRuns → length runs′ ≡ mostRuns → count ≡ min lent mostRuns
     → numbers ≡ flat runs → flat runs′ ≡ numbers′ → P (take (2 * count) numbers) (take (2 * count) numbers′) → P (flat (take lent runs)) (flat (take lent runs′))
 in-fronts P runs runs′ numbers numbers′ lent count long long′ few e e′ p =
     in-front (λ ns. P ns (flat (take lent runs′))) runs numbers lent count long few e (in-front (P (take (2 * count) numbers)) runs′ numbers′ lent count long′ few (sym e′) p)

@@ -1,4 +1,4 @@
--- A call looks at the gap rows of the listed segments alone: at most 264 numbers, from the first on.
+-- A call looks at the gap rows of the listed segments alone: at most `most` numbers, from the first on.
 use Prim.Native.Nat.{ℕ, _+_, _*_, _≤_, _<_}
 use mathlib.Core.Path.{_≡_, refl, ap, ap₂, sym, _∙_, subst}
 use mathlib.Core.Logic.{⊎-elim}
@@ -15,7 +15,7 @@ use Rattle.files.specs.File.{segmentsOf}
 use Rattle.lookup.specs.Lookup.{segmentOf}
 use Rattle.pairs.specs.Lists.{Lists}
 use Rattle.lookup.specs.LookupLaws.{segment-has}
-use Rattle.contracts.specs.Sound.{Header}
+use Rattle.contracts.specs.Sound.{Header, mostSegments}
 use Rattle.sequence.specs.RowLaid.{soundGapRow}
 use Rattle.state.specs.Memory.{Lent, lends, gapRowCells, gapRowsWanted, gapRowOf, gapRowIn, gapRowOfLetter}
 use Rattle.state.specs.MemoryRows.{withGapRow, gapRowsSound, withGapRowIn, withGapRowOfLetter}
@@ -23,12 +23,12 @@ use Rattle.state.specs.State.{stateRules}
 use Rattle.runs.specs.Rows.{most}
 
 module _ (a z : List ℕ) (room : most ≤ length a) where
-  row-front : (i : ℕ) → i < 2 → gapRowOf (a ++ z) i ≡ gapRowOf a i
+  row-front : (i : ℕ) → i < mostSegments → gapRowOf (a ++ z) i ≡ gapRowOf a i
   row-front i h =
       ap (take gapRowCells) (drop-append-le (gapRowCells * i) a z (omega arith))
       ∙ take-append-le gapRowCells (drop (gapRowCells * i) a) z (simp length-drop (omega arith))
 
-  put-front : (row : List ℕ) (i : ℕ) → i < 2 → withGapRow (a ++ z) i row ≡ withGapRow a i row ++ z
+  put-front : (row : List ℕ) (i : ℕ) → i < mostSegments → withGapRow (a ++ z) i row ≡ withGapRow a i row ++ z
   put-front row i h =
       ap₂ (λ (front behind : List ℕ). front ++ row ++ behind) (take-append-le (gapRowCells * i) a z (omega arith)) (drop-append-le (gapRowCells * i + gapRowCells) a z (omega arith))
       ∙ sym (append-assoc (take (gapRowCells * i) a ++ row) (drop (gapRowCells * i + gapRowCells) a) z)
@@ -44,7 +44,7 @@ module _ (lent : Lent) (z : List ℕ) (room : most ≤ length (lent .rows)) (hea
   abbrev rows : List ℕ
   rows = lent .rows
 
-  few : segmentsOf (lists .contracts) ≤ 2
+  few : segmentsOf (lists .contracts) ≤ mostSegments
   few = header .few-segments
 
   pub rows-within : gapRowsWanted lists ≤ length rows

@@ -12,6 +12,7 @@ use Rattle.laws.specs.Lists.{take-min, drop-min}
 use Rattle.laws.specs.Order.{order}
 use Rattle.files.specs.File.{segmentsOf}
 use Rattle.contracts.specs.HeaderLaws.{header-exact}
+use Rattle.contracts.specs.Sound.{mostSegments}
 use Rattle.contracts.specs.SoundTests.{headerSound}
 use Rattle.forms.specs.declared.rows.Level.{Level}
 use Rattle.state.specs.declared.answers.Started.{Started}
@@ -31,7 +32,7 @@ use Rattle.reading.specs.Reads.{ReadsFor}
 use Rattle.batch.specs.Promises.{JudgedBatch, TookBatch}
 use Rattle.state.specs.Refusals.{refusalNumbers}
 use Rattle.runs.specs.declared.run.Run.{Run}
-use Rattle.runs.specs.Rows.{flat, blanks, over, array, lent, most, inRuns}
+use Rattle.runs.specs.Rows.{flat, blanks, over, array, lent, most, inRuns, mostRuns}
 use Rattle.runs.specs.RowsLaws.{over-is, in-runs-enough, in-runs-other}
 use Rattle.runs.specs.FlatLaws.{flat-append, flat-take, flat-drop}
 use Rattle.runs.specs.FrontLaws.{whole}
@@ -39,40 +40,40 @@ use Rattle.runs.specs.WholeLaws.{started-unlisted, started-front, judged
 use Rattle.runs.specs.Promises.{Over, StartedRuns, JudgedRuns, TookRuns, ListedGaps, WroteOffRuns, ReadsRuns}
 
 module _ (rows : List Run) where
-  lent-rows : lent rows (array rows) ≡ take 132 rows
+  lent-rows : lent rows (array rows) ≡ take mostRuns rows
   lent-rows =
       ap (lent rows) (over-is rows blanks)
       ∙ ⊎-elim
-      (λ (h : length rows ≤ 132).
-      let n : min (length rows) 132 ≡ length rows = omega arith in
+      (λ (h : length rows ≤ mostRuns).
+      let n : min (length rows) mostRuns ≡ length rows = omega arith in
       ap (λ (k : ℕ). lent rows (take k rows ++ drop k blanks)) n
       ∙ take-at (take (length rows) rows) (drop (length rows) blanks) (length rows) (length-take-le (length rows) rows (omega arith))
       ∙ take-all (length rows) rows (omega arith)
-      ∙ sym (take-all 132 rows h))
-      (λ (h : 132 < length rows).
-      let n : min (length rows) 132 ≡ 132 = omega arith in
+      ∙ sym (take-all mostRuns rows h))
+      (λ (h : mostRuns < length rows).
+      let n : min (length rows) mostRuns ≡ mostRuns = omega arith in
       ap (λ (k : ℕ). lent rows (take k rows ++ drop k blanks)) n
-      ∙ ap (lent rows) (append-nil (take 132 rows))
-      ∙ take-all (length rows) (take 132 rows) (simp length-take (omega arith)))
-      (order (length rows) 132)
+      ∙ ap (lent rows) (append-nil (take mostRuns rows))
+      ∙ take-all (length rows) (take mostRuns rows) (simp length-take (omega arith)))
+      (order (length rows) mostRuns)
 
   lent-numbers : flat (lent rows (array rows)) ≡ take most (flat rows)
-  lent-numbers = ap flat lent-rows ∙ flat-take 132 rows
+  lent-numbers = ap flat lent-rows ∙ flat-take mostRuns rows
 
-  left-numbers : (runs : List Run) → length runs ≡ 132 → flat (over runs rows) ≡ flat (lent rows runs) ++ drop most (flat rows)
+  left-numbers : (runs : List Run) → length runs ≡ mostRuns → flat (over runs rows) ≡ flat (lent rows runs) ++ drop most (flat rows)
   left-numbers runs long =
       let n : min (length runs) (length rows) ≡ min (length rows) (length runs) = omega arith in
-      let m : min (length runs) (length rows) ≡ min 132 (length rows) = omega (arith, long) in
+      let m : min (length runs) (length rows) ≡ min mostRuns (length rows) = omega (arith, long) in
       ap flat
       (over-is runs rows
       ∙ ap₂ (λ (k l : ℕ). take k runs ++ drop l rows) n m
-      ∙ ap₂ _++_ (take-min (length rows) runs) (drop-min 132 rows))
-      ∙ flat-append (lent rows runs) (drop 132 rows)
-      ∙ ap (λ (l : List ℕ). flat (lent rows runs) ++ l) (flat-drop 132 rows)
+      ∙ ap₂ _++_ (take-min (length rows) runs) (drop-min mostRuns rows))
+      ∙ flat-append (lent rows runs) (drop mostRuns rows)
+      ∙ ap (λ (l : List ℕ). flat (lent rows runs) ++ l) (flat-drop mostRuns rows)
 
   -- what holds of the numbers lent, whatever stands behind them, holds of the whole row
   pub lent-whole : (P : List ℕ → List ℕ → Type 0) → ((a z a′ : List ℕ) → most ≤ length a → P a a′ → P (a ++ z) (a′ ++ z))
-      → (runs : List Run) → length runs ≡ 132 → P (flat (lent rows (array rows))) (flat (lent rows runs)) → P (flat rows) (flat (over runs rows))
+      → (runs : List Run) → length runs ≡ mostRuns → P (flat (lent rows (array rows))) (flat (lent rows runs)) → P (flat rows) (flat (over runs rows))
   lent-whole P more runs long p =
       subst (P (flat rows)) (sym (left-numbers runs long))
       (whole P more (flat rows) (flat (lent rows runs)) (subst (λ (l : List ℕ). P l (flat (lent rows runs))) lent-numbers p))
@@ -81,19 +82,19 @@ module _ (rows : List Run) where
   pub lent-told : (lists : Lists) (numbers behind : List ℕ) → (headerSound (lists .contracts) ≡ false → numbers ≡ refusalNumbers ListOf ++ behind) → inRuns (lists .contracts) (length (lent rows (array rows))) numbers ≡ inRuns (lists .contracts) (length rows) numbers
   lent-told lists numbers behind unlisted =
       ⊎-elim
-      (λ (h : length rows ≤ 132). ap (λ (n : ℕ). inRuns (lists .contracts) n numbers) (ap length lent-rows ∙ ap length (take-all 132 rows h)))
-      (λ (h : 132 < length rows).
+      (λ (h : length rows ≤ mostRuns). ap (λ (n : ℕ). inRuns (lists .contracts) n numbers) (ap length lent-rows ∙ ap length (take-all mostRuns rows h)))
+      (λ (h : mostRuns < length rows).
       ⊎-elim
       (λ (g : headerSound (lists .contracts) ≡ true).
-      let few : segmentsOf (lists .contracts) ≤ 2 = header-exact (lists .contracts) .0 g .few-segments in
-      let long : length (lent rows (array rows)) ≡ 132 = ap length lent-rows ∙ length-take-le 132 rows (omega arith) in
+      let few : segmentsOf (lists .contracts) ≤ mostSegments = header-exact (lists .contracts) .0 g .few-segments in
+      let long : length (lent rows (array rows)) ≡ mostRuns = ap length lent-rows ∙ length-take-le mostRuns rows (omega arith) in
       in-runs-enough (lists .contracts) (length (lent rows (array rows))) numbers (omega (arith, long, few)) ∙ sym (in-runs-enough (lists .contracts) (length rows) numbers (omega (arith, few))))
       (λ (g : headerSound (lists .contracts) ≡ false).
       let other : (n : ℕ) → inRuns (lists .contracts) n numbers ≡ numbers =
       λ n. ap (inRuns (lists .contracts) n) (unlisted g) ∙ in-runs-other (lists .contracts) n (refusalNumbers ListOf ++ behind) refl ∙ sym (unlisted g) in
       other (length (lent rows (array rows))) ∙ sym (other (length rows)))
       (either (headerSound (lists .contracts))))
-      (order (length rows) 132)
+      (order (length rows) mostRuns)
 
 -- the numbers lent are looked at and no more
 module _ (rows : List Run) where
@@ -109,7 +110,7 @@ module _ (lists : Lists) (rows : List Run) where
   -- a promise that looks at the numbers lent and no further, by an answer that without a list is 16, with so much behind it
   lent-over : {A : Type 0} (numbersOf : A → List ℕ) (behind : List ℕ) (promise : List ℕ → List ℕ → A → Type 0) → ((a z a′ : List ℕ) (core : A) → most ≤ length a → promise a a′ core → promise (a ++ z) (a′ ++ z) core)
       → ((a a′ : List ℕ) (core : A) → headerSound (lists .contracts) ≡ false → promise a a′ core → numbersOf core ≡ refusalNumbers ListOf ++ behind)
-      → (runs : List Run) → length runs ≡ 132 → (answer : A) → Over numbersOf (lists .contracts) front (lent rows runs) promise answer → Over numbersOf (lists .contracts) rows (over runs rows) promise answer
+      → (runs : List Run) → length runs ≡ mostRuns → (answer : A) → Over numbersOf (lists .contracts) front (lent rows runs) promise answer → Over numbersOf (lists .contracts) rows (over runs rows) promise answer
   lent-over numbersOf behind promise more unlisted runs long answer p = record {
     core = p .core;
     promised = lent-whole rows (λ a b. promise a b (p .core)) (λ a z a′ room q. more a z a′ (p .core) room q) runs long (p .promised);
@@ -127,7 +128,7 @@ module _ (lists : Lists) (rows : List Run) where
   }
 
   module _ (records : List ℕ) where
-    pub started-runs : (starts : List ℕ) (answer : Started) (runs : List Run) (records′ : List ℕ) → length runs ≡ 132
+    pub started-runs : (starts : List ℕ) (answer : Started) (runs : List Run) (records′ : List ℕ) → length runs ≡ mostRuns
         → StartedRuns lists starts front records answer (lent rows runs) records′ → StartedRuns lists starts rows records answer (over runs rows) records′
     started-runs starts answer runs records′ long =
         lent-over startedNumbers [] (λ ns ns′ core. StartedBox (lends lists ns records) starts core (lends lists ns′ records′)) (λ a z a′ core room q. started-front (lends lists a records) z room starts core q)
@@ -138,7 +139,7 @@ module _ (lists : Lists) (rows : List Run) where
         seen-over judgedNumbers (0 ∷ []) (λ ns core. JudgedBatch (lends lists ns records) batch core) (λ a z core room q. judged-front (lends lists a records) z room batch core q)
         (λ a core h q. judged-unlisted (lends lists a records) h batch core q) answer
 
-    pub took-runs : (batch : List ℕ) (answer : Judged) (runs : List Run) (records′ : List ℕ) → length runs ≡ 132
+    pub took-runs : (batch : List ℕ) (answer : Judged) (runs : List Run) (records′ : List ℕ) → length runs ≡ mostRuns
         → TookRuns lists front records batch answer (lent rows runs) records′ → TookRuns lists rows records batch answer (over runs rows) records′
     took-runs batch answer runs records′ long =
         lent-over judgedNumbers (0 ∷ []) (λ ns ns′ core. TookBatch (lends lists ns records) batch core (lends lists ns′ records′)) (λ a z a′ core room q. took-front (lends lists a records) z room batch core q)
@@ -150,7 +151,7 @@ module _ (lists : Lists) (rows : List Run) where
           seen-over listedNumbers [] (λ ns core. ListedRuns (lends lists ns records) letter cells core cells′) (λ a z core room q. listed-front (lends lists a records) z room letter core q)
           (λ a core h q. listed-unlisted (lends lists a records) h letter core q) answer
 
-      pub wrote-off-runs : (answer : WrittenOff) (runs : List Run) → length runs ≡ 132 → WroteOffRuns lists front records letter answer (lent rows runs) → WroteOffRuns lists rows records letter answer (over runs rows)
+      pub wrote-off-runs : (answer : WrittenOff) (runs : List Run) → length runs ≡ mostRuns → WroteOffRuns lists front records letter answer (lent rows runs) → WroteOffRuns lists rows records letter answer (over runs rows)
       wrote-off-runs answer runs long =
           lent-over writtenOffNumbers [] (λ ns ns′ core. WroteOffRun (lends lists ns records) letter core (lends lists ns′ records)) (λ a z a′ core room q. wrote-front (lends lists a records) z room letter core q)
           (λ a a′ core h q. wrote-unlisted (lends lists a records) h letter core q) runs long answer

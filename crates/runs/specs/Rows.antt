@@ -5,6 +5,7 @@ use mathlib.Core.List.{List, [], _∷_}
 use lib.Dec.{ltb, eqb}
 use lib.ListN.{length, getD, set, take, replicate}
 use Rattle.files.specs.File.{segmentsOf}
+use Rattle.contracts.specs.Sound.{mostSegments}
 use Rattle.runs.specs.declared.run.Run.{Run}
 
 -- 01 "Sequence and gaps", "each a first and a last number": the row seen as numbers, those of each run in turn
@@ -16,13 +17,21 @@ flat (run ∷ runs) = run .first ∷ run .last ∷ flat runs
 abbrev pub blank : Run
 blank = record { first = 0; last = 0 }
 
--- 01 "The contract list", "1 or 2" segments: the runs of the gap rows of two, at which a call looks at most
-abbrev pub blanks : List Run
-blanks = replicate 132 blank
+-- lent memory: the runs of a gap row
+abbrev pub rowRuns : ℕ
+rowRuns = 66
 
--- 01 "Sequence and gaps": the numbers of those runs
+-- 01 "The contract list", M-104: the runs of the gap rows of as many segments as a list may have, at which a call looks at most
+abbrev pub mostRuns : ℕ
+mostRuns = rowRuns * mostSegments
+
+-- 01 "Sequence and gaps", "each a first and a last number": the numbers of those runs
 abbrev pub most : ℕ
-most = 264
+most = 2 * mostRuns
+
+-- a word of our own: as many runs whose cells are 0
+abbrev pub blanks : List Run
+blanks = replicate mostRuns blank
 
 -- a word of our own: one row laid over another, from the first run on and as far as both go
 abbrev pub over : List Run → List Run → List Run
@@ -37,10 +46,6 @@ array rows = over rows blanks
 -- a word of our own: the runs of such an array that stand in the lent row
 abbrev pub lent : List Run → List Run → List Run
 lent rows runs = take (length rows) runs
-
--- lent memory: the runs of a gap row
-abbrev pub rowRuns : ℕ
-rowRuns = 66
 
 -- 01, the table's row 15: the runs that a call wants for a list's segments
 abbrev pub runsWanted : List ℕ → ℕ

@@ -1,4 +1,4 @@
--- The promises of the calls over numbers, from the front of the gap rows to all of them: what stands behind the first 264 numbers
+-- The promises of the calls over numbers, from the front of the gap rows to all of them: what stands behind the first `most` numbers
 -- is neither looked at nor changed.
 use Prim.Native.Nat.{ℕ, _≤_}
 use mathlib.Core.Path.{_≡_, refl, ap, ap₂, sym, _∙_}
@@ -48,7 +48,7 @@ use Rattle.reading.specs.ReadRules.{recordRules}
 use Rattle.starting.specs.StartPromises.{StartedBox}
 use Rattle.listing.specs.ListPromises.{ListedRuns, WroteOffRun}
 use Rattle.reading.specs.Reads.{ReadsFor}
-use Rattle.reading.specs.Record.{recordOfKey, recordNumber, recordValues, quoteAt, quoteBeside}
+use Rattle.reading.specs.Record.{recordOfKey, recordNumber, recordSession, recordValues, stampShown, quoteAt, quoteBeside}
 use Rattle.batch.specs.Promises.{JudgedBatch, TookBatch}
 use Rattle.starting.specs.Start.{startRules}
 use Rattle.starting.specs.StartActs.{startBroken, startedRows, rowsStarted, recordsCleared, lentStarted}
@@ -228,9 +228,10 @@ module _ (lent : Lent) (z : List ℕ) (room : most ≤ length (lent .rows)) wher
     read-front {show = show} {blank} {item = item} {key} {level} answer p =
         let same : firstBroken (recordRules item lent letter key) ≡ firstBroken (recordRules item all letter key) =
         heads (lists .contracts) (λ h. record-unlisted lent h letter item key ∙ sym (record-unlisted all h letter item key)) (λ header. ap firstBroken (sym (record-front header item key))) in
+        let at : ℕ = recordOfKey item lists letter key level in
         record {
-          answers = p .answers ∙ ap (λ (o : Option Refusal). answered o (recordValues (recordNumber (lent .records) (recordOfKey item lists letter key level)))) same;
-          quotes = p .quotes ∙ ap (λ (o : Option Refusal). quoteBeside blank o (quoteAt show blank item (lent .records) (recordOfKey item lists letter key level) level)) same;
+          answers = p .answers ∙ ap (λ (o : Option Refusal). answered o (recordValues (recordNumber (lent .records) at) (recordSession item (lent .records) at))) same;
+          quotes = p .quotes ∙ ap (λ (o : Option Refusal). quoteBeside blank o (quoteAt show blank item (stampShown item letter) (lent .records) at level)) same;
         }
 
     off-left : Header (lists .contracts) → lentWrittenOff all letter ≡ longer z (lentWrittenOff lent letter)

@@ -13,4 +13,5 @@ pub use calls::read_spread;
 pub use calls::start;
 pub use calls::take;
 pub use calls::write_off;
+pub use run::MOST;
 pub use run::Run;

@@ -5,7 +5,7 @@ use crate::run;
 use crate::run::Run;
 
 // Two numbers a run.
-pub(crate) const NUMBERS: usize = 264;
+pub(crate) const NUMBERS: usize = 2 * run::MOST;
 
 pub(crate) fn flat(runs: [Run; run::MOST]) -> [u32; NUMBERS]
     ensures { λ r. ⌜ r ≡ flat runs ⌝ }

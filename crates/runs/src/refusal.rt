@@ -3,6 +3,7 @@ ghost use mathlib.Core.Path.{_≡_};
 ghost use Rattle.state.specs.Refusals.{refusalNumbers};
 ghost use Rattle.state.specs.Answers.{startedNumbers, judgedNumbers, listedNumbers, writtenOffNumbers, recordedNumbers};
 ghost use Rattle.runs.specs.Rows.{inRuns};
+use crate::run;
 use quotebox::Judged;
 use quotebox::Listed;
 use quotebox::Recorded;
@@ -10,13 +11,10 @@ use quotebox::Refusal;
 use quotebox::Started;
 use quotebox::WrittenOff;
 
-// The runs of a gap row.
-const ROW: usize = 66;
-
 fn in_runs(list: &[u8], lent: usize, refusal: Refusal) -> Refusal
     ensures { λ r. ⌜ refusalNumbers r ≡ inRuns (now (list .entry)) lent (refusalNumbers refusal) ⌝ }
 {
-    let wanted = ROW * files::segments(list);
+    let wanted = run::ROW * files::segments(list);
     if let Refusal::Memory(_) = refusal {
         if lent < wanted {
             return Refusal::Memory(wanted);
@@ -69,7 +67,7 @@ pub(crate) fn recorded(list: &[u8], lent: usize, answer: Recorded) -> Recorded
     ensures { λ r. ⌜ recordedNumbers r ≡ inRuns (now (list .entry)) lent (recordedNumbers answer) ⌝ }
 {
     match answer {
-        Recorded::Record(number) => Recorded::Record(number),
+        Recorded::Record(number, session) => Recorded::Record(number, session),
         Recorded::NoRecord => Recorded::NoRecord,
         Recorded::Refused(refusal) => Recorded::Refused(in_runs(list, lent, refusal)),
     }

@@ -1,18 +1,21 @@
 // A run of missing numbers, and how many of them a call looks at.
 ghost use mathlib.Core.Path.{_≡_};
 ghost use Prim.Native.Nat.{min};
-ghost use Rattle.runs.specs.Rows.{blanks};
+ghost use Rattle.runs.specs.Rows.{mostRuns, blanks};
 
 pub struct Run {
     pub first: u32,
     pub last: u32,
 }
 
-// The runs of the gap rows of two segments, which a list has at most.
-pub(crate) const MOST: usize = 132;
+// The runs of a gap row.
+pub(crate) const ROW: usize = sequence::CELLS / 2;
+
+// The runs of the gap rows of as many segments as a list may have.
+pub const MOST: usize = ROW * contracts::MOST_SEGMENTS;
 
 pub(crate) fn at_most(lent: usize) -> usize
-    ensures { λ r. ⌜ r ≡ min lent 132 ⌝ }
+    ensures { λ r. ⌜ r ≡ min lent mostRuns ⌝ }
 {
     if lent < MOST {
         return lent;

@@ -1,10 +1,12 @@
 -- Where each slot's cells stand in lent memory: all listed contracts in list order, over all segments, then all pairs; of each the
 -- record of level 1, then that of level 2. Laws: `slots-apart`, `slot-inside` (SlotsLaws).
-use Prim.Native.Nat.{ℕ, _+_, _-_, _*_, _^_, _<_}
+use Prim.Native.Nat.{ℕ, suc, _+_, _-_, _*_, _^_, _<_}
 use mathlib.Core.Path.{_≡_}
-use mathlib.Core.List.{List}
-use mathlib.Core.Option.{Option, none, some}
-use lib.ListN.{length, take, drop}
+use mathlib.Core.List.{List, [], _∷_, _++_}
+use mathlib.Core.Bool.{Bool, true, false}
+use mathlib.Core.Option.{Option, some}
+use mathlib.Core.Option as option
+use lib.ListN.{length, getD, take, drop}
 use Rattle.files.specs.File.{contractsOf, contractsBefore}
 use Rattle.pairs.specs.Lists.{Lists}
 use Rattle.forms.specs.declared.rows.Level.{Level}
@@ -12,12 +14,14 @@ use Rattle.forms.specs.declared.rows.Level.the-variants.{One, Two}
 use Rattle.forms.specs.declared.forms.Form.{Form}
 use Rattle.forms.specs.declared.forms.Item.{Item}
 use Rattle.forms.specs.declared.forms.Item.the-variants.{Contract, Pair}
-use Rattle.forms.specs.Forms.{rowsOf, recordForm, keyRowsOf}
+use Rattle.forms.specs.Forms.{rowsOf, recordForm, sessionOf, isStamped, keyRowsOf}
+use Rattle.forms.specs.Sizes.{keyRowCount, pairRowCount}
+use Rattle.layout.specs.Cells.{none, sessionCell}
 use Rattle.pairs.specs.Items.{fileOf}
 use Rattle.slots.specs.declared.records.Fronts.{Fronts}
 use Rattle.slots.specs.Slots.{Slot, slot, itemCells, levelCells}
 
--- 01 "What may be asked": "A record holds its update's number and rows": which are all rows behind the key
+-- 01 "What may be asked": "A record holds its update's number and rows": which are all rows of the record's form behind the key
 unfoldable pub recordRows : Item → Level → ℕ
 recordRows item level = length (rowsOf (recordForm item level)) - keyRowsOf item
 
@@ -49,16 +53,20 @@ slotCells (slot item i place level) = levelCells item level
 
 -- lent memory: the slot of a contract or a pair by its place in its segment, where there is one
 abbrev pub slotIn : Item → Option ℕ → ℕ → Level → Slot
-slotIn item none place level = slot item 0 place level
+slotIn item option.none place level = slot item 0 place level
 slotIn item (some i) place level = slot item i place level
 
--- lent memory: the cells of a record: one for each row behind the key
-abbrev pub recordOf : Item → Level → List ℕ → List ℕ
-recordOf item level cells = drop (keyRowsOf item) (take (length (rowsOf (recordForm item level))) cells)
+-- M-104: an update without a time stamp has "none" for it in its record
+abbrev pub noStamp : Bool → List ℕ
+noStamp true = []
+noStamp false = none ∷ []
 
--- 01 "What may be asked": the form whose rows a slot's record keeps
-abbrev pub formFor : Slot → Form
-formFor (slot item i place level) = recordForm item level
+-- lent memory, M-104: the cells of an update's record behind its number: of a contract the session, the market type, the time stamp and
+-- the other rows in turn; of a pair one for each row behind the key
+abbrev pub recordOf : Item → Form → List ℕ → List ℕ
+recordOf Contract form cells =
+    sessionCell (sessionOf form) ∷ getD cells keyRowCount 0 ∷ (noStamp (isStamped form) ++ drop (suc keyRowCount) (take (length (rowsOf form)) cells))
+recordOf Pair form cells = drop pairRowCount (take (length (rowsOf form)) cells)
 
 -- lent memory: the one of two places that is a contract's, or a pair's
 abbrev pub frontIn : Fronts → Item → ℕ

@@ -19,10 +19,16 @@ pub data Slot : Type 0 where
 abbrev pub SlotListed : Lists → Slot → Type 0
 SlotListed lists (slot item i place level) = (i < segmentsOf (lists .contracts)) × (place < countAt (fileOf item lists) i)
 
--- lent memory: the cells of a record of a level: its number, then a cell for each row behind the key (`cells-by-rows`)
+-- lent memory, M-104: what stands in a record before its rows: its number, and a contract's session
+abbrev pub cellsInFront : Item → ℕ
+cellsInFront Contract = 2
+cellsInFront Pair = 1
+
+-- lent memory, M-104: the cells of a record of a level: those, then a cell for each row of the record's form behind the key
+-- (`cells-by-rows`)
 abbrev pub levelCells : Item → Level → ℕ
-levelCells Contract One = 15
-levelCells Contract Two = 33
+levelCells Contract One = 17
+levelCells Contract Two = 35
 levelCells Pair One = 10
 levelCells Pair Two = 28
 

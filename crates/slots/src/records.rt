@@ -2,28 +2,43 @@
 ghost use mathlib.Core.Path.{_≡_};
 ghost use Prim.Native.Nat.{_^_, _<_};
 ghost use Rattle.pairs.specs.Lists.{lists};
-ghost use Rattle.slots.specs.Slots.{itemCells, levelCells, recordsWanted};
+ghost use Rattle.slots.specs.Slots.{cellsInFront, itemCells, levelCells, recordsWanted};
 ghost use Rattle.slots.specs.Places.{recordRows, recordAt, frontIn, FrontsOf};
 use layout::Item;
 use layout::Level;
 
-// The cells of a record: a number, then a cell a row; level 1, and behind it level 2. A contract's level 2 has the most.
-const CONTRACT_ONE: usize = 15;
+// The cells of a record: a number, a contract's session, then a cell a row; level 1, and behind it level 2. A contract's level 2 has
+// the most.
+const CONTRACT_FRONT: usize = 2;
 
-pub const CONTRACT_TWO: usize = 1 + layout::MOST_ROWS - layout::KEY_ROWS;
+const PAIR_FRONT: usize = 1;
 
-const CONTRACT: usize = CONTRACT_ONE + CONTRACT_TWO;
+const CONTRACT_ONE: usize = 17;
+
+pub const CONTRACT_TWO: usize = CONTRACT_FRONT + layout::MOST_ROWS - layout::KEY_ROWS;
+
+pub const CONTRACT: usize = CONTRACT_ONE + CONTRACT_TWO;
 
 const PAIR_ONE: usize = 10;
 
-const PAIR_TWO: usize = 1 + layout::MOST_ROWS - layout::PAIR_ROWS;
+const PAIR_TWO: usize = 28;
 
-const PAIR: usize = PAIR_ONE + PAIR_TWO;
+pub const PAIR: usize = PAIR_ONE + PAIR_TWO;
 
 // Where a segment's records begin.
 pub struct Fronts {
     pub contracts: usize,
     pub pairs: usize,
+}
+
+// What stands in a record before its rows.
+pub fn cells_in_front(item: Item) -> usize
+    ensures { λ r. ⌜ r ≡ cellsInFront item ⌝ }
+{
+    match item {
+        Item::Contract => CONTRACT_FRONT,
+        Item::Pair => PAIR_FRONT,
+    }
 }
 
 // The rows that a record of a level holds: those behind the key.
@@ -67,12 +82,19 @@ fn front_in(fronts: Fronts, item: Item) -> usize
     }
 }
 
-fn level_one(item: Item) -> usize
-    ensures { λ r. ⌜ r ≡ levelCells item (Level.One) ⌝ }
+// The cells of a record of a level.
+pub fn level_cells(item: Item, level: Level) -> usize
+    ensures { λ r. ⌜ r ≡ levelCells item level ⌝ }
 {
     match item {
-        Item::Contract => CONTRACT_ONE,
-        Item::Pair => PAIR_ONE,
+        Item::Contract => match level {
+            Level::One => CONTRACT_ONE,
+            Level::Two => CONTRACT_TWO,
+        },
+        Item::Pair => match level {
+            Level::One => PAIR_ONE,
+            Level::Two => PAIR_TWO,
+        },
     }
 }
 
@@ -84,6 +106,6 @@ pub fn record_at(fronts: Fronts, item: Item, place: usize, level: Level) -> usiz
     let first = front_in(fronts, item) + cells_of(item) * place;
     match level {
         Level::One => first,
-        Level::Two => first + level_one(item),
+        Level::Two => first + level_cells(item, Level::One),
     }
 }

@@ -3,7 +3,7 @@ use Prim.Native.Nat.{ℕ}
 use mathlib.Core.Path.{_≡_, refl}
 use mathlib.Core.List.{List}
 use Rattle.forms.specs.declared.forms.Form.{Form}
-use Rattle.forms.specs.declared.forms.Form.the-variants.{Heartbeat, LevelOne, LevelTwo, PairOne, PairTwo}
+use Rattle.forms.specs.declared.forms.Form.the-variants.{Heartbeat, LevelOne, LevelTwo, PairOne, PairTwo, FutureOne, FutureTwo, PreOpenOne, PreOpenTwo}
 use Rattle.forms.specs.Forms.{namedRows}
 use Rattle.quote.specs.declared.quote.Places.{Places}
 use Rattle.quote.specs.Inner.{placesOf}
@@ -20,6 +20,10 @@ spread-laid LevelOne cells = refl
 spread-laid LevelTwo cells = refl
 spread-laid PairOne cells = refl
 spread-laid PairTwo cells = refl
+spread-laid FutureOne cells = refl
+spread-laid FutureTwo cells = refl
+spread-laid PreOpenOne cells = refl
+spread-laid PreOpenTwo cells = refl
 
 abbrev spreadValuesLaid : Places → SpreadQuote → List ℕ
 spreadValuesLaid at quote = putDifferences at quote (sidesLaid spreadOrderValues noSpreadOrder at (quote .buy) (quote .sell))
@@ -31,3 +35,7 @@ spread-values-laid LevelOne quote = refl
 spread-values-laid LevelTwo quote = refl
 spread-values-laid PairOne quote = refl
 spread-values-laid PairTwo quote = refl
+spread-values-laid FutureOne quote = refl
+spread-values-laid FutureTwo quote = refl
+spread-values-laid PreOpenOne quote = refl
+spread-values-laid PreOpenTwo quote = refl

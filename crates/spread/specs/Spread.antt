@@ -12,7 +12,7 @@ use Rattle.spread.specs.declared.spread.SpreadQuote.{SpreadQuote}
 use Rattle.layout.specs.declared.cells.Held.{Held}
 use Rattle.layout.specs.declared.cells.Held.the-variants.{Nothing, Units, Below}
 use Rattle.forms.specs.declared.forms.Form.{Form}
-use Rattle.forms.specs.Names.{Name, NamedRow, instrument, symbol, expiry, strike, optionType, secondInstrument, secondSymbol, secondExpiry, secondStrike, secondOptionType, marketType, buyPrice, buyQuantity, sellPrice, sellQuantity, lastPrice, tradedQuantity, status, openingPrice, highPrice, lowPrice, closePrice, averagePrice, allBuyers, allSellers, turnover as turnoverName}
+use Rattle.forms.specs.Names.{Name, NamedRow, instrument, symbol, expiry, strike, optionType, secondInstrument, secondSymbol, secondExpiry, secondStrike, secondOptionType, marketType, timeStamp, buyPrice, buyQuantity, sellPrice, sellQuantity, lastPrice, tradedQuantity, status, openingPrice, highPrice, lowPrice, closePrice, averagePrice, allBuyers, allSellers, turnover as turnoverName}
 use Rattle.forms.specs.Forms.{namedRows}
 use Rattle.layout.specs.Cells.{heldIn, zerosBehind}
 use Rattle.layout.specs.Plain.{valueOf}
@@ -79,6 +79,7 @@ spreadFieldValue quote secondExpiry = 0
 spreadFieldValue quote secondStrike = 0
 spreadFieldValue quote secondOptionType = 0
 spreadFieldValue quote marketType = 0
+spreadFieldValue quote timeStamp = 0
 spreadFieldValue quote (buyPrice k) = valueOfDifference (getD (quote .buy) k noSpreadOrder .price)
 spreadFieldValue quote (buyQuantity k) = valueOfQuantity (getD (quote .buy) k noSpreadOrder .quantity)
 spreadFieldValue quote (sellPrice k) = valueOfDifference (getD (quote .sell) k noSpreadOrder .price)

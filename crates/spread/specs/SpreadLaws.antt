@@ -5,7 +5,7 @@ use mathlib.Core.Bool.{true, false, false≢true}
 use mathlib.Core.List.{List, _++_}
 use lib.ListN.{getD}
 use Rattle.forms.specs.declared.forms.Form.{Form}
-use Rattle.forms.specs.declared.forms.Form.the-variants.{Heartbeat, LevelOne, LevelTwo, PairOne, PairTwo}
+use Rattle.forms.specs.declared.forms.Form.the-variants.{Heartbeat, LevelOne, LevelTwo, PairOne, PairTwo, FutureOne, FutureTwo, PreOpenOne, PreOpenTwo}
 use Rattle.forms.specs.Names.{Name, NamedRow, buyPrice, buyQuantity, sellPrice, sellQuantity, lastPrice, tradedQuantity, openingPrice, highPrice, lowPrice, allBuyers, allSellers}
 use Rattle.forms.specs.Forms.{namedRows, rowsOf, subjectOf}
 use Rattle.layout.specs.Cells.{heldIn, zerosBehind}
@@ -32,6 +32,10 @@ spread-numbered LevelOne is cells = absurd (false≢true is)
 spread-numbered LevelTwo is cells = absurd (false≢true is)
 spread-numbered PairOne is cells = simp (difference-kept, quantity-kept)
 spread-numbered PairTwo is cells = simp (difference-kept, quantity-kept)
+spread-numbered FutureOne is cells = absurd (false≢true is)
+spread-numbered FutureTwo is cells = absurd (false≢true is)
+spread-numbered PreOpenOne is cells = absurd (false≢true is)
+spread-numbered PreOpenTwo is cells = absurd (false≢true is)
 
 pub spread-cells-back : (form : Form) → ofPair (subjectOf form) ≡ true → (cells : List ℕ) → spreadValuesOf form (spreadQuoteOf form cells) ≡ zerosBehind (seenValues (rowsOf form) cells)
 spread-cells-back form is cells = spread-numbered form is cells ∙ sym (ap zerosBehind (seen-from 0 (rowsOf form) cells))

@@ -6,7 +6,7 @@ use mathlib.Core.Bool.{true, false, false≢true}
 use mathlib.Core.List.{List}
 use lib.ListN.{length, replicate}
 use Rattle.forms.specs.declared.forms.Form.{Form}
-use Rattle.forms.specs.declared.forms.Form.the-variants.{Heartbeat, LevelOne, LevelTwo, PairOne, PairTwo}
+use Rattle.forms.specs.declared.forms.Form.the-variants.{Heartbeat, LevelOne, LevelTwo, PairOne, PairTwo, FutureOne, FutureTwo, PreOpenOne, PreOpenTwo}
 use Rattle.forms.specs.Sizes.{mostRows}
 use Rattle.forms.specs.Forms.{namedRows, rowsOf, subjectOf}
 use Rattle.layout.specs.declared.read.Verdict.the-variants.{Good}
@@ -43,6 +43,10 @@ own-spread-values LevelOne is quote = absurd (false≢true is)
 own-spread-values LevelTwo is quote = absurd (false≢true is)
 own-spread-values PairOne is quote = simp difference-again
 own-spread-values PairTwo is quote = simp difference-again
+own-spread-values FutureOne is quote = absurd (false≢true is)
+own-spread-values FutureTwo is quote = absurd (false≢true is)
+own-spread-values PreOpenOne is quote = absurd (false≢true is)
+own-spread-values PreOpenTwo is quote = absurd (false≢true is)
 
 module _ (form : Form) (is : ofPair (subjectOf form) ≡ true) (quote : SpreadQuote) (key : List ℕ) (good : writeRows 0 (rowsOf form) key (spreadValuesOf form quote) .verdict ≡ Good) where
   -- a pair's quote that can be written is the one that its values hold, as the form sees it

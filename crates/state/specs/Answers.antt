@@ -3,6 +3,7 @@
 use Prim.Native.Nat.{ℕ}
 use mathlib.Core.List.{List, [], _∷_, _++_}
 use mathlib.Core.Option.{Option, none, some}
+use Rattle.layout.specs.Cells.{sessionCell}
 use Rattle.state.specs.declared.refusal.Refusal.{Refusal}
 use Rattle.state.specs.declared.answers.Started.{Started}
 use Rattle.state.specs.declared.answers.Judged.{Judged}
@@ -35,9 +36,9 @@ abbrev pub writtenOffNumbers : WrittenOff → List ℕ
 writtenOffNumbers (WrittenOff.Removed first last) = 0 ∷ first ∷ last ∷ []
 writtenOffNumbers (WrittenOff.Refused refusal) = refusalNumbers refusal
 
--- 01 "What may be asked": a record, or "no record": 1 and its number for a record, 0 where there is none
+-- 01 "What may be asked": a record, or "no record": 1 and its number for a record, 0 where there is none; M-104: and its session
 abbrev pub recordedNumbers : Recorded → List ℕ
-recordedNumbers (Recorded.Record number) = 0 ∷ 1 ∷ number ∷ []
+recordedNumbers (Recorded.Record number session) = 0 ∷ 1 ∷ number ∷ sessionCell session ∷ []
 recordedNumbers Recorded.NoRecord = 0 ∷ 0 ∷ []
 recordedNumbers (Recorded.Refused refusal) = refusalNumbers refusal
 

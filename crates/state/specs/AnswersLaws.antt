@@ -7,6 +7,8 @@ use mathlib.Core.Option.{Option, none, some}
 use lib.Dec.{eqb}
 use lib.ListN.{getD, drop}
 use Rattle.laws.specs.Told.{told}
+use Rattle.forms.specs.declared.forms.Session.the-variants as session
+use Rattle.layout.specs.Cells.{sessionIn}
 use Rattle.state.specs.declared.refusal.Refusal.{Refusal}
 use Rattle.state.specs.declared.answers.Judged.{Judged}
 use Rattle.state.specs.declared.answers.Started.{Started}
@@ -96,10 +98,11 @@ pub written-off-told : (a b : WrittenOff) → writtenOffNumbers a ≡ writtenOff
 written-off-told = told writtenOffNumbers (answerOf runAnswered WrittenOff.Refused) written-off-back
 
 abbrev recordAnswered : List ℕ → Recorded
-recordAnswered ns = cond (eqb (getD ns 1 0) 0) Recorded.NoRecord (Recorded.Record (getD ns 2 0))
+recordAnswered ns = cond (eqb (getD ns 1 0) 0) Recorded.NoRecord (Recorded.Record (getD ns 2 0) (sessionIn (getD ns 3 0)))
 
 recorded-back : (a : Recorded) → answerOf recordAnswered Recorded.Refused (recordedNumbers a) ≡ a
-recorded-back (Recorded.Record number) = refl
+recorded-back (Recorded.Record number session.Normal) = refl
+recorded-back (Recorded.Record number session.PreOpen) = refl
 recorded-back Recorded.NoRecord = refl
 recorded-back (Recorded.Refused r) = refused-back recordAnswered Recorded.Refused r
 

@@ -1,5 +1,6 @@
 // What each public call answers.
 use crate::refusal::Refusal;
+use layout::Session;
 
 pub enum Started {
     Started,
@@ -24,9 +25,9 @@ pub enum WrittenOff {
     Refused(Refusal),
 }
 
-// A record's number, which is its update's.
+// A record's number, which is its update's, and the session of the update that wrote it.
 pub enum Recorded {
-    Record(u64),
+    Record(u64, Session),
     NoRecord,
     Refused(Refusal),
 }

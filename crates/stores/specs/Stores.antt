@@ -6,6 +6,7 @@ use mathlib.Core.Logic.{_⊎_}
 use lib.ListN.{length, getD, take, drop}
 use lib.Seq.{sets}
 use Rattle.forms.specs.declared.rows.Level.the-variants.{Two}
+use Rattle.forms.specs.declared.forms.Form.{Form}
 use Rattle.forms.specs.declared.forms.Subject.{Subject}
 use Rattle.forms.specs.declared.forms.Subject.the-variants.{Nothing, Of}
 use Rattle.forms.specs.declared.forms.Item.{Item}
@@ -45,9 +46,9 @@ Fits cells kept = (0 < getD kept 1 0) × (getD kept 1 0 ≤ levelCells Contract 
 abbrev pub AllFit : ℕ → ℕ → List ℕ → Type 0
 AllFit cells n stores = (i : ℕ) → i < n → Fits cells (storeOf stores i)
 
--- 01 "The message": the bytes of the shortest update
+-- 01 "The message", M-104: the bytes of the shortest update: FN at level 1
 abbrev pub leastUpdate : ℕ
-leastUpdate = 227
+leastUpdate = 204
 
 -- a word of our own: so many cells have room for every update that so many bytes can hold
 pub record Room (cells long : ℕ) : Type 0 where
@@ -66,10 +67,10 @@ abbrev pub Near : Fronts → Type 0
 Near fronts = (item : Item) → frontIn fronts item < 2 ^ 40
 
 -- a word of our own: the store of an update of what is listed at a place of its segment, by what it tells of
-abbrev pub KeptFor : Subject → List ℕ → ℕ → Fronts → ℕ → ℕ → List ℕ → ℕ → List ℕ → Type 0
-KeptFor Nothing stores kept fronts place number cells kept′ stores′ = (kept′ ≡ kept) × (stores′ ≡ stores)
-KeptFor (Of item level) stores kept fronts place number cells kept′ stores′ =
-    StoreKept stores kept (recordAt item (frontIn fronts item) place level) number (recordOf item level cells) kept′ stores′
+abbrev pub KeptFor : Subject → Form → List ℕ → ℕ → Fronts → ℕ → ℕ → List ℕ → ℕ → List ℕ → Type 0
+KeptFor Nothing form stores kept fronts place number cells kept′ stores′ = (kept′ ≡ kept) × (stores′ ≡ stores)
+KeptFor (Of item level) form stores kept fronts place number cells kept′ stores′ =
+    StoreKept stores kept (recordAt item (frontIn fronts item) place level) number (recordOf item form cells) kept′ stores′
 
 -- a word of our own: what a message of so many bytes changes of the records, the stores kept after it make, where an update has
 -- room

@@ -32,6 +32,13 @@ store-laid stores at place long number cells =
     let third : at + 3 ≡ suc (suc (suc at)) = omega arith in
     rw (add-one at, second, third)
 
+-- ---- a contract's record as it is written: with a time stamp among its rows, and with none
+
+pub record-laid : (stores : List ℕ) (at session market : ℕ) (rows : List ℕ) → sets (set (set stores at session) (at + 1) market) (at + 2) rows ≡ sets stores at (session ∷ market ∷ rows)
+record-laid stores at session market rows =
+    let second : at + 2 ≡ suc (suc at) = omega arith in
+    rw (add-one at, second)
+
 -- ---- the stores before another
 
 made-same : (n : ℕ) (stores stores′ records : List ℕ) → ((i : ℕ) → i < n → storeOf stores′ i ≡ storeOf stores i) → made n stores′ records ≡ made n stores records
@@ -41,7 +48,7 @@ made-same (suc n) stores stores′ records e =
 
 -- ---- one more store
 
-module _ (stores : List ℕ) (kept at number : ℕ) (cells : List ℕ) (small : length cells ≤ 32) (room : storeCells * kept + storeCells ≤ length stores) where
+module _ (stores : List ℕ) (kept at number : ℕ) (cells : List ℕ) (small : length cells ≤ 34) (room : storeCells * kept + storeCells ≤ length stores) where
   abbrev slot : List ℕ
   slot = at ∷ suc (length cells) ∷ number ∷ cells
 
@@ -67,13 +74,13 @@ module _ (stores : List ℕ) (kept at number : ℕ) (cells : List ℕ) (small : 
       ∙ ap (λ (l : List ℕ). take storeCells (drop (storeCells * i) l)) (ap (take (storeCells * kept)) laid ∙ take-at front (slot ++ rest) (storeCells * kept) front-long)
       ∙ part-of-front (storeCells * i) storeCells (storeCells * kept) stores inside
 
-  own : storeOf stores′ kept ≡ at ∷ suc (length cells) ∷ number ∷ take 32 (cells ++ rest)
+  own : storeOf stores′ kept ≡ at ∷ suc (length cells) ∷ number ∷ take 34 (cells ++ rest)
   own = ap (take storeCells) (ap (drop (storeCells * kept)) laid ∙ drop-at front (slot ++ rest) (storeCells * kept) front-long)
 
   own-made : (records : List ℕ) → madeOf (storeOf stores′ kept) records ≡ stored at number cells records
   own-made records =
       ap (λ (l : List ℕ). madeOf l records) own
-      ∙ ap (λ (l : List ℕ). stored at number l records) (take-take (length cells) 32 (cells ++ rest) small ∙ take-append-seam cells rest)
+      ∙ ap (λ (l : List ℕ). stored at number l records) (take-take (length cells) 34 (cells ++ rest) small ∙ take-append-seam cells rest)
 
   one-more-made : (records : List ℕ) → made (suc kept) stores′ records ≡ stored at number cells (made kept stores records)
   one-more-made records =
@@ -98,7 +105,7 @@ module _ (wanted long : ℕ) (stores : List ℕ) (kept : ℕ) (within : storeCel
   none-kept same = record { makes = λ room records. sym (same (made kept stores records)); fit = λ before. before; few = omega arith; within = within }
 
 -- an update that is taken
-pub one-kept : (wanted long : ℕ) (stores : List ℕ) (kept : ℕ) → storeCells * kept ≤ length stores → (at number : ℕ) (cells : List ℕ) → length cells ≤ 32
+pub one-kept : (wanted long : ℕ) (stores : List ℕ) (kept : ℕ) → storeCells * kept ≤ length stores → (at number : ℕ) (cells : List ℕ) → length cells ≤ 34
     → leastUpdate ≤ long → at + suc (length cells) ≤ wanted → (kept′ : ℕ) (stores′ : List ℕ) → StoreKept stores kept at number cells kept′ stores′
     → Keeps wanted long stores kept (stored at number cells) kept′ stores′
 one-kept wanted long stores kept within at number cells small least fits kept′ stores′ (inl k) =

@@ -18,9 +18,9 @@ pub record Tells (numbers : List ℕ) (returned : ℕ) (answer : List ℕ) : Typ
   pub number : returned ≡ toldOf numbers .number
   pub values : answer ≡ toldOf numbers .answer
 
--- the host's header: 1 for a record, whose number stands among the values, and 0 where there is none
+-- the host's header: 1 for a record, whose number and session stand among the values, and 0 where there is none
 abbrev pub recordNumbers : Recorded → List ℕ
-recordNumbers (Record number) = 0 ∷ 1 ∷ []
+recordNumbers (Record number session) = 0 ∷ 1 ∷ []
 recordNumbers NoRecord = 0 ∷ 0 ∷ []
 recordNumbers (Refused refusal) = refusalNumbers refusal
 

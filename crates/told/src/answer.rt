@@ -86,12 +86,12 @@ pub fn of_written_off(written_off: WrittenOff) -> Told
     }
 }
 
-// 1 for a record, whose number stands among the values.
+// 1 for a record, whose number and session stand among the values.
 pub fn of_recorded(recorded: Recorded) -> Told
     ensures { λ r. ⌜ r ≡ toldOf (recordNumbers recorded) ⌝ }
 {
     match recorded {
-        Recorded::Record(_) => of_numbers(0, 1, 0, 0),
+        Recorded::Record(_, _) => of_numbers(0, 1, 0, 0),
         Recorded::NoRecord => of_numbers(0, 0, 0, 0),
         Recorded::Refused(refusal) => of_refusal(refusal),
     }

@@ -1,4 +1,4 @@
--- M-102, the worst case: the lookups of messages compare at most 13 keys for each 249 bytes.
+-- M-102, the worst case: the lookups of messages compare at most 13 keys for each 204 bytes.
 use Prim.Native.Nat.{ℕ, zero, suc, _+_, _*_, _≤_, _<_}
 use mathlib.Core.Path.{_≡_, refl, ap, sym, _∙_}
 use mathlib.Core.Bool.{Bool, true, false, cond}
@@ -35,21 +35,21 @@ module _ (lists : Lists) (headers : Headers lists) (letter : ℕ) where
     inside : verdictOf (messageOf lists letter bytes .what) ≡ Good → lengthOf bytes ≤ length bytes
     inside good = omega (arith, all-there lists letter bytes good, length-is lists letter bytes)
 
-    one-fits : (k : ℕ) → k ≡ 1 → lengthOf bytes ≤ length bytes → 249 * comparedIn k lists letter bytes ≤ 13 * length bytes
+    one-fits : (k : ℕ) → k ≡ 1 → lengthOf bytes ≤ length bytes → 204 * comparedIn k lists letter bytes ≤ 13 * length bytes
     one-fits k e h = rw e (omega (arith, message-long lists headers letter bytes))
 
-    none-fits : (k : ℕ) → k ≡ 0 → 249 * comparedIn k lists letter bytes ≤ 13 * length bytes
+    none-fits : (k : ℕ) → k ≡ 0 → 204 * comparedIn k lists letter bytes ≤ 13 * length bytes
     none-fits k e = rw e (omega arith)
 
     -- one that is refused, with its own lookup or without
     module _ (box : Box) (i count k : ℕ) (cells : List ℕ) (r : Refusal) (stopped : reached count r ≡ i + k) where
-      refused-fits : (w : What) → messageOf lists letter bytes .what ≡ w → whatActs lists letter box i w cells ≡ refused r → 249 * comparedIn k lists letter bytes ≤ 13 * length bytes
+      refused-fits : (w : What) → messageOf lists letter bytes .what ≡ w → whatActs lists letter box i w cells ≡ refused r → 204 * comparedIn k lists letter bytes ≤ 13 * length bytes
       refused-fits what.Heartbeat e f = absurd (not-both (sym f))
       refused-fits (what.PassedOver number) e f =
           let n = ap (reached count) (number-refused box i number (λ records. records) f) ∙ stopped in
           one-fits k (omega arith) (inside (ap verdictOf e))
       refused-fits (what.Update number form place) e f =
-          let n = ap (reached count) (number-refused box i number (updated lists (segmentOf (lists .contracts) letter) place (subjectOf form) number cells) f) ∙ stopped in
+          let n = ap (reached count) (number-refused box i number (updated lists (segmentOf (lists .contracts) letter) place (subjectOf form) form number cells) f) ∙ stopped in
           one-fits k (omega arith) (inside (ap verdictOf e))
       refused-fits (what.Bad fault) e f =
           let same : ofFault fault i ≡ r = cc in
@@ -73,7 +73,7 @@ module _ (lists : Lists) (headers : Headers lists) (letter : ℕ) where
   -- ---- messages in turn
 
   pub all-fits : (count i : ℕ) (box : Box) (bytes : List ℕ) {done : Acted} → messagesAct count lists letter i box bytes ≡ done
-      → (k : ℕ) → reachedBy (i + count) done ≡ i + k → 249 * comparedIn k lists letter bytes ≤ 13 * length bytes
+      → (k : ℕ) → reachedBy (i + count) done ≡ i + k → 204 * comparedIn k lists letter bytes ≤ 13 * length bytes
   all-fits zero i box bytes {done} e k n =
       let ended : reachedBy (i + 0) done ≡ i + 0 =
       ⊎-elim (λ (h : length bytes ≤ 0). ap (reachedBy (i + 0)) (sym e ∙ messages-end lists letter i box bytes (omega arith)))
@@ -83,8 +83,8 @@ module _ (lists : Lists) (headers : Headers lists) (letter : ℕ) where
       go (λ box′ f j m. all-fits more (suc i) box′ (drop (lengthOf bytes) bytes) f j m) (messageActs lists letter box i bytes) refl k n
     where
       go : ((box′ : Box) → messagesAct more lists letter (suc i) box′ (drop (lengthOf bytes) bytes) ≡ done → (j : ℕ) → reachedBy (suc i + more) done ≡ suc i + j
-          → 249 * comparedIn j lists letter (drop (lengthOf bytes) bytes) ≤ 13 * length (drop (lengthOf bytes) bytes))
-          → (first : Acted) → messageActs lists letter box i bytes ≡ first → (k : ℕ) → reachedBy (i + suc more) done ≡ i + k → 249 * comparedIn k lists letter bytes ≤ 13 * length bytes
+          → 204 * comparedIn j lists letter (drop (lengthOf bytes) bytes) ≤ 13 * length (drop (lengthOf bytes) bytes))
+          → (first : Acted) → messageActs lists letter box i bytes ≡ first → (k : ℕ) → reachedBy (i + suc more) done ≡ i + k → 204 * comparedIn k lists letter bytes ≤ 13 * length bytes
       go next (refused r) f k n =
           let done-is : done ≡ refused r = sym e ∙ messages-refused lists letter more i box bytes r f in
           refused-fits bytes box i (i + suc more) k (messageOf lists letter bytes .cells) r (sym (ap (reachedBy (i + suc more)) done-is) ∙ n) (messageOf lists letter bytes .what) refl

@@ -55,7 +55,7 @@ module _ (lists : Lists) (letter : ℕ) (box : Box) (i keys : ℕ) (cells : List
   reached-refused what.Heartbeat e count = absurd (not-both (sym e))
   reached-refused (what.PassedOver number) e count = inr (ap (reached count) (sym (number-refused box i number (λ records. records) e)), refl)
   reached-refused (what.Update number form place) e count =
-      inr (ap (reached count) (sym (number-refused box i number (updated lists (segmentOf (lists .contracts) letter) place (subjectOf form) number cells) e)), refl)
+      inr (ap (reached count) (sym (number-refused box i number (updated lists (segmentOf (lists .contracts) letter) place (subjectOf form) form number cells) e)), refl)
   reached-refused (what.Bad f) {refusal} e count =
       let same : ofFault f i ≡ refusal = cc in
       rw (← same) (fault-reached count i keys f)

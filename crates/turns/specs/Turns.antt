@@ -5,6 +5,7 @@ use mathlib.Core.List.{List, [], _∷_}
 use mathlib.Core.Option.{Option}
 use lib.Dec.{eqb}
 use lib.ListN.{length, drop}
+use Rattle.forms.specs.declared.forms.Form.{Form}
 use Rattle.forms.specs.declared.forms.Subject.{Subject}
 use Rattle.forms.specs.declared.forms.Subject.the-variants.{Nothing, Of}
 use Rattle.forms.specs.Forms.{subjectOf}
@@ -60,9 +61,9 @@ numberActs box i number changed =
     }))
 
 -- 01 "Sequence and gaps": what an update taken changes of the records, by what it tells of
-abbrev pub updated : Lists → Option ℕ → ℕ → Subject → ℕ → List ℕ → List ℕ → List ℕ
-updated lists segment place Nothing number cells = λ records. records
-updated lists segment place (Of item level) number cells = stored (slotAt lists (slotIn item segment place level)) number (recordOf item level cells)
+abbrev pub updated : Lists → Option ℕ → ℕ → Subject → Form → ℕ → List ℕ → List ℕ → List ℕ
+updated lists segment place Nothing form number cells = λ records. records
+updated lists segment place (Of item level) form number cells = stored (slotAt lists (slotIn item segment place level)) number (recordOf item form cells)
 
 -- 01 "Sequence and gaps": message i acts: a heartbeat changes nothing
 abbrev pub whatActs : Lists → ℕ → Box → ℕ → What → List ℕ → Acted
@@ -77,7 +78,7 @@ whatActs lists letter box i Heartbeat cells =
     })
 whatActs lists letter box i (PassedOver number) cells = numberActs box i number (λ records. records)
 whatActs lists letter box i (Update number form place) cells =
-    numberActs box i number (updated lists (segmentOf (lists .contracts) letter) place (subjectOf form) number cells)
+    numberActs box i number (updated lists (segmentOf (lists .contracts) letter) place (subjectOf form) form number cells)
 
 -- 01 "The message": what acts is what the bytes are read as
 unfoldable pub messageActs : Lists → ℕ → Box → ℕ → List ℕ → Acted

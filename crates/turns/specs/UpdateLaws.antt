@@ -1,23 +1,22 @@
 -- Laws of an update in a batch: its contract is listed, so that its record is there, and where it is taken its store is kept.
 use Prim.Native.Nat.{ℕ, suc, _+_, _*_, _≤_, _<_}
-use mathlib.Core.Path.{_≡_, ap, sym, _∙_}
+use mathlib.Core.Path.{_≡_, ap, sym, subst, _∙_}
 use mathlib.Core.List.{List}
 use mathlib.Core.Option.{Option, some}
-use native.Mathlib.Nat.{min-le-left}
 use native.Mathlib.Omega.{arith}
-use lib.ListN.{length, take, drop, length-take, length-drop}
+use lib.ListN.{length, take}
 use lib.Seq.{sets}
 use Rattle.files.specs.File.{countAt}
 use Rattle.lookup.specs.Lookup.{segmentOf}
 use Rattle.lookup.specs.LookupLaws.{segment-has, key-at-place}
 use Rattle.pairs.specs.Lists.{Lists, Headers}
 use Rattle.forms.specs.declared.rows.Level.{Level}
-use Rattle.forms.specs.declared.rows.Level.the-variants.{One, Two}
 use Rattle.forms.specs.declared.forms.Form.{Form}
+use Rattle.forms.specs.declared.forms.Form.the-variants.{Heartbeat, LevelOne, LevelTwo, PairOne, PairTwo, FutureOne, FutureTwo, PreOpenOne, PreOpenTwo}
+use Rattle.forms.specs.declared.forms.Subject.{Subject}
+use Rattle.forms.specs.declared.forms.Subject.the-variants.{Nothing, Of}
 use Rattle.forms.specs.declared.forms.Item.{Item}
-use Rattle.forms.specs.declared.forms.Item.the-variants.{Contract, Pair}
-use Rattle.forms.specs.Forms.{namedRows, rowsOf, recordForm, subjectOf, keyRowsOf}
-use Rattle.forms.specs.FormsLaws.{record-form}
+use Rattle.forms.specs.Forms.{namedRows, rowsOf, subjectOf}
 use Rattle.forms.specs.Rows.{messageLength}
 use Rattle.forms.specs.Sizes.{mostRows}
 use Rattle.message.specs.declared.body.What.the-variants as what
@@ -34,23 +33,27 @@ use Rattle.turns.specs.Acts.{InFront, changedBy}
 use Rattle.turns.specs.Turns.{updated}
 use Rattle.slots.specs.Slots.{Slot, slot, SlotListed, recordsWanted}
 use Rattle.slots.specs.declared.records.Fronts.{Fronts}
-use Rattle.slots.specs.Places.{slotAt, slotIn, recordOf, recordRows, recordAt, frontIn}
-use Rattle.slots.specs.SlotsLaws.{slot-inside, cells-by-rows, record-long, rows-kept, rows-few}
+use Rattle.slots.specs.Places.{slotAt, slotIn, recordOf, recordAt, frontIn}
+use Rattle.slots.specs.SlotsLaws.{slot-inside, record-long, record-most, record-by-rows, rows-behind, level-most}
 use Rattle.stores.specs.Stores.{storeCells, leastUpdate, Near, KeptFor, Keeps}
 use Rattle.stores.specs.StoresLaws.{one-kept}
 
-least-long : (item : Item) (level : Level) → leastUpdate ≤ messageLength (rowsOf (recordForm item level))
-unfolding rowsOf namedRows
-least-long Contract One = omega arith
-least-long Contract Two = omega arith
-least-long Pair One = omega arith
-least-long Pair Two = omega arith
+-- an update is as long as the shortest, or longer
+abbrev Least : Subject → Form → Type 0
+Least Nothing form = Unit {0}
+Least (Of item level) form = leastUpdate ≤ messageLength (rowsOf form)
 
--- whatever the cells, a record has no more than its rows
-record-most : (item : Item) (level : Level) (cells : List ℕ) → length (recordOf item level cells) ≤ recordRows item level
-record-most item level cells =
-    let rows : ℕ = length (rowsOf (recordForm item level)) in
-    omega (arith, length-drop (keyRowsOf item) (take rows cells), length-take rows cells, min-le-left rows (length cells), rows-kept item level)
+least-long : (form : Form) → Least (subjectOf form) form
+unfolding rowsOf namedRows
+least-long Heartbeat = tt
+least-long LevelOne = omega arith
+least-long LevelTwo = omega arith
+least-long PairOne = omega arith
+least-long PairTwo = omega arith
+least-long FutureOne = omega arith
+least-long FutureTwo = omega arith
+least-long PreOpenOne = omega arith
+least-long PreOpenTwo = omega arith
 
 -- ---- what an update tells of is listed
 
@@ -84,10 +87,10 @@ module _ (lists : Lists) (headers : Headers lists) (letter : ℕ) (bytes : List 
   slot-listed = (segment-has (lists .contracts) letter (found .0) (found .1) .0, place-under)
 
   -- so its record, number and rows, lies in the cells wanted
-  pub record-wanted : (cells : List ℕ) → slotAt lists slotHere + suc (length (recordOf item-of level cells)) ≤ recordsWanted lists
+  pub record-wanted : (cells : List ℕ) → slotAt lists slotHere + suc (length (recordOf item-of form cells)) ≤ recordsWanted lists
   record-wanted cells =
       rw slot-is
-      (omega (arith, slot-inside lists headers (slot item-of (found .0) place level) slot-listed, record-most item-of level cells, cells-by-rows item-of level))
+      (omega (arith, slot-inside lists headers (slot item-of (found .0) place level) slot-listed, record-most form item-of level (tells-of .1) cells))
 
 -- ---- its store is kept
 
@@ -102,8 +105,8 @@ module _ (lists : Lists) (headers : Headers lists) (letter : ℕ) (fronts : Fron
   abbrev own : Level
   own = level lists headers letter bytes what-is
 
-  own-form : form ≡ recordForm item own
-  own-form = record-form form item own (tells-of lists headers letter bytes what-is .1)
+  subject-is : subjectOf form ≡ Of item own
+  subject-is = tells-of lists headers letter bytes what-is .1
 
   slot-there : recordAt item (frontIn fronts item) place own ≡ slotAt lists (slotIn item (segmentOf (lists .contracts) letter) place own)
   slot-there =
@@ -121,26 +124,25 @@ module _ (lists : Lists) (headers : Headers lists) (letter : ℕ) (fronts : Fron
       omega (arith, place-under lists headers letter bytes what-is, habit-few item (header-of lists headers item .few-keys i (rw (segments-of lists headers item) inside)))
 
   least : leastUpdate ≤ message .length
-  least = rw (ap (λ (m : Message). m .length) is ∙ length-is lists letter bytes ∙ told lists headers letter bytes what-is .length-is, own-form) (least-long item own)
+  least = rw (ap (λ (m : Message). m .length) is ∙ length-is lists letter bytes ∙ told lists headers letter bytes what-is .length-is) (subst (λ (subject : Subject). Least subject form) subject-is (least-long form))
 
   -- of the lent cells in which its rows are stored its record is kept
-  record-there : (cells cells′ : List ℕ) → cells′ ≡ sets cells 0 (cellsRead lists letter bytes) → length cells′ ≡ mostRows → recordOf item own cells′ ≡ recordOf item own (message .cells)
+  record-there : (cells cells′ : List ℕ) → cells′ ≡ sets cells 0 (cellsRead lists letter bytes) → length cells′ ≡ mostRows → recordOf item form cells′ ≡ recordOf item form (message .cells)
   unfolding cellsRead
   record-there cells cells′ there wide =
       let good = ap verdictOf what-is in
       let rows : cells′ ≡ sets cells 0 (rowsRead bytes .cells) = there ∙ ap (λ h. sets cells 0 (cellsBy h bytes)) (head-good lists letter bytes good) in
       let same = cells-stored lists letter bytes good cells cells′ rows wide number form place what-is in
-      ap (drop (keyRowsOf item)) ((rw own-form at same) ∙ ap (λ (m : Message). take (length (rowsOf (recordForm item own))) (m .cells)) (sym is))
+      record-by-rows form item (rows-behind form item own subject-is) cells′ (message .cells) (same ∙ ap (λ (m : Message). take (length (rowsOf form)) (m .cells)) (sym is))
 
   -- where it is taken
   pub update-kept : (a : Act) → a ≡ Taken → (stores : List ℕ) (kept : ℕ) → storeCells * kept ≤ length stores
       → (cells cells′ : List ℕ) → cells′ ≡ sets cells 0 (cellsRead lists letter bytes) → length cells′ ≡ mostRows
-      → (kept′ : ℕ) (stores′ : List ℕ) → KeptFor (subjectOf form) stores kept fronts place number cells′ kept′ stores′
-      → Keeps (recordsWanted lists) (message .length) stores kept (changedBy a (updated lists (segmentOf (lists .contracts) letter) place (subjectOf form) number (message .cells))) kept′ stores′
+      → (kept′ : ℕ) (stores′ : List ℕ) → KeptFor (subjectOf form) form stores kept fronts place number cells′ kept′ stores′
+      → Keeps (recordsWanted lists) (message .length) stores kept (changedBy a (updated lists (segmentOf (lists .contracts) letter) place (subjectOf form) form number (message .cells))) kept′ stores′
   update-kept a taken stores kept within cells cells′ there wide kept′ stores′ k =
-      let long = record-long item own cells′ wide in
-      let subject = tells-of lists headers letter bytes what-is .1 in
+      let long = record-long form item own subject-is cells′ wide in
       let wanted = record-wanted lists headers letter bytes what-is cells′ in
-      rw (taken, subject, ← slot-there, ← record-there cells cells′ there wide)
-      (one-kept (recordsWanted lists) (message .length) stores kept within (recordAt item (frontIn fronts item) place own) number (recordOf item own cells′)
-      (omega (arith, long, rows-few item own)) least (omega (arith, wanted, slot-there)) kept′ stores′ (rw subject at k))
+      rw (taken, subject-is, ← slot-there, ← record-there cells cells′ there wide)
+      (one-kept (recordsWanted lists) (message .length) stores kept within (recordAt item (frontIn fronts item) place own) number (recordOf item form cells′)
+      (omega (arith, long, level-most item own)) least (omega (arith, wanted, slot-there)) kept′ stores′ (rw subject-is at k))

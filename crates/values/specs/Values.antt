@@ -1,5 +1,5 @@
--- The values of an update, as hosts and the test bench are told them: its number, then one value a row behind the key. What a
--- value is follows from the quote's fields (`quote` Quote: `fieldValue`, `spread` Spread: `spreadFieldValue`, by `layout` Plain), and
+-- The values of an update, as hosts and the test bench are told them: its number, a contract's session, then one value a row behind
+-- the key. What a value is follows from the quote's fields (`quote` Quote: `fieldValue`, `spread` Spread: `spreadFieldValue`, by `layout` Plain), and
 -- not from how a cell of lent memory holds them.
 use Prim.Native.Nat.{ℕ, _+_, _-_}
 use mathlib.Core.Bool.{true, false}
@@ -9,10 +9,11 @@ use lib.ListN.{getD, drop}
 use Rattle.forms.specs.declared.forms.Item.{Item}
 use Rattle.forms.specs.declared.forms.Item.the-variants.{Contract, Pair}
 use Rattle.forms.specs.declared.rows.Level.{Level}
-use Rattle.forms.specs.Names.{Name, NamedRow, marketType, buyPrice, buyQuantity, sellPrice, sellQuantity, lastPrice, tradedQuantity, status, openingPrice, highPrice, lowPrice, closePrice, averagePrice, allBuyers, allSellers, turnover as turnoverName}
+use Rattle.forms.specs.Names.{Name, NamedRow, marketType, timeStamp, buyPrice, buyQuantity, sellPrice, sellQuantity, lastPrice, tradedQuantity, status, openingPrice, highPrice, lowPrice, closePrice, averagePrice, allBuyers, allSellers, turnover as turnoverName}
 use Rattle.forms.specs.Forms.{namedRows, keyRowsOf, recordForm}
 use Rattle.forms.specs.Sizes.{mostRows, keyRowCount}
 use Rattle.layout.specs.Plain.{noValue, heldOf, letterOf}
+use Rattle.slots.specs.Slots.{cellsInFront}
 use Rattle.quote.specs.declared.quote.Order.{Order}
 use Rattle.quote.specs.declared.quote.Quote.{Quote}
 use Rattle.quote.specs.Quote.{priceOf, quantityOf, turnoverOf, orderLevels, rowNamed, fieldValue}
@@ -22,13 +23,13 @@ use Rattle.spread.specs.Spread.{differenceOf, spreadFieldValue}
 
 -- ---- the values of a quote
 
--- the host's header: the values of the rows stand behind the number
-abbrev pub first : ℕ
-first = 1
+-- the host's header: the values of the rows stand behind the number; M-104: of a contract behind number and session, as in its record
+abbrev pub first : Item → ℕ
+first item = cellsInFront item
 
--- the host's header: the number, and the values of the level that has the most
+-- the host's header: number, session, and the values of the level that has the most
 abbrev pub most : ℕ
-most = first + mostRows - keyRowCount
+most = first Contract + mostRows - keyRowCount
 
 -- the host's header: the rows behind the key, in the order in which they are laid out
 unfoldable pub valueRows : Item → Level → List NamedRow
@@ -58,6 +59,7 @@ abbrev pub quoteFrom : (Name → ℕ) → Quote
 quoteFrom value =
     record {
       «market_type» = letterOf (value marketType);
+      «time_stamp» = quantityOf (heldOf false (value timeStamp));
       buy = map (λ k. orderFrom (value (buyPrice k)) (value (buyQuantity k))) orderLevels;
       sell = map (λ k. orderFrom (value (sellPrice k)) (value (sellQuantity k))) orderLevels;
       last = priceOf (heldOf false (value lastPrice));
@@ -92,9 +94,9 @@ spreadFrom value =
       sellers = quantityOf (heldOf false (value allSellers));
     }
 
--- the host's header: the value of the row with a name, behind the number, which the writer doesn't look at
+-- the host's header: the value of the row with a name, behind number and session, which the writer doesn't look at
 abbrev pub valueNamed : Item → Level → List ℕ → Name → ℕ
-valueNamed item level values name = valueAt (rowNamed (valueRows item level) name) (drop first values)
+valueNamed item level values name = valueAt (rowNamed (valueRows item level) name) (drop (first item) values)
 
 -- the host's header: the quote that values hold, each by its row's name
 unfoldable pub quoteIn : Level → List ℕ → Quote

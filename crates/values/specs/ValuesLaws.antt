@@ -11,7 +11,7 @@ use Rattle.forms.specs.declared.forms.Item.{Item}
 use Rattle.forms.specs.declared.forms.Item.the-variants.{Contract, Pair}
 use Rattle.forms.specs.declared.rows.Level.{Level}
 use Rattle.forms.specs.declared.rows.Level.the-variants.{One, Two}
-use Rattle.forms.specs.Names.{Name, NamedRow, marketType, buyPrice, buyQuantity, sellPrice, sellQuantity, lastPrice, tradedQuantity, status, openingPrice, highPrice, lowPrice, closePrice, averagePrice, allBuyers, allSellers, turnover as turnoverName}
+use Rattle.forms.specs.Names.{Name, NamedRow, marketType, timeStamp, buyPrice, buyQuantity, sellPrice, sellQuantity, lastPrice, tradedQuantity, status, openingPrice, highPrice, lowPrice, closePrice, averagePrice, allBuyers, allSellers, turnover as turnoverName}
 use Rattle.forms.specs.SameName.{sameName}
 use Rattle.forms.specs.Forms.{keyRows, pairKeyRows, namedRows, rowsOf, keyRowsOf, recordForm}
 use Rattle.forms.specs.FormsLaws.{fits}
@@ -109,6 +109,7 @@ module _ (rows : List NamedRow) (values rest : List ℕ) (long : length rows ≤
       λ i.
       record {
         «market_type» = letterOf (contract marketType refl i);
+        «time_stamp» = quantityOf (heldOf false (contract timeStamp refl i));
         buy = side keyRows rows values rest long orderIn buyPrice buyQuantity (λ k. refl) (λ k. refl) i;
         sell = side keyRows rows values rest long orderIn sellPrice sellQuantity (λ k. refl) (λ k. refl) i;
         last = priceOf (heldOf false (contract lastPrice refl i));
@@ -174,21 +175,26 @@ key-front Pair = refl
 pub rows-room : (item : Item) (level : Level) → keyRowsOf item + recordRows item level ≤ mostRows
 rows-room item level = omega (arith, rows-kept item level, fits (recordForm item level) .rows-fit)
 
+-- and so have their values behind what stands before them
+pub values-room : (item : Item) (level : Level) → first item + recordRows item level ≤ most
+values-room Contract level = omega (arith, rows-few Contract level)
+values-room Pair level = omega (arith, rows-few Pair level)
+
 module _ (item : Item) (level : Level) (values : List ℕ) (long : length values ≡ most) where
   abbrev behind : List ℕ
-  behind = drop first values
+  behind = drop (first item) values
 
   abbrev rest : List ℕ
   rest = drop (keyRowsOf item + length (take (recordRows item level) behind)) zeros
 
   enough : length (valueRows item level) ≤ length behind
-  enough = rw (← rows-counted item level) (simp length-drop (omega (arith, rows-few item level)))
+  enough = rw (← rows-counted item level) (simp length-drop (omega (arith, values-room item level)))
 
   -- the values of the rows, put behind the key's cells
   cells-held : sets zeros (keyRowsOf item) (take (recordRows item level) behind) ≡ heldCells (keysOf item) (valueRows item level) behind rest
   cells-held =
       let put : List ℕ = take (recordRows item level) behind in
-      let long-put : length put ≡ recordRows item level = length-take-le (recordRows item level) behind (simp length-drop (omega (arith, rows-few item level))) in
+      let long-put : length put ≡ recordRows item level = length-take-le (recordRows item level) behind (simp length-drop (omega (arith, values-room item level))) in
       sets-eq put zeros (keyRowsOf item) (omega (arith, rows-room item level))
       ∙ append-assoc (take (keyRowsOf item) zeros) put rest
       ∙ ap (λ (front : List ℕ). front ++ (put ++ rest)) (key-front item)
@@ -196,27 +202,27 @@ module _ (item : Item) (level : Level) (values : List ℕ) (long : length values
 
 -- hold the quote that the values do
 pub quote-held : (level : Level) (values : List ℕ) → length values ≡ most
-    → quoteOf (recordForm Contract level) (sets (replicate mostRows 0) (keyRowsOf Contract) (take (recordRows Contract level) (drop first values))) ≡ quoteIn level values
+    → quoteOf (recordForm Contract level) (sets (replicate mostRows 0) (keyRowsOf Contract) (take (recordRows Contract level) (drop (first Contract) values))) ≡ quoteIn level values
 unfolding quoteIn quoteOf
 quote-held level values long =
     ap (quoteOf (recordForm Contract level)) (cells-held Contract level values long)
-    ∙ ap (λ (rows : List NamedRow). quoteBy rows (heldCells keyRows (valueRows Contract level) (drop first values) (rest Contract level values long))) (rows-behind Contract level)
-    ∙ quote-named (valueRows Contract level) (drop first values) (rest Contract level values long) (enough Contract level values long)
+    ∙ ap (λ (rows : List NamedRow). quoteBy rows (heldCells keyRows (valueRows Contract level) (drop (first Contract) values) (rest Contract level values long))) (rows-behind Contract level)
+    ∙ quote-named (valueRows Contract level) (drop (first Contract) values) (rest Contract level values long) (enough Contract level values long)
 
 pub spread-held : (level : Level) (values : List ℕ) → length values ≡ most
-    → spreadQuoteOf (recordForm Pair level) (sets (replicate mostRows 0) (keyRowsOf Pair) (take (recordRows Pair level) (drop first values))) ≡ spreadIn level values
+    → spreadQuoteOf (recordForm Pair level) (sets (replicate mostRows 0) (keyRowsOf Pair) (take (recordRows Pair level) (drop (first Pair) values))) ≡ spreadIn level values
 unfolding spreadIn spreadQuoteOf
 spread-held level values long =
     ap (spreadQuoteOf (recordForm Pair level)) (cells-held Pair level values long)
-    ∙ ap (λ (rows : List NamedRow). spreadQuoteBy rows (heldCells pairKeyRows (valueRows Pair level) (drop first values) (rest Pair level values long))) (rows-behind Pair level)
-    ∙ spread-named (valueRows Pair level) (drop first values) (rest Pair level values long) (enough Pair level values long)
+    ∙ ap (λ (rows : List NamedRow). spreadQuoteBy rows (heldCells pairKeyRows (valueRows Pair level) (drop (first Pair) values) (rest Pair level values long))) (rows-behind Pair level)
+    ∙ spread-named (valueRows Pair level) (drop (first Pair) values) (rest Pair level values long) (enough Pair level values long)
 
 -- the values that were read are those to write: they hold the quote that its own values hold
-pub values-back : (number : ℕ) (level : Level) (quote : Quote) (behind : List ℕ)
-    → quoteIn level (number ∷ rowValues level quote ++ behind) ≡ quoteOf (recordForm Contract level) (valuesOf (recordForm Contract level) quote)
+pub values-back : (number session : ℕ) (level : Level) (quote : Quote) (behind : List ℕ)
+    → quoteIn level (number ∷ session ∷ rowValues level quote ++ behind) ≡ quoteOf (recordForm Contract level) (valuesOf (recordForm Contract level) quote)
 unfolding quoteIn rowValues valueRows namedRows quoteOf valuesOf
-values-back number One quote behind = refl
-values-back number Two quote behind = refl
+values-back number session One quote behind = refl
+values-back number session Two quote behind = refl
 
 pub spread-values-back : (number : ℕ) (level : Level) (quote : SpreadQuote) (behind : List ℕ)
     → spreadIn level (number ∷ spreadValues level quote ++ behind) ≡ spreadQuoteOf (recordForm Pair level) (spreadValuesOf (recordForm Pair level) quote)

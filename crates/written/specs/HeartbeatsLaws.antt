@@ -1,4 +1,4 @@
--- A written heartbeat is accepted where its letter is listed, and changes nothing.
+-- A written heartbeat is accepted where its segment is listed, and changes nothing.
 use Prim.Native.Nat.{ℕ, _^_, _<_}
 use mathlib.Core.Path.{_≡_, refl, ap, _∙_}
 use mathlib.Core.List.{List, [], _∷_}
@@ -13,6 +13,7 @@ use Rattle.forms.specs.declared.forms.Named.the-variants as is
 use Rattle.forms.specs.declared.forms.Sum.the-variants.{Zero}
 use Rattle.forms.specs.Forms.{meaningOf, sumRule, writtenForm}
 use Rattle.forms.specs.FormsLaws.{nothing-rows, nothing-zero, written-told}
+use Rattle.head.specs.Fields.{segmentLetter}
 use Rattle.head.specs.GoodHead.{LetterListed}
 use Rattle.head.specs.HeadLaws.{listed-exact, number-exact}
 use Rattle.state.specs.declared.answers.Judged.{Judged}
@@ -34,10 +35,11 @@ use Rattle.written.specs.ReadBack.{batchOf}
 use Rattle.written.specs.ReadBackStepsLaws.{letter-is, batch-acts, batch-keys}
 use Rattle.written.specs.WrittenUpdateLaws.{number-fits, message-there, heartbeat-is, heartbeat-keys}
 
--- 01 "The message": DH and TH
-pub heartbeats-chosen : (level : Level) → WritesHeartbeat (record { 0 = 68; 1 = 72 }) level × WritesHeartbeat (record { 0 = 84; 1 = 72 }) level
+-- 01 "The message": DH and TH; M-104: FH
+pub heartbeats-chosen : (level : Level)
+    → WritesHeartbeat (record { 0 = 68; 1 = 72 }) level × WritesHeartbeat (record { 0 = 84; 1 = 72 }) level × WritesHeartbeat (record { 0 = 70; 1 = 72 }) level
 unfolding writtenForm meaningOf
-heartbeats-chosen level = ((Heartbeat, refl, refl), (Heartbeat, refl, refl))
+heartbeats-chosen level = ((Heartbeat, refl, refl), (Heartbeat, refl, refl), (Heartbeat, refl, refl))
 
 module _ (code : Code) (level : Level) (number : ℕ) (key : List ℕ) (values : Form → List ℕ) (out out′ : List ℕ) (n : ℕ)
     (beat : WritesHeartbeat code level) (wrote : WroteValues Contract code level number key values out (Written.Message n) out′)
@@ -59,16 +61,19 @@ module _ (code : Code) (level : Level) (number : ℕ) (key : List ℕ) (values :
     abbrev batch : List ℕ
     batch = batchOf (take n out′)
 
-    module _ (lent : Lent) (state : GoodState lent) (listed : LetterListed (lent .lists .contracts) (code .0)) where
+    abbrev letter : ℕ
+    letter = segmentLetter (code .0)
+
+    module _ (lent : Lent) (state : GoodState lent) (listed : LetterListed (lent .lists .contracts) letter) where
       abbrev after : Box
-      after = record { row = boxOf lent (code .0) .row; records = lent .records; taken = 0; old = 0; heartbeats = 1 }
+      after = record { row = boxOf lent letter .row; records = lent .records; taken = 0; old = 0; heartbeats = 1 }
 
       does : batchActs lent batch ≡ acted after
       unfolding messageActs
       does =
           let few : number < 2 ^ 32 = omega (arith, heartbeat-zero) in
           batch-acts Contract code level number key values out out′ n form (beat .1) wrote lent state after
-          (rw (heartbeat-is Contract code level number key values out out′ n form (beat .1) wrote few (lent .lists) (listed-exact (lent .lists .contracts) (code .0) .1 listed) (beat .2)))
+          (rw (heartbeat-is Contract code level number key values out out′ n form (beat .1) wrote few (lent .lists) (listed-exact (lent .lists .contracts) letter .1 listed) (beat .2)))
 
       none-compared : batchCompared (lent .lists) batch (acted after) ≡ 0
       none-compared =
@@ -85,6 +90,6 @@ module _ (code : Code) (level : Level) (number : ℕ) (key : List ℕ) (values :
         all-kept = λ answer lent′ p.
             p .left
             ∙ ap (lentAfter lent (batchLetter batch)) does
-            ∙ ap (λ (letter : ℕ). lentAfter lent letter (acted after)) (letter-is Contract code level number key values out out′ n form (beat .1) wrote)
-            ∙ ap (λ (rows : List ℕ). lends (lent .lists) rows (lent .records)) (rows-back (lent .rows) (segmentOf (lent .lists .contracts) (code .0)));
+            ∙ ap (λ (l : ℕ). lentAfter lent l (acted after)) (letter-is Contract code level number key values out out′ n form (beat .1) wrote)
+            ∙ ap (λ (rows : List ℕ). lends (lent .lists) rows (lent .records)) (rows-back (lent .rows) (segmentOf (lent .lists .contracts) letter));
       }

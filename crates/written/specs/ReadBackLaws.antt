@@ -1,14 +1,15 @@
--- What is written reads back: judged, taken and read from its record, by the promises of the public calls alone.
-use Prim.Native.Nat.{ℕ, _+_, _^_, _≤_, _<_}
-use mathlib.Core.Path.{_≡_, ap, sym, _∙_}
-use mathlib.Core.Bool.{true, false}
+-- What is written reads back: judged, taken and read from its record, by the promises of the public calls alone; and what is written with
+-- another market type than N is passed over.
+use Prim.Native.Nat.{ℕ, _+_, _-_, _^_, _≤_, _<_}
+use mathlib.Core.Path.{_≡_, refl, ap, sym, _∙_}
+use mathlib.Core.Bool.{Bool, true, false}
 use mathlib.Core.Logic.{⊎-elim}
 use mathlib.Core.List.{List}
 use mathlib.Core.Option.{Option, none, some}
 use native.Mathlib.Omega.{arith}
-use borrow.Author.Tests.{ne-eqb}
+use borrow.Author.Tests.{eqb-true, eq-eqb, ne-eqb}
 use lib.Dec.{eqb}
-use lib.ListN.{length, take}
+use lib.ListN.{length, getD, take, drop}
 use Rattle.laws.specs.Rules.{firstBroken}
 use Rattle.laws.specs.Choice.{either}
 use Rattle.lookup.specs.Lookup.{segmentOf}
@@ -19,57 +20,58 @@ use Rattle.layout.specs.declared.read.Verdict.the-variants as verdict
 use Rattle.forms.specs.declared.rows.Level.{Level}
 use Rattle.layout.specs.Cells.{zerosBehind}
 use Rattle.layout.specs.Plain.{seenValues}
-use Rattle.quote.specs.Quote.{ofPair, valuesOf, quoteOf, seenQuote}
-use Rattle.spread.specs.Spread.{spreadValuesOf, spreadQuoteOf, seenSpread}
-use Rattle.quote.specs.QuoteTrip.{readAgain, written-back}
-use Rattle.spread.specs.SpreadTrip.{spread-written-back}
 use Rattle.layout.specs.Read.{Outcome}
+use Rattle.quote.specs.Quote.{ofPair, quoteOf, valuesOf, seenQuote}
+use Rattle.spread.specs.Spread.{spreadQuoteOf, spreadValuesOf, seenSpread}
+use Rattle.quote.specs.QuoteTrip.{read-kept, written-back}
+use Rattle.spread.specs.SpreadTrip.{spread-read-kept, spread-written-back}
 use Rattle.compose.specs.RoundTrip.{rows-back}
+use Rattle.compose.specs.Write.{writeRows}
 use Rattle.forms.specs.declared.forms.Form.{Form}
 use Rattle.forms.specs.declared.forms.Item.{Item}
 use Rattle.forms.specs.declared.forms.Item.the-variants.{Contract, Pair}
 use Rattle.forms.specs.declared.forms.Subject.the-variants.{Of}
 use Rattle.forms.specs.declared.forms.Named.the-variants as is
-use Rattle.forms.specs.declared.forms.Chosen.the-variants as chosen
-use Rattle.forms.specs.Forms.{rowsOf, recordForm, keyBytesOf}
-use Rattle.forms.specs.FormsLaws.{about-subject}
-use Rattle.compose.specs.Write.{Laid, writeRows}
-use Rattle.sequence.specs.Gaps.{Gaps, takes}
-use Rattle.sequence.specs.Changes.{full, after}
-use Rattle.sequence.specs.Row.{gapsOf}
-use Rattle.sequence.specs.RowLaid.{laid}
-use Rattle.head.specs.HeadLaws.{number-exact}
-use Rattle.message.specs.Compared.{comparedThere}
-use Rattle.message.specs.Message.{placeIn, keyPlace}
+use Rattle.forms.specs.Forms.{rowsOf, subjectOf, recordForm, sessionOf, isStamped, keyBytesOf}
+use Rattle.forms.specs.Sizes.{mostRows, keyRowCount}
+use Rattle.sequence.specs.Gaps.{takes}
+use Rattle.sequence.specs.Changes.{full}
+use Rattle.head.specs.Fields.{segmentLetter}
+use Rattle.head.specs.GoodHead.{LetterListed}
+use Rattle.head.specs.HeadLaws.{listed-exact, number-exact, stamped-by}
+use Rattle.message.specs.Compared.{comparedThere, messageCompared}
+use Rattle.message.specs.Message.{placeIn, keyPlace, updates}
 use Rattle.message.specs.MessageLaws.{key-found}
 use Rattle.state.specs.declared.answers.Judged.{Judged}
 use Rattle.state.specs.declared.answers.Judged.the-variants.{Accepted}
 use Rattle.state.specs.declared.answers.Recorded.{Recorded}
 use Rattle.state.specs.declared.answers.Written.{Written}
 use Rattle.writer.specs.declared.writing.Code.{Code}
-use Rattle.state.specs.Answers.{judgedNumbers}
-use Rattle.turns.specs.Turns.{Box, acted, messageActs, numberActs}
-use Rattle.batch.specs.Batch.{batchLetter}
-use Rattle.batch.specs.Acts.{batchActs, batchCompared, batchNumbers, boxOf, lentAfter}
+use Rattle.turns.specs.Turns.{messageActs, numberActs}
+use Rattle.batch.specs.Acts.{boxOf}
 use Rattle.stores.specs.Stored.{stored}
 use Rattle.state.specs.Memory.{Lent}
-use Rattle.slots.specs.Places.{slotAt, slotIn, recordOf, recordRows}
-use Rattle.state.specs.AnswersLaws.{recorded-told, judged-told}
-use Rattle.reading.specs.Reads.{ReadsFor}
+use Rattle.slots.specs.Slots.{levelCells}
+use Rattle.slots.specs.Places.{slotAt, slotIn, recordOf}
+use Rattle.slots.specs.SlotsLaws.{cells-by-rows}
+use Rattle.state.specs.AnswersLaws.{recorded-told}
 use Rattle.listing.specs.ListRules.{gapsOfLetter}
 use Rattle.reading.specs.ReadRules.{recordRules}
 use Rattle.state.specs.GoodState.{GoodState}
 use Rattle.state.specs.StateLaws.{good-unrefused, segment-holds}
-use Rattle.batch.specs.Promises.{JudgedBatch, TookBatch}
-use Rattle.reading.specs.Record.{slotThere, recordOfKey, recordNumber, cellsAt, blank, blankSpread}
+use Rattle.batch.specs.Promises.{TookBatch}
+use Rattle.reading.specs.Record.{slotThere, recordOfKey, recordNumber, recordSession, stampShown, cellsAt}
 use Rattle.reading.specs.RecordLaws.{key-holds, record-found, record-lent}
+use Rattle.reading.specs.Shown.{QuoteFor, shown, cellsFor, stampIn, ReadsItem}
+use Rattle.reading.specs.KeptLaws.{cells-wide, session-kept, shown-kept}
 use Rattle.state.specs.State.{segmentRules}
 use Rattle.batch.specs.TookLaws.{state-good}
-use Rattle.writer.specs.Chosen.{formWritten}
 use Rattle.writer.specs.WriterPromises.{WroteValues, WroteMessage, WroteSpread}
-use Rattle.written.specs.ReadBack.{batchOf, countedAs, ReadsBack}
-use Rattle.written.specs.ReadBackStepsLaws.{batch-acts, batch-keys, number-stored, cells-stored}
-use Rattle.written.specs.WrittenUpdateLaws.{written, rows-good, number-fits, keys-are, message-is}
+use Rattle.written.specs.ReadBack.{batchOf, WritesUpdate, InNormalMarket, seenFor, countedAs, Counts, ReadsAs, ReadsBack, PassesOver}
+use Rattle.written.specs.ReadBackStepsLaws.{counted, left-taken, left-old, number-stored, cells-stored, length-stored}
+use Rattle.written.specs.WrittenFieldsLaws.{segment-written}
+use Rattle.written.specs.WrittenRowsLaws.{market-row}
+use Rattle.written.specs.WrittenUpdateLaws.{written, rows-good, number-fits, form-is, market-there, keys-are, no-keys, passed-is, message-is}
 
 -- the record of a listed contract or pair may be asked for, and lies in the records lent
 module _ (item : Item) (lent : Lent) (state : GoodState lent) (letter : ℕ) (key : List ℕ) (place : ℕ) (listed : keyPlace item (lent .lists) letter key ≡ some place) where
@@ -82,193 +84,218 @@ module _ (item : Item) (lent : Lent) (state : GoodState lent) (letter : ℕ) (ke
   record-allowed : firstBroken (recordRules item lent letter key) ≡ none
   record-allowed = key-holds item lent letter key asked (found .0) (found .1) place (found .2)
 
-  record-room : (level : Level) → recordOfKey item (lent .lists) letter key level + recordRows item level < length (lent .records)
+  record-room : (level : Level) → recordOfKey item (lent .lists) letter key level + levelCells item level ≤ length (lent .records)
   record-room level =
       rw (← record-found item lent letter key asked (found .0) (found .1) place (found .2) level)
-      (record-lent item lent letter key asked (found .0) (found .1) place (found .2) level)
+      (omega (arith, record-lent item lent letter key asked (found .0) (found .1) place (found .2) level, cells-by-rows item level))
 
--- an update that was written, and the batch that holds just it
-module _ (item : Item) (code : Code) (level : Level) (number : ℕ) (key : List ℕ) (values : Form → List ℕ) (out out′ : List ℕ) (n : ℕ)
-    (update : formWritten item code level ≡ chosen.Form (recordForm item level)) (few : number < 2 ^ 32) (key-long : length key ≡ keyBytesOf item)
-    (wrote : WroteValues item code level number key values out (Written.Message n) out′)
+-- ---- the cells that are read again
+
+-- what is read again of a quote that was written, by how a quote and its cells belong together
+same-again : {A : Type 0} (show : List ℕ → A) (cellsOf : A → List ℕ) {read cells : List ℕ} {seen : A} → read ≡ cells → show read ≡ seen → cellsOf (show read) ≡ read
+    → (cells ≡ cellsOf seen) × (show cells ≡ seen)
+same-again show cellsOf same shows kept = (sym same ∙ sym kept ∙ ap cellsOf shows, ap show (sym same) ∙ shows)
+
+-- they hold what the form sees of the quote
+quote-again : (item : Item) (level : Level) (form : Form) → subjectOf form ≡ Of item level → (quote : QuoteFor item) (key : List ℕ)
+    → writeRows 0 (rowsOf form) key (cellsFor item form quote) .verdict ≡ verdict.Good
+    → (zerosBehind (seenValues (rowsOf form) (cellsFor item form quote)) ≡ cellsFor item form (seenFor item form quote))
+    × (shown item form (zerosBehind (seenValues (rowsOf form) (cellsFor item form quote))) ≡ seenFor item form quote)
+quote-again Contract level form tells quote key good =
+    let back = written-back form (ap ofPair tells) quote key good in
+    same-again (quoteOf form) (valuesOf form) (ap (λ (o : Outcome). zerosBehind (o .cells)) (rows-back 0 (rowsOf form) key (valuesOf form quote) good)) (back .1)
+    (read-kept form (writeRows 0 (rowsOf form) key (valuesOf form quote) .bytes) (back .0) (ap ofPair tells))
+quote-again Pair level form tells quote key good =
+    let back = spread-written-back form (ap ofPair tells) quote key good in
+    same-again (spreadQuoteOf form) (spreadValuesOf form) (ap (λ (o : Outcome). zerosBehind (o .cells)) (rows-back 0 (rowsOf form) key (spreadValuesOf form quote) good)) (back .1)
+    (spread-read-kept form (writeRows 0 (rowsOf form) key (spreadValuesOf form quote) .bytes) (back .0) (ap ofPair tells))
+
+-- in the normal market an update acts on its record
+pub market-updates : (item : Item) (level : Level) (form : Form) → subjectOf form ≡ Of item level → (quote : QuoteFor item) → InNormalMarket item quote
+    → updates item (getD (cellsFor item form quote) keyRowCount 0) ≡ true
+market-updates Contract level form tells quote normal = eq-eqb _ 78 (market-row form level tells .1 quote ∙ normal)
+market-updates Pair level form tells quote normal = refl
+
+-- ---- an update that was written, and the batch that holds just it
+
+module _ (item : Item) (code : Code) (level : Level) (number : ℕ) (key : List ℕ) (quote : QuoteFor item) (out out′ : List ℕ) (n : ℕ) (form : Form)
+    (update : WritesUpdate item code level form) (few : number < 2 ^ 32) (key-long : length key ≡ keyBytesOf item)
+    (wrote : WroteValues item code level number key (λ form. cellsFor item form quote) out (Written.Message n) out′)
   where
     abbrev letter : ℕ
-    letter = code .0
+    letter = segmentLetter (code .0)
 
-    abbrev form : Form
-    form = recordForm item level
+    abbrev values : Form → List ℕ
+    values form = cellsFor item form quote
 
-    abbrev pub batch : List ℕ
+    abbrev batch : List ℕ
     batch = batchOf (take n out′)
 
-    abbrev rows-laid : Laid
-    rows-laid = writeRows 0 (rowsOf form) key (values form)
-
-    good : rows-laid .verdict ≡ verdict.Good
-    good = rows-good item code level number key values out out′ n form update wrote
+    abbrev message : List ℕ
+    message = written item code level number key values out out′ n form (update .0) wrote
 
     pub numbered : 1 ≤ number
-    numbered = rw (about-subject (Of item level)) at (number-exact (is.Form form) number .0 (number-fits item code level number key values out out′ n form update wrote))
+    numbered = rw (update .1) at (number-exact (is.Form form) number .0 (number-fits item code level number key values out out′ n form (update .0) wrote))
 
-    abbrev message : List ℕ
-    message = written item code level number key values out out′ n form update wrote
+    -- the cells of its rows
+    abbrev cells : List ℕ
+    cells = zerosBehind (seenValues (rowsOf form) (values form))
 
-    -- against a list that has its contract, and a good state that has room for its number
-    module _ (lent : Lent) (state : GoodState lent) (place : ℕ) (listed : keyPlace item (lent .lists) letter key ≡ some place) where
-      abbrev gaps : Gaps
-      gaps = gapsOfLetter lent letter
+    again : (cells ≡ cellsFor item form (seenFor item form quote)) × (shown item form cells ≡ seenFor item form quote)
+    again = quote-again item level form (update .1) quote key (rows-good item code level number key values out out′ n form (update .0) wrote)
+
+    wide : length cells ≡ mostRows
+    wide = ap length (again .0) ∙ cells-wide item form (seenFor item form quote)
+
+    -- its time stamp is shown where it has one
+    stamp-is : stampShown item letter ≡ stampIn item form
+    stamp-is = by item (update .1)
+      where
+        by : (item′ : Item) → subjectOf form ≡ Of item′ level → stampShown item′ letter ≡ stampIn item′ form
+        by Contract tells =
+            ap (λ (l : ℕ). eqb l 0x46) (sym (segment-written code number _))
+            ∙ sym (stamped-by message form level (form-is item code level number key values out out′ n form (update .0) wrote) tells)
+        by Pair tells = refl
+
+    -- against a good state that has room for its number
+    module _ (lent : Lent) (state : GoodState lent) (room : takes (gapsOfLetter lent letter) number ≡ true → full (gapsOfLetter lent letter) number ≡ false) where
+      abbrev keys : ℕ
+      keys = comparedThere item (lent .lists) key (segmentOf (lent .lists .contracts) letter)
 
       abbrev at : ℕ
       at = recordOfKey item (lent .lists) letter key level
 
-      abbrev seen : List ℕ
-      seen = seenValues (rowsOf form) (values form)
+      -- in the normal market, where its contract or pair is listed
+      module _ (normal : InNormalMarket item quote) (place : ℕ) (listed : keyPlace item (lent .lists) letter key ≡ some place) where
+        acting : updates item (getD (values form) keyRowCount 0) ≡ true
+        acting = market-updates item level form (update .1) quote normal
 
-      abbrev changed : List ℕ → List ℕ
-      changed = stored (slotAt (lent .lists) (slotIn item (segmentOf (lent .lists .contracts) letter) place level)) number (recordOf item level (zerosBehind seen))
+        abbrev changed : List ℕ → List ℕ
+        changed = stored (slotAt (lent .lists) (slotIn item (segmentOf (lent .lists .contracts) letter) place level)) number (recordOf item form cells)
 
-      abbrev box : Box
-      box = boxOf lent letter
+        acts : messageActs (lent .lists) letter (boxOf lent letter) 0 message ≡ numberActs (boxOf lent letter) 0 number changed
+        unfolding messageActs
+        acts = rw (message-is item code level number key values out out′ n form (update .0) wrote (level, update .1) key-long few (lent .lists) acting place listed, update .1)
 
-      acts : messageActs (lent .lists) letter box 0 message ≡ numberActs box 0 number changed
-      unfolding messageActs
-      acts = rw (message-is item code level number key values out out′ n form update wrote (level, about-subject (Of item level)) key-long few (lent .lists) place listed, about-subject (Of item level))
+        keys-there : messageCompared (lent .lists) letter message ≡ keys
+        keys-there = keys-are item code level number key values out out′ n form (update .0) wrote (level, update .1) key-long acting (lent .lists)
 
-      module _ (room : takes gaps number ≡ true → full gaps number ≡ false) where
-        -- what the message leaves
-        abbrev after-taken : Box
-        after-taken = record { row = laid (box .row) (after (gapsOf (box .row)) number); records = changed (lent .records); taken = 1; old = 0; heartbeats = 0 }
-
-        abbrev after-old : Box
-        after-old = record { row = box .row; records = lent .records; taken = 0; old = 1; heartbeats = 0 }
-
-        number-taken : takes gaps number ≡ true → numberActs box 0 number changed ≡ acted after-taken
-        unfolding gapsOfLetter
-        number-taken t = rw (t, room t)
-
-        number-old : takes gaps number ≡ false → numberActs box 0 number changed ≡ acted after-old
-        unfolding gapsOfLetter
-        number-old t = rw t
-
-        batch-does : (box′ : Box) → numberActs box 0 number changed ≡ acted box′ → batchActs lent batch ≡ acted box′
-        batch-does box′ e = batch-acts item code level number key values out out′ n form update wrote lent state box′ (acts ∙ e)
-
-        -- the keys compared with its own
-        abbrev keys : ℕ
-        keys = comparedThere item (lent .lists) key (segmentOf (lent .lists .contracts) letter)
-
-        keys-are-those : (box′ : Box) → batchCompared (lent .lists) batch (acted box′) ≡ keys
-        keys-are-those box′ =
-            batch-keys item code level number key values out out′ n form update wrote (lent .lists) box′
-            ∙ keys-are item code level number key values out out′ n form update wrote (level, about-subject (Of item level)) key-long (lent .lists)
-
-        abbrev expected : Judged
-        expected = countedAs (takes gaps number) keys
-
-        numbers-are : batchNumbers lent batch ≡ judgedNumbers expected
-        numbers-are =
-            ⊎-elim (λ (t : takes gaps number ≡ true). rw (batch-does after-taken (number-taken t), t, keys-are-those after-taken))
-            (λ (t : takes gaps number ≡ false). rw (batch-does after-old (number-old t), t, keys-are-those after-old))
-            (either (takes gaps number))
-
-        -- judged, the batch is accepted
-        judged-back : (answer : Judged) → JudgedBatch lent batch answer → answer ≡ expected
-        judged-back answer p = judged-told answer expected (p .answers ∙ numbers-are)
-
-        -- taken, the batch is accepted
-        taken-back : (answer : Judged) (lent′ : Lent) → TookBatch lent batch answer lent′ → answer ≡ expected
-        taken-back answer lent′ p = judged-told answer expected (p .answers ∙ numbers-are)
+        counts : Counts letter number keys lent batch
+        counts = counted item code level number key values out out′ n form (update .0) wrote lent state room changed acts keys keys-there
 
         -- and where its number is taken and newer than the record, the record then reads as what was written
-        module _ (taken : takes gaps number ≡ true) (newer : recordNumber (lent .records) at < number)
+        module _ (taken : takes (gapsOfLetter lent letter) number ≡ true) (newer : recordNumber (lent .records) at < number)
             (answer : Judged) (lent′ : Lent) (took : TookBatch lent batch answer lent′)
           where
             state-then : GoodState lent′
             state-then =
-                let is : answer ≡ Accepted 1 0 0 keys = taken-back answer lent′ took ∙ rw taken in
+                let is : answer ≡ Accepted 1 0 0 keys = counts .taken answer lent′ took ∙ ap (λ (t : Bool). countedAs t keys) taken in
                 state-good lent batch 1 0 0 keys lent′ (rw is at took)
+
+            left : (lent′ .lists ≡ lent .lists) × (lent′ .records ≡ changed (lent .records))
+            left = left-taken item code level number key values out out′ n form (update .0) wrote lent state room changed acts keys keys-there answer lent′ took taken
+
+            at-then : recordOfKey item (lent′ .lists) letter key level ≡ at
+            at-then = ap (λ (l : Lists). recordOfKey item l letter key level) (left .0)
+
+            no-rule-broken : firstBroken (recordRules item lent′ letter key) ≡ none
+            no-rule-broken = record-allowed item lent′ state-then letter key place (ap (λ (l : Lists). keyPlace item l letter key) (left .0) ∙ listed)
 
             place-is : slotAt (lent .lists) (slotIn item (segmentOf (lent .lists .contracts) letter) place level) ≡ at
             unfolding recordOfKey
             place-is = sym (ap (λ (o : Option ℕ). slotAt (lent .lists) (slotThere item (lent .lists) letter level o)) listed)
 
-            left-then : lent′ ≡ lentAfter lent (batchLetter batch) (acted after-taken)
-            left-then = took .left ∙ ap (lentAfter lent (batchLetter batch)) (batch-does after-taken (number-taken taken))
+            abbrev then : List ℕ
+            then = stored at number (recordOf item form cells) (lent .records)
 
-            lists-then : lent′ .lists ≡ lent .lists
-            lists-then = ap (λ (l : Lent). l .lists) left-then
+            records-then : lent′ .records ≡ then
+            records-then = left .1 ∙ ap (λ (k : ℕ). stored k number (recordOf item form cells) (lent .records)) place-is
 
-            at-then : recordOfKey item (lent′ .lists) letter key level ≡ at
-            at-then = ap (λ (l : Lists). recordOfKey item l letter key level) lists-then
-
-            records-then : lent′ .records ≡ stored at number (recordOf item level (zerosBehind seen)) (lent .records)
-            records-then =
-                ap (λ (l : Lent). l .records) left-then ∙ ap (λ (k : ℕ). stored k number (recordOf item level (zerosBehind seen)) (lent .records)) place-is
-
-            no-rule-broken : firstBroken (recordRules item lent′ letter key) ≡ none
-            no-rule-broken = record-allowed item lent′ state-then letter key place (ap (λ (l : Lists). keyPlace item l letter key) lists-then ∙ listed)
-
-            inside : at + recordRows item level < length (lent .records)
+            inside : at + levelCells item level ≤ length (lent .records)
             inside = record-room item lent state letter key place listed level
 
             number-then : recordNumber (lent′ .records) at ≡ number
-            number-then = ap (λ (r : List ℕ). recordNumber r at) records-then ∙ number-stored item level (values form) (lent .records) at number inside newer
+            number-then = ap (λ (r : List ℕ). recordNumber r at) records-then ∙ number-stored item level form (update .1) (lent .records) at number cells wide inside newer
 
-            cells-then : cellsAt item (lent′ .records) at level ≡ zerosBehind seen
-            cells-then = ap (λ (r : List ℕ). cellsAt item r at level) records-then ∙ cells-stored item level (values form) (lent .records) at number inside newer
+            cells-there : take (levelCells item level - 1) (drop (at + 1) then) ≡ recordOf item form cells
+            cells-there = cells-stored item level form (update .1) (lent .records) at number cells wide inside newer
+
+            session-then : recordSession item (lent′ .records) at ≡ sessionOf form
+            session-then = ap (λ (r : List ℕ). recordSession item r at) records-then ∙ session-kept item level form (update .1) then at cells cells-there
+
+            long-then : at + levelCells item level ≤ length then
+            long-then = omega (arith, inside, length-stored item level form (update .1) (lent .records) at number cells wide inside newer)
+
+            shown-then : shown item (recordForm item level) (cellsAt item (stampShown item letter) (lent′ .records) at level) ≡ seenFor item form quote
+            shown-then =
+                ap (λ (r : List ℕ). shown item (recordForm item level) (cellsAt item (stampShown item letter) r at level)) records-then
+                ∙ shown-kept item level form (update .1) then at cells cells-there long-then (seenFor item form quote) (again .0) (stampShown item letter) stamp-is
+                ∙ again .1
 
             some-number : eqb number 0 ≡ false
             some-number = ne-eqb number 0 (λ e. omega (arith, numbered))
 
-            module _ {A : Type 0} (show : Form → List ℕ → A) (blank : A) (recorded : Recorded) (read : A) (reads : ReadsFor show blank item lent′ letter key level recorded read) where
-              number-back : recorded ≡ Recorded.Record number
-              number-back = recorded-told recorded (Recorded.Record number) (reads .answers ∙ rw (no-rule-broken, at-then, number-then, some-number))
+            reads-as : (recorded : Recorded) (read : QuoteFor item) → ReadsItem item lent′ letter key level recorded read → ReadsAs number (sessionOf form) (seenFor item form quote) recorded read
+            reads-as recorded read reads =
+                record {
+                  number-back = recorded-told recorded (Recorded.Record number (sessionOf form)) (reads .answers ∙ rw (no-rule-broken, at-then, number-then, session-then, some-number));
+                  quote-back = reads .quotes ∙ rw (no-rule-broken, at-then, number-then, some-number) shown-then;
+                }
 
-              quote-back : read ≡ show form (zerosBehind seen)
-              quote-back = reads .quotes ∙ rw (no-rule-broken, at-then, number-then, some-number, cells-then)
+        -- all of it
+        pub reads-back : ReadsBack item letter key level number (sessionOf form) (seenFor item form quote) lent batch
+        reads-back = record { counts = counts; back = reads-as }
 
-        -- all of it, for whoever reads the record: what the rows read again is shown
-        pub reads-back : {A : Type 0} (show : Form → List ℕ → A) (blank quote : A)
-            → (rows-laid .verdict ≡ verdict.Good → show form (zerosBehind (readAgain form key (values form) .cells)) ≡ quote)
-            → ReadsBack (λ (lent′ : Lent) (recorded : Recorded) (read : A). ReadsFor show blank item lent′ letter key level recorded read) lent batch gaps (recordNumber (lent .records) at) number keys quote
-        reads-back show blank quote shows =
-            let seen-is = ap (λ (o : Outcome). show form (zerosBehind (o .cells))) (sym (rows-back 0 (rowsOf form) key (values form) good)) in
+      -- in another market, where its segment is listed
+      module _ (other : updates item (getD (values form) keyRowCount 0) ≡ false) (listed : LetterListed (lent .lists .contracts) letter) where
+        passes : messageActs (lent .lists) letter (boxOf lent letter) 0 message ≡ numberActs (boxOf lent letter) 0 number (λ records. records)
+        unfolding messageActs
+        passes =
+            rw (passed-is item code level number key values out out′ n form (update .0) wrote (level, update .1) key-long few (lent .lists) other (listed-exact (lent .lists .contracts) letter .1 listed))
+
+        none-there : messageCompared (lent .lists) letter message ≡ 0
+        none-there = no-keys item code level number key values out out′ n form (update .0) wrote (level, update .1) key-long other (lent .lists)
+
+        pub passes-over : PassesOver letter number lent batch
+        passes-over =
             record {
-              judged = judged-back;
-              taken = taken-back;
-              back = λ taken newer answer lent′ took recorded read reads. record {
-                number-back = number-back taken newer answer lent′ took show blank recorded read reads;
-                quote-back = quote-back taken newer answer lent′ took show blank recorded read reads ∙ seen-is ∙ shows good;
-              };
+              counts = counted item code level number key values out out′ n form (update .0) wrote lent state room (λ records. records) passes 0 none-there;
+              records-kept = λ answer lent′ took.
+                  ⊎-elim (λ (t : takes (gapsOfLetter lent letter) number ≡ true).
+                  left-taken item code level number key values out out′ n form (update .0) wrote lent state room (λ records. records) passes 0 none-there answer lent′ took t .1)
+                  (left-old item code level number key values out out′ n form (update .0) wrote lent state room (λ records. records) passes 0 none-there answer lent′ took)
+                  (either (takes (gapsOfLetter lent letter) number));
             }
 
 -- ---- a contract's quote, and a pair's
 
-module _ (code : Code) (level : Level) (number : ℕ) (key out out′ : List ℕ) (n : ℕ) (few : number < 2 ^ 32) (lent : Lent) (state : GoodState lent)
-    (room : takes (gapsOfLetter lent (code .0)) number ≡ true → full (gapsOfLetter lent (code .0)) number ≡ false) (place : ℕ)
+module _ (code : Code) (level : Level) (number : ℕ) (key out out′ : List ℕ) (n : ℕ) (form : Form) (few : number < 2 ^ 32) (lent : Lent) (state : GoodState lent)
+    (room : takes (gapsOfLetter lent (segmentLetter (code .0))) number ≡ true → full (gapsOfLetter lent (segmentLetter (code .0))) number ≡ false)
   where
-    -- the number of the record before
-    abbrev lastOf : Item → ℕ
-    lastOf item = recordNumber (lent .records) (recordOfKey item (lent .lists) (code .0) key level)
-
-    -- and the keys compared with this one
-    abbrev keysOf : Item → ℕ
-    keysOf item = comparedThere item (lent .lists) key (segmentOf (lent .lists .contracts) (code .0))
-
-    -- a contract's quote, row for row; level 1 has the first order a side, and the others read as none
+    -- a contract's quote in the normal market, row for row; level 1 has the first order a side, and the others read as none
     pub contract-back : (quote : Quote) → WroteMessage code level number key quote out (Written.Message n) out′ → length key ≡ keyBytesOf Contract
-        → formWritten Contract code level ≡ chosen.Form (recordForm Contract level) → keyPlace Contract (lent .lists) (code .0) key ≡ some place
-        → ReadsBack (λ (lent′ : Lent) (recorded : Recorded) (read : Quote). ReadsFor quoteOf blank Contract lent′ (code .0) key level recorded read)
-        lent (batchOf (take n out′)) (gapsOfLetter lent (code .0)) (lastOf Contract) number (keysOf Contract) (seenQuote (recordForm Contract level) quote)
-    contract-back quote wrote key-long update listed =
-        reads-back Contract code level number key (λ form. valuesOf form quote) out out′ n update few key-long wrote lent state place listed room quoteOf blank _
-        (λ fine. written-back (recordForm Contract level) (ap ofPair (about-subject (Of Contract level))) quote key fine .1)
+        → WritesUpdate Contract code level form → quote .«market_type» ≡ 78 → (place : ℕ) → keyPlace Contract (lent .lists) (segmentLetter (code .0)) key ≡ some place
+        → ReadsBack Contract (segmentLetter (code .0)) key level number (sessionOf form) (seenQuote form quote) lent (batchOf (take n out′))
+    contract-back quote wrote key-long update normal place listed =
+        reads-back Contract code level number key quote out out′ n form update few key-long wrote lent state room normal place listed
 
     -- and a pair's, with every minus but that of zero
     pub pair-back : (quote : SpreadQuote) → WroteSpread code level number key quote out (Written.Message n) out′ → length key ≡ keyBytesOf Pair
-        → formWritten Pair code level ≡ chosen.Form (recordForm Pair level) → keyPlace Pair (lent .lists) (code .0) key ≡ some place
-        → ReadsBack (λ (lent′ : Lent) (recorded : Recorded) (read : SpreadQuote). ReadsFor spreadQuoteOf blankSpread Pair lent′ (code .0) key level recorded read)
-        lent (batchOf (take n out′)) (gapsOfLetter lent (code .0)) (lastOf Pair) number (keysOf Pair) (seenSpread (recordForm Pair level) quote)
-    pair-back quote wrote key-long update listed =
-        reads-back Pair code level number key (λ form. spreadValuesOf form quote) out out′ n update few key-long wrote lent state place listed room spreadQuoteOf blankSpread _
-        (λ fine. spread-written-back (recordForm Pair level) (ap ofPair (about-subject (Of Pair level))) quote key fine .1)
+        → WritesUpdate Pair code level form → (place : ℕ) → keyPlace Pair (lent .lists) (segmentLetter (code .0)) key ≡ some place
+        → ReadsBack Pair (segmentLetter (code .0)) key level number (sessionOf form) (seenSpread form quote) lent (batchOf (take n out′))
+    pair-back quote wrote key-long update place listed =
+        reads-back Pair code level number key quote out out′ n form update few key-long wrote lent state room tt place listed
+
+    -- M-104: a contract's quote in another market, whose key need not be listed
+    pub contract-passed : (quote : Quote) → WroteMessage code level number key quote out (Written.Message n) out′ → length key ≡ keyBytesOf Contract
+        → WritesUpdate Contract code level form → (quote .«market_type» ≡ 78 → ⊥) → LetterListed (lent .lists .contracts) (segmentLetter (code .0))
+        → PassesOver (segmentLetter (code .0)) number lent (batchOf (take n out′))
+    contract-passed quote wrote key-long update other listed =
+        passes-over Contract code level number key quote out out′ n form update few key-long wrote lent state room (rw (market-row form level (update .1) .1 quote) (ne-eqb (quote .«market_type») 78 other)) listed
+
+-- M-104: "D and T keep N alone": what has no time stamp is written in the normal market only
+pub normal-alone : (code : Code) (level : Level) (number : ℕ) (key : List ℕ) (quote : Quote) (out out′ : List ℕ) (n : ℕ) (form : Form)
+    → WritesUpdate Contract code level form → WroteMessage code level number key quote out (Written.Message n) out′ → isStamped form ≡ false → quote .«market_type» ≡ 78
+normal-alone code level number key quote out out′ n form update wrote plain =
+    let taken = market-there Contract code level number key (λ form. valuesOf form quote) out out′ n form (update .0) wrote level (update .1) .0 in
+    sym (market-row form level (update .1) .1 quote) ∙ eqb-true _ 78 (rw plain at taken)

@@ -1,46 +1,56 @@
 -- What a batch that holds just a written message does, and what stands in an update's record then.
-use Prim.Native.Nat.{ℕ, suc, _+_, _≤_, _<_}
+use Prim.Native.Nat.{ℕ, suc, _+_, _-_, _≤_, _<_}
 use mathlib.Core.Path.{_≡_, refl, ap, sym, _∙_}
+use mathlib.Core.Bool.{Bool, true, false}
+use mathlib.Core.Logic.{⊎-elim}
 use mathlib.Core.List.{List, [], _∷_, _++_, append-assoc}
 use native.Mathlib.Nat.{mod-eq-of-lt}
 use native.Mathlib.Omega.{arith}
 use borrow.Author.Tests.{lt-ltb}
-use lib.ListN.{length, getD, take, drop, replicate, length-append, length-drop}
-use lib.Seq.{sets-eq, getD-at, take-at, drop-at, length-take-le, append-snoc}
+use lib.ListN.{length, getD, take, drop, length-append, length-drop}
+use lib.Seq.{sets-eq, length-sets, getD-at, take-at, drop-at, length-take-le, append-snoc}
+use Rattle.laws.specs.Choice.{either}
 use Rattle.wire.specs.NumberLaws.{read-back}
 use Rattle.forms.specs.declared.rows.Level.{Level}
-use Rattle.forms.specs.declared.rows.Level.the-variants.{One, Two}
-use Rattle.layout.specs.Cells.{zerosBehind}
-use Rattle.layout.specs.Plain.{seenValues}
-use Rattle.forms.specs.declared.rows.Row.{Row}
 use Rattle.forms.specs.declared.forms.Form.{Form}
 use Rattle.forms.specs.declared.forms.Item.{Item}
-use Rattle.forms.specs.declared.forms.Item.the-variants.{Contract, Pair}
 use Rattle.forms.specs.declared.forms.Chosen.the-variants as chosen
-use Rattle.forms.specs.Forms.{namedRows, rowsOf, recordForm, keyRowsOf}
-use Rattle.head.specs.Fields.{letterOf, lengthOf}
+use Rattle.forms.specs.declared.forms.Subject.the-variants.{Of}
+use Rattle.forms.specs.Forms.{subjectOf}
+use Rattle.forms.specs.Sizes.{mostRows}
+use Rattle.head.specs.Fields.{segmentLetter, segmentLetterOf, lengthOf}
+use Rattle.sequence.specs.Gaps.{takes}
+use Rattle.sequence.specs.Changes.{full, after}
+use Rattle.sequence.specs.Row.{gapsOf}
+use Rattle.sequence.specs.RowLaid.{laid}
+use Rattle.state.specs.declared.answers.Judged.{Judged}
 use Rattle.state.specs.declared.answers.Written.{Written}
+use Rattle.state.specs.Answers.{judgedNumbers}
+use Rattle.state.specs.AnswersLaws.{judged-told}
 use Rattle.state.specs.GoodState.{GoodState}
 use Rattle.state.specs.Memory.{Lent}
 use Rattle.state.specs.StateLaws.{state-exact}
 use Rattle.turns.specs.MessagesLaws.{messages-next, messages-end}
 use Rattle.pairs.specs.Lists.{Lists}
 use Rattle.message.specs.Compared.{messageCompared}
-use Rattle.turns.specs.Turns.{Box, acted, messageActs}
+use Rattle.turns.specs.Turns.{Box, acted, messageActs, numberActs}
 use Rattle.batch.specs.Batch.{flagOf, sizeOf, countOf, batchData, batchLetter}
-use Rattle.batch.specs.Acts.{boxOf, batchActs, batchCompared}
+use Rattle.batch.specs.Acts.{boxOf, batchActs, batchCompared, batchNumbers, lentAfter}
 use Rattle.batch.specs.BatchLaws.{messages-decide}
 use Rattle.batch.specs.GoodLaws.{front-exact}
+use Rattle.batch.specs.Promises.{TookBatch}
+use Rattle.listing.specs.ListRules.{gapsOfLetter}
 use Rattle.stores.specs.Stored.{stored}
-use Rattle.slots.specs.Places.{recordOf, recordRows}
-use Rattle.slots.specs.SlotsLaws.{rows-kept}
+use Rattle.slots.specs.Slots.{levelCells}
+use Rattle.slots.specs.Places.{recordOf}
+use Rattle.slots.specs.SlotsLaws.{record-long}
 use Rattle.batch.specs.Good.{GoodFront}
-use Rattle.reading.specs.Record.{recordNumber, cellsAt}
+use Rattle.reading.specs.Record.{recordNumber}
 use Rattle.writer.specs.declared.writing.Code.{Code}
 use Rattle.writer.specs.Chosen.{formWritten}
 use Rattle.writer.specs.WriterPromises.{WroteValues}
-use Rattle.written.specs.ReadBack.{batchOf}
-use Rattle.written.specs.WrittenFieldsLaws.{letter-written}
+use Rattle.written.specs.ReadBack.{batchOf, countedAs, Counts}
+use Rattle.written.specs.WrittenFieldsLaws.{segment-written}
 use Rattle.written.specs.WrittenUpdateLaws.{written, message-there, all-of-it, written-short}
 
 -- ---- the batch
@@ -71,81 +81,123 @@ module _ (item : Item) (code : Code) (level : Level) (number : ℕ) (key : List 
     abbrev alone : List ℕ
     alone = written item code level number key values out out′ n form chose wrote
 
+    abbrev letter : ℕ
+    letter = segmentLetter (code .0)
+
+    abbrev batch : List ℕ
+    batch = batchOf (take n out′)
+
     alone-short : length alone ≤ 32767
     alone-short = omega (arith, written-short item code level number key values out out′ n form chose wrote)
 
-    alone-letter : letterOf alone ≡ code .0
-    alone-letter = letter-written code number _
+    alone-letter : segmentLetterOf alone ≡ letter
+    alone-letter = segment-written code number _
 
-    pub batch-is : batchOf (take n out′) ≡ batchOf alone
+    pub batch-is : batch ≡ batchOf alone
     batch-is = ap batchOf (message-there item code level number key values out out′ n form chose wrote)
 
-    pub letter-is : batchLetter (batchOf (take n out′)) ≡ code .0
-    letter-is = ap batchLetter batch-is ∙ ap letterOf (data-is alone alone-short) ∙ alone-letter
+    pub letter-is : batchLetter batch ≡ letter
+    letter-is = ap batchLetter batch-is ∙ ap segmentLetterOf (data-is alone alone-short) ∙ alone-letter
 
-    pub batch-acts : (lent : Lent) → GoodState lent → (box′ : Box) → messageActs (lent .lists) (code .0) (boxOf lent (code .0)) 0 alone ≡ acted box′
-        → batchActs lent (batchOf (take n out′)) ≡ acted box′
+    pub batch-acts : (lent : Lent) → GoodState lent → (box′ : Box) → messageActs (lent .lists) letter (boxOf lent letter) 0 alone ≡ acted box′
+        → batchActs lent batch ≡ acted box′
     batch-acts lent state box′ acts =
         let none-left : length (drop (lengthOf alone) alone) ≡ 0 = omega (arith, length-drop (lengthOf alone) alone, all-of-it item code level number key values out out′ n form chose wrote) in
         ap (batchActs lent) batch-is
         ∙ messages-decide lent (batchOf alone) (state-exact lent .1 state) (front-exact (batchOf alone) .1 (batch-front alone alone-short))
         ∙ rw (count-one alone alone-short, data-is alone alone-short, alone-letter)
-        (messages-next (lent .lists) (code .0) 0 0 (boxOf lent (code .0)) alone box′ acts ∙ messages-end (lent .lists) (code .0) 1 box′ (drop (lengthOf alone) alone) none-left)
+        (messages-next (lent .lists) letter 0 0 (boxOf lent letter) alone box′ acts ∙ messages-end (lent .lists) letter 1 box′ (drop (lengthOf alone) alone) none-left)
 
     -- and its message's lookup is the batch's
-    pub batch-keys : (lists : Lists) (box′ : Box) → batchCompared lists (batchOf (take n out′)) (acted box′) ≡ messageCompared lists (code .0) alone
+    pub batch-keys : (lists : Lists) (box′ : Box) → batchCompared lists batch (acted box′) ≡ messageCompared lists letter alone
     batch-keys lists box′ =
         ap (λ (b : List ℕ). batchCompared lists b (acted box′)) batch-is ∙ rw (count-one alone alone-short, data-is alone alone-short, alone-letter) (omega arith)
 
+    -- one with a number for which there is room, by what it changes of the records, and by the keys compared
+    module _ (lent : Lent) (state : GoodState lent) (room : takes (gapsOfLetter lent letter) number ≡ true → full (gapsOfLetter lent letter) number ≡ false)
+        (changed : List ℕ → List ℕ) (acts : messageActs (lent .lists) letter (boxOf lent letter) 0 alone ≡ numberActs (boxOf lent letter) 0 number changed)
+        (keys : ℕ) (keys-are : messageCompared (lent .lists) letter alone ≡ keys)
+      where
+        abbrev box : Box
+        box = boxOf lent letter
+
+        abbrev new : Bool
+        new = takes (gapsOfLetter lent letter) number
+
+        abbrev after-taken : Box
+        after-taken = record { row = laid (box .row) (after (gapsOf (box .row)) number); records = changed (lent .records); taken = 1; old = 0; heartbeats = 0 }
+
+        abbrev after-old : Box
+        after-old = record { row = box .row; records = lent .records; taken = 0; old = 1; heartbeats = 0 }
+
+        does-taken : new ≡ true → batchActs lent batch ≡ acted after-taken
+        unfolding gapsOfLetter
+        does-taken t = batch-acts lent state after-taken (acts ∙ rw (t, room t))
+
+        does-old : new ≡ false → batchActs lent batch ≡ acted after-old
+        unfolding gapsOfLetter
+        does-old t = batch-acts lent state after-old (acts ∙ rw t)
+
+        keys-are-those : (box′ : Box) → batchCompared (lent .lists) batch (acted box′) ≡ keys
+        keys-are-those box′ = batch-keys (lent .lists) box′ ∙ keys-are
+
+        answer-is : (answer : Judged) → judgedNumbers answer ≡ batchNumbers lent batch → answer ≡ countedAs new keys
+        answer-is answer e =
+            judged-told answer (countedAs new keys)
+            (e ∙ ⊎-elim (λ (t : new ≡ true). rw (does-taken t, t, keys-are-those after-taken))
+            (λ (t : new ≡ false). rw (does-old t, t, keys-are-those after-old))
+            (either new))
+
+        -- it is accepted, and its number counted
+        pub counted : Counts letter number keys lent batch
+        counted = record { judged = λ answer p. answer-is answer (p .answers); taken = λ answer lent′ p. answer-is answer (p .answers) }
+
+        module _ (answer : Judged) (lent′ : Lent) (took : TookBatch lent batch answer lent′) where
+          left-by : {box′ : Box} → batchActs lent batch ≡ acted box′ → lent′ ≡ lentAfter lent (batchLetter batch) (acted box′)
+          left-by does = took .left ∙ ap (lentAfter lent (batchLetter batch)) does
+
+          -- what is left of the lists and the records where its number is taken, and where it is old
+          pub left-taken : new ≡ true → (lent′ .lists ≡ lent .lists) × (lent′ .records ≡ changed (lent .records))
+          left-taken t = let l = left-by (does-taken t) in (ap (λ (m : Lent). m .lists) l, ap (λ (m : Lent). m .records) l)
+
+          pub left-old : new ≡ false → lent′ .records ≡ lent .records
+          left-old t = ap (λ (m : Lent). m .records) (left-by (does-old t))
+
 -- ---- the record
 
-abbrev rowsKept : Item → Level → List Row
-rowsKept item level = rowsOf (recordForm item level)
+-- an update that is stored over an older one
+module _ (item : Item) (level : Level) (form : Form) (tells : subjectOf form ≡ Of item level) (records : List ℕ) (at number : ℕ) (cells : List ℕ)
+    (wide : length cells ≡ mostRows) (room : at + levelCells item level ≤ length records) (newer : recordNumber records at < number)
+  where
+    abbrev kept : List ℕ
+    kept = recordOf item form cells
 
--- an update's cells behind those of its key
-seen-long : (rows : List Row) (values : List ℕ) → length (seenValues rows values) ≡ length rows
-seen-long [] values = refl
-seen-long (row ∷ rows) values = ap suc (seen-long rows (drop 1 values))
+    abbrev then : List ℕ
+    then = stored at number kept records
 
-key-zeros : (item : Item) (level : Level) (values : List ℕ) → replicate (keyRowsOf item) 0 ++ drop (keyRowsOf item) (seenValues (rowsKept item level) values) ≡ seenValues (rowsKept item level) values
-unfolding rowsOf namedRows
-key-zeros Contract One values = refl
-key-zeros Contract Two values = refl
-key-zeros Pair One values = refl
-key-zeros Pair Two values = refl
+    long : suc (length kept) ≡ levelCells item level
+    long = record-long form item level tells cells wide
 
-kept-is : (item : Item) (level : Level) (values : List ℕ) → recordOf item level (zerosBehind (seenValues (rowsKept item level) values)) ≡ drop (keyRowsOf item) (seenValues (rowsKept item level) values)
-kept-is item level values = ap (drop (keyRowsOf item)) (take-at (seenValues (rowsKept item level) values) _ (length (rowsKept item level)) (seen-long (rowsKept item level) values))
+    is : then ≡ take at records ++ (number ∷ (kept ++ drop (at + suc (length kept)) records))
+    is =
+        rw (lt-ltb (getD records at 0) number newer)
+        (sets-eq (number ∷ kept) records at (omega (arith, long)) ∙ append-assoc (take at records) (number ∷ kept) (drop (at + suc (length kept)) records))
 
-module _ (item : Item) (level : Level) (values records : List ℕ) (at number : ℕ) (lent : at + recordRows item level < length records) (newer : getD records at 0 < number) where
-  abbrev kept : List ℕ
-  kept = recordOf item level (zerosBehind (seenValues (rowsKept item level) values))
+    front : length (take at records) ≡ at
+    front = length-take-le at records (omega arith)
 
-  long : length kept ≡ recordRows item level
-  long =
-      ap length (kept-is item level values) ∙ length-drop (keyRowsOf item) (seenValues (rowsKept item level) values)
-      ∙ omega (arith, seen-long (rowsKept item level) values, rows-kept item level)
+    -- its number is the update's
+    pub number-stored : recordNumber then at ≡ number
+    number-stored = ap (λ (r : List ℕ). getD r at 0) is ∙ getD-at (take at records) number _ 0 at front
 
-  is : stored at number kept records ≡ take at records ++ (number ∷ (kept ++ drop (at + suc (length kept)) records))
-  is =
-      rw (lt-ltb (getD records at 0) number newer)
-      (sets-eq (number ∷ kept) records at (omega (arith, long)) ∙ append-assoc (take at records) (number ∷ kept) (drop (at + suc (length kept)) records))
+    -- and so are its other cells
+    pub cells-stored : take (levelCells item level - 1) (drop (at + 1) then) ≡ kept
+    cells-stored =
+        let more : length (take at records ++ (number ∷ [])) ≡ at + 1 = length-append (take at records) (number ∷ []) ∙ ap (λ (n : ℕ). n + 1) front in
+        let rest : List ℕ = kept ++ drop (at + suc (length kept)) records in
+        ap (λ (l : List ℕ). take (levelCells item level - 1) (drop (at + 1) l)) (is ∙ sym (append-snoc (take at records) number rest))
+        ∙ ap (take (levelCells item level - 1)) (drop-at (take at records ++ (number ∷ [])) rest (at + 1) more)
+        ∙ take-at kept _ (levelCells item level - 1) (omega (arith, long))
 
-  front : length (take at records) ≡ at
-  front = length-take-le at records (omega arith)
-
-  -- its number is the update's
-  pub number-stored : recordNumber (stored at number kept records) at ≡ number
-  number-stored = ap (λ (r : List ℕ). getD r at 0) is ∙ getD-at (take at records) number _ 0 at front
-
-  -- and its cells are the update's
-  pub cells-stored : cellsAt item (stored at number kept records) at level ≡ zerosBehind (seenValues (rowsKept item level) values)
-  unfolding cellsAt
-  cells-stored =
-      let more : length (take at records ++ (number ∷ [])) ≡ at + 1 = length-append (take at records) (number ∷ []) ∙ ap (λ (n : ℕ). n + 1) front in
-      let rest : List ℕ = kept ++ drop (at + suc (length kept)) records in
-      let behind : drop (at + 1) (stored at number kept records) ≡ rest =
-      ap (drop (at + 1)) (is ∙ sym (append-snoc (take at records) number rest)) ∙ drop-at (take at records ++ (number ∷ [])) rest (at + 1) more in
-      ap (λ (r : List ℕ). zerosBehind (replicate (keyRowsOf item) 0 ++ take (recordRows item level) r)) behind
-      ∙ ap (λ (r : List ℕ). zerosBehind (replicate (keyRowsOf item) 0 ++ r)) (take-at kept _ (recordRows item level) long ∙ kept-is item level values)
-      ∙ ap zerosBehind (key-zeros item level values)
+    pub length-stored : length then ≡ length records
+    length-stored = rw (lt-ltb (getD records at 0) number newer) (length-sets records at (number ∷ kept))

@@ -13,7 +13,7 @@ use Rattle.layout.specs.Cells.{none, minus}
 use Rattle.quote.specs.Quote.{quoteOf, valuesOf}
 use Rattle.spread.specs.Spread.{spreadQuoteOf, spreadValuesOf}
 use Rattle.forms.specs.declared.forms.Form.{Form}
-use Rattle.forms.specs.declared.forms.Form.the-variants.{LevelTwo, PairOne, PairTwo}
+use Rattle.forms.specs.declared.forms.Form.the-variants.{PairOne, PairTwo, FutureTwo}
 use Rattle.forms.specs.declared.forms.Item.{Item}
 use Rattle.forms.specs.declared.forms.Item.the-variants.{Contract, Pair}
 use Rattle.forms.specs.declared.forms.Chosen.{Chosen}
@@ -30,9 +30,9 @@ use Rattle.writer.specs.Chosen.{formWritten}
 abbrev pub key : List ℕ
 key = replicate keyBytes 65
 
--- 01 "The message": market type N and status S; every number is none but the last traded price
-abbrev quoteAt : ℕ → Quote
-quoteAt last = quoteOf LevelTwo (set (set (set (replicate mostRows none) 5 78) 28 83) 26 last)
+-- 01 "The message", M-104: a market type, a time stamp, a last traded price, and status S; every other number is none
+abbrev quoteAt : ℕ → ℕ → ℕ → Quote
+quoteAt market stamp last = quoteOf FutureTwo (set (set (set (set (replicate mostRows none) 5 market) 6 stamp) 27 last) 29 83)
 
 -- M-100: a pair's key, two such keys
 abbrev pub pair : List ℕ
@@ -52,10 +52,15 @@ pub record Asked : Type 0 where
   values : Form → List ℕ
   room : ℕ
 
--- 01 "What may be asked": the writer asked by code, level, number, key, last traded price and room
+-- 01 "What may be asked": the writer asked by code, level, number, key, last traded price and room, in the normal market
 abbrev pub asked : ℕ → ℕ → Level → ℕ → List ℕ → ℕ → ℕ → Asked
 asked first second level number key last room =
-    record { item = Contract; code = record { 0 = first; 1 = second }; level = level; number = number; key = key; values = λ form. valuesOf form (quoteAt last); room = room }
+    record { item = Contract; code = record { 0 = first; 1 = second }; level = level; number = number; key = key; values = λ form. valuesOf form (quoteAt 78 none last); room = room }
+
+-- M-104: the writer asked for a contract's update by code, level, market type, time stamp and last traded price
+abbrev pub askedIn : ℕ → ℕ → Level → ℕ → ℕ → ℕ → Asked
+askedIn first second level market stamp last =
+    record { item = Contract; code = record { 0 = first; 1 = second }; level = level; number = 1; key = key; values = λ form. valuesOf form (quoteAt market stamp last); room = 505 }
 
 -- M-100: the writer of pairs asked by code and level
 abbrev pub askedPair : ℕ → ℕ → Level → Asked
@@ -98,6 +103,32 @@ pub pair-answers : answerBy (chosen.Form PairTwo) 0 pair (λ form. spreadValuesO
     ∷ (0 ∷ 483 ∷ []) ∷ (0 ∷ 483 ∷ []) ∷ []
 unfolding writeRules lengthWritten dataWritten rowsOf namedRows rowText spreadQuoteOf spreadValuesOf textOf size sizeIn
 pair-answers = refl
+
+-- M-104: FP, PX and PH; a heartbeat with a number and PN without one; a byte 31 of the key, and a byte too few; FN and PN of either
+-- level, and FH
+pub future-codes : map answerTo (
+    asked 70 80 One 1 key none 505 ∷ asked 80 88 One 1 key none 505 ∷ asked 80 72 One 0 [] none 505 ∷ asked 70 72 One 1 [] none 505 ∷ asked 80 78 Two 0 key none 505
+    ∷ asked 70 78 One 1 (set key 38 31) none 204 ∷ asked 80 78 Two 1 key none 403
+    ∷ asked 70 78 One 1 key none 204 ∷ asked 70 78 Two 1 key none 404 ∷ asked 80 78 One 1 key none 204 ∷ asked 80 78 Two 1 key none 404 ∷ asked 70 72 Two 0 [] none 11 ∷ [])
+    ≡ (6 ∷ 0 ∷ 0 ∷ 0 ∷ []) ∷ (6 ∷ 0 ∷ 0 ∷ 0 ∷ []) ∷ (6 ∷ 0 ∷ 0 ∷ 0 ∷ []) ∷ (10 ∷ 0 ∷ 0 ∷ 0 ∷ []) ∷ (10 ∷ 0 ∷ 0 ∷ 0 ∷ [])
+    ∷ (11 ∷ 0 ∷ 4 ∷ 0 ∷ []) ∷ (15 ∷ 0 ∷ 0 ∷ 404 ∷ [])
+    ∷ (0 ∷ 204 ∷ []) ∷ (0 ∷ 404 ∷ []) ∷ (0 ∷ 204 ∷ []) ∷ (0 ∷ 404 ∷ []) ∷ (0 ∷ 11 ∷ []) ∷ []
+unfolding writeRules lengthWritten dataWritten writtenForm meaningOf rowsOf namedRows rowText quoteOf valuesOf textOf size sizeIn
+future-codes = refl
+
+-- M-104: market types N, O, S, A and X in FN; O in DN and in TN
+pub markets : map (λ market. answerTo (askedIn 70 78 One market none none)) (78 ∷ 79 ∷ 83 ∷ 65 ∷ 88 ∷ []) ++ map (λ first. answerTo (askedIn first 78 One 79 none none)) (68 ∷ 84 ∷ [])
+    ≡ (0 ∷ 204 ∷ []) ∷ (0 ∷ 204 ∷ []) ∷ (0 ∷ 204 ∷ []) ∷ (0 ∷ 204 ∷ []) ∷ (11 ∷ 0 ∷ 5 ∷ 0 ∷ []) ∷ (11 ∷ 0 ∷ 5 ∷ 0 ∷ []) ∷ (11 ∷ 0 ∷ 5 ∷ 0 ∷ []) ∷ []
+unfolding writeRules lengthWritten dataWritten writtenForm meaningOf rowsOf namedRows rowText quoteOf valuesOf textOf size sizeIn
+markets = refl
+
+-- M-104: a time stamp of 11 digits and one of 12 in PN, and the same in TN, which has none; a last traded price of 9,999,999,999 and of
+-- 10,000,000,000 in FN of either level, and the same in DN, whose prices are wider
+pub future-widths : map (λ stamp. answerTo (askedIn 80 78 Two 78 stamp none)) (99_999_999_999 ∷ 100_000_000_000 ∷ []) ++ answerTo (askedIn 84 78 Two 78 100_000_000_000 none)
+    ∷ map (λ last. answerTo (askedIn 70 78 One 78 none last)) (99_999_999_990_000_000 ∷ (10 ^ 17) ∷ []) ++ answerTo (askedIn 70 78 Two 78 none (10 ^ 17)) ∷ answerTo (askedIn 68 78 Two 78 none (10 ^ 17)) ∷ []
+    ≡ (0 ∷ 404 ∷ []) ∷ (12 ∷ 0 ∷ 6 ∷ 0 ∷ []) ∷ (0 ∷ 505 ∷ []) ∷ (0 ∷ 204 ∷ []) ∷ (12 ∷ 0 ∷ 11 ∷ 0 ∷ []) ∷ (12 ∷ 0 ∷ 27 ∷ 0 ∷ []) ∷ (0 ∷ 505 ∷ []) ∷ []
+unfolding writeRules lengthWritten dataWritten writtenForm meaningOf rowsOf namedRows rowText quoteOf valuesOf textOf size sizeIn
+future-widths = refl
 
 -- P5's heartbeat
 pub heartbeat : messageBytes (record { 0 = 68; 1 = 72 }) 0 [] ≡ 68 ∷ 72 ∷ 0 ∷ 11 ∷ 0 ∷ 0 ∷ 0 ∷ 0 ∷ 0 ∷ 0 ∷ 13 ∷ []

@@ -1,22 +1,31 @@
--- The fields of a written message are those that it was written from.
-use Prim.Native.Nat.{ℕ, _+_, _-_, _^_, _<_}
-use mathlib.Core.Path.{_≡_, refl, ap, sym, _∙_}
+-- The fields of a written message are those that it was written from, its rows' too.
+use Prim.Native.Nat.{ℕ, zero, suc, _+_, _-_, _^_, _<_}
+use mathlib.Core.Path.{_≡_, refl, ap, ap₂, sym, _∙_}
 use mathlib.Core.Logic.{inr}
 use mathlib.Core.List.{List, [], _∷_, _++_}
 use native.Mathlib.Omega.{arith}
 use native.Mathlib.Nat.{mod-eq-of-lt}
 use lib.ListN.{length, getD, take, drop, length-append}
-use lib.Seq.{take-at, getD-append-add}
+use lib.Seq.{take-at, drop-append-add, drop-drop, getD-append-add, getD-drop}
 use Rattle.wire.specs.Checksum.{checksumOf}
 use Rattle.wire.specs.Number.{numberAt}
 use Rattle.wire.specs.NumberLaws.{read-back}
+use Rattle.forms.specs.declared.rows.Row.{Row}
 use Rattle.forms.specs.declared.forms.Form.{Form}
 use Rattle.forms.specs.declared.forms.Named.the-variants as is
 use Rattle.forms.specs.declared.forms.Sum.{Sum}
 use Rattle.forms.specs.declared.forms.Sum.the-variants.{Zero, Right, RightOrZero}
 use Rattle.forms.specs.Forms.{formOf, sumRule}
+use Rattle.forms.specs.Rows.{widthOf, total, offsetOf}
 use Rattle.forms.specs.Sizes.{bareLength}
-use Rattle.head.specs.Fields.{letterOf, secondOf, lengthOf, numberOf, dataOf, sumSent, endByte, formIn, sumIn, rightSum}
+use Rattle.layout.specs.declared.read.Verdict.the-variants.{Good}
+use Rattle.layout.specs.Cells.{keyUsed}
+use Rattle.layout.specs.Says.{rowAt, fieldAt}
+use Rattle.compose.specs.FirstBad.{rowWritten}
+use Rattle.compose.specs.RowTextLaws.{text-width}
+use Rattle.compose.specs.Write.{Laid, text, rowText, writeRows}
+use Rattle.compose.specs.WriteLaws.{GoodRow, good-row}
+use Rattle.head.specs.Fields.{letterOf, segmentLetter, segmentLetterOf, secondOf, lengthOf, numberOf, dataOf, sumSent, endByte, formIn, sumIn, rightSum}
 use Rattle.head.specs.GoodHead.{HasSum}
 use Rattle.writer.specs.declared.writing.Code.{Code}
 use Rattle.writer.specs.Writer.{headBytes, beforeTrailer, sumWritten, messageBytes}
@@ -56,6 +65,11 @@ module _ (code : Code) (number : ℕ) (bytes : List ℕ) where
   pub letter-written : letterOf m ≡ code .0
   unfolding messageBytes letterOf
   letter-written = omega arith
+
+  -- M-104: it belongs to the segment of its letter
+  pub segment-written : segmentLetterOf m ≡ segmentLetter (code .0)
+  unfolding segmentLetterOf
+  segment-written = ap segmentLetter letter-written
 
   pub second-written : secondOf m ≡ code .1
   unfolding messageBytes secondOf
@@ -118,3 +132,29 @@ module _ (code : Code) (number : ℕ) (bytes : List ℕ) where
     -- it carries the sum that its code has
     pub sum-written : HasSum (sumIn m) (sumSent m) (rightSum m)
     sum-written = rw (rule-is, sent-is, right-written) (sum-taken sum before)
+
+-- ---- the field of a row
+
+field-behind : (row : Row) (rows : List Row) (characters rest : List ℕ) (k : ℕ) → length characters ≡ widthOf row
+    → fieldAt (row ∷ rows) (characters ++ rest) (suc k) ≡ fieldAt rows rest k
+field-behind row rows characters rest k e =
+    ap (take (widthOf (rowAt rows k)))
+    (ap (λ (n : ℕ). drop (n + offsetOf rows k) (characters ++ rest)) (sym e) ∙ drop-append-add characters rest (offsetOf rows k))
+
+-- in a good writing each row's field holds its text
+pub field-written : (i : ℕ) (rows : List Row) (key values : List ℕ) → writeRows i rows key values .verdict ≡ Good → (k : ℕ) → k < length rows
+    → rowWritten rows key values k ≡ text (fieldAt rows (writeRows i rows key values .bytes) k)
+field-written i [] key values good k h = absurd (omega arith)
+field-written i (row ∷ rows) key values good zero h =
+    let rest : Laid = writeRows (suc i) rows (drop (keyUsed row) key) (drop 1 values) in
+    let g : GoodRow (rowText row key (getD values 0 0)) i rest = good-row (rowText row key (getD values 0 0)) i rest good in
+    let wide = text-width row key (getD values 0 0) (g .is-text) in
+    g .is-text ∙ ap text (sym (ap (take (widthOf row)) (g .bytes-are) ∙ take-at (g .characters) (rest .bytes) (widthOf row) wide))
+field-written i (row ∷ rows) key values good (suc k) h =
+    let rest : Laid = writeRows (suc i) rows (drop (keyUsed row) key) (drop 1 values) in
+    let g : GoodRow (rowText row key (getD values 0 0)) i rest = good-row (rowText row key (getD values 0 0)) i rest good in
+    let wide = text-width row key (getD values 0 0) (g .is-text) in
+    let next : suc k ≡ 1 + k = omega arith in
+    ap₂ (rowText (rowAt rows k)) (sym (drop-drop (total keyUsed (take k rows)) (keyUsed row) key)) (ap (λ (n : ℕ). getD values n 0) next ∙ sym (getD-drop 1 values k 0))
+    ∙ field-written (suc i) rows (drop (keyUsed row) key) (drop 1 values) (g .rest-good) k (omega arith)
+    ∙ ap text (sym (ap (λ (b : List ℕ). fieldAt (row ∷ rows) b (suc k)) (g .bytes-are) ∙ field-behind row rows (g .characters) (rest .bytes) k wide))

@@ -1,6 +1,6 @@
 -- The form that is written stands with its code in the table, so that code and length name it again.
 use Prim.Native.Nat.{ℕ}
-use mathlib.Core.Path.{_≡_, refl}
+use mathlib.Core.Path.{_≡_, refl, ap₂, _∙_}
 use mathlib.Core.Bool.{Bool, true, false, _&&_, cond, false≢true}
 use mathlib.Core.Logic.{_↔_}
 use mathlib.Core.List.{List, [], _∷_, map, List·Memᴰ, List·Memᴰ·head, List·Memᴰ·tail}
@@ -11,16 +11,19 @@ use Rattle.laws.specs.Tests.{both}
 use Rattle.forms.specs.declared.rows.Level.{Level}
 use Rattle.forms.specs.declared.rows.Level.the-variants.{One, Two}
 use Rattle.forms.specs.declared.forms.Form.{Form}
+use Rattle.forms.specs.declared.forms.Form.the-variants.{LevelOne, LevelTwo, PairOne, PairTwo, FutureOne, FutureTwo, PreOpenOne, PreOpenTwo}
 use Rattle.forms.specs.declared.forms.Item.{Item}
-use Rattle.forms.specs.declared.forms.Item.the-variants.{Contract}
+use Rattle.forms.specs.declared.forms.Item.the-variants.{Contract, Pair}
 use Rattle.forms.specs.declared.forms.Named.the-variants as is
 use Rattle.forms.specs.declared.forms.Chosen.the-variants as chosen
-use Rattle.forms.specs.Forms.{rowsOf, subjectOf, recordForm, Line, table, meaningIn, meaningOf, formsOf, formOf, isAsked, writtenBy, writtenForm}
+use Rattle.forms.specs.declared.forms.Subject.the-variants.{Of}
+use Rattle.forms.specs.Forms.{rowsOf, subjectOf, atLevel, Line, table, meaningIn, meaningOf, formsOf, formOf, isAsked, writtenBy, writtenForm}
 use Rattle.forms.specs.FormsLaws.{table-told, one-of-them, asked-written, written-told}
 use Rattle.forms.specs.Rows.{messageLength}
-use Rattle.head.specs.Tests.{isCapital}
+use Rattle.head.specs.Tests.{isCode}
 use Rattle.writer.specs.declared.writing.Code.{Code}
 use Rattle.writer.specs.Chosen.{formWritten, inTable}
+use Rattle.written.specs.ReadBack.{WritesUpdate}
 
 -- ---- what is asked for
 
@@ -105,8 +108,8 @@ table-exact item code level = (
   (λ f. among-found item level (formsOf (code .0) (code .1)) (f .0) (in-its-forms (code .0) (code .1) (f .0) (f .1)) (f .2)),
 )
 
-capitals : map (λ (line : Line). isCapital (line .second)) table ≡ map (λ (line : Line). true) table
-capitals = refl
+codes : map (λ (line : Line). isCode (line .letter) (line .second)) table ≡ map (λ (line : Line). true) table
+codes = refl
 
 module _ (letter second : ℕ) (item : Item) (level : Level) (form : Form) (e : writtenForm letter second item level ≡ chosen.Form form) where
   has-line : HasLine table letter second form
@@ -122,20 +125,43 @@ module _ (letter second : ℕ) (item : Item) (level : Level) (form : Form) (e : 
   pub form-told : formOf letter second (messageLength (rowsOf form)) ≡ is.Form form
   form-told = written-told letter second item level form e
 
-  -- 01 "The message": the second byte is A to Z
-  pub second-capital : isCapital second ≡ true
-  second-capital =
-      rw (has-line .its-second) (alike (λ (line : Line). isCapital (line .second)) (λ (line : Line). true) table capitals (has-line .there))
+  -- 01, the table's row 6, M-104: a code of the table is one of its segment's
+  pub is-code : isCode letter second ≡ true
+  is-code =
+      ap₂ isCode (has-line .its-letter) (has-line .its-second)
+      ∙ alike (λ (line : Line). isCode (line .letter) (line .second)) (λ (line : Line). true) table codes (has-line .there)
 
--- 01 "The message", M-100: where a code has the two forms of a contract, or of a pair, the update of the level that is asked for is
+-- 01 "The message", M-100, M-104: where a code has two forms of a contract, or of a pair, the update of the level that is asked for is
 -- written
-pub level-chosen : (letter second : ℕ) (item : Item) (level : Level) → formsOf letter second ≡ recordForm item One ∷ recordForm item Two ∷ []
-    → writtenForm letter second item level ≡ chosen.Form (recordForm item level)
+pub level-chosen : (item : Item) (code : Code) (level : Level) (one two : Form) → formsOf (code .0) (code .1) ≡ one ∷ two ∷ [] → subjectOf one ≡ Of item One → subjectOf two ≡ Of item Two
+    → WritesUpdate item code level (atLevel level one two)
 unfolding writtenForm
-level-chosen letter second item level e = rw e (asked-written item level)
+level-chosen item code level one two e first second = (rw e (asked-written one two item level first second), at-level level)
+  where
+    at-level : (level : Level) → subjectOf (atLevel level one two) ≡ Of item level
+    at-level One = first
+    at-level Two = second
 
--- 01 "The message": DN and TN are updates of contracts
+-- 01 "The message": DN and TN are updates of contracts; M-104: and so are FN and PN
 pub update-chosen : (level : Level)
-    → (writtenForm 68 78 Contract level ≡ chosen.Form (recordForm Contract level)) × (writtenForm 84 78 Contract level ≡ chosen.Form (recordForm Contract level))
+    → WritesUpdate Contract (record { 0 = 68; 1 = 78 }) level (atLevel level LevelOne LevelTwo)
+    × WritesUpdate Contract (record { 0 = 84; 1 = 78 }) level (atLevel level LevelOne LevelTwo)
+    × WritesUpdate Contract (record { 0 = 70; 1 = 78 }) level (atLevel level FutureOne FutureTwo)
+    × WritesUpdate Contract (record { 0 = 80; 1 = 78 }) level (atLevel level PreOpenOne PreOpenTwo)
 unfolding meaningOf
-update-chosen level = (level-chosen 68 78 Contract level refl, level-chosen 84 78 Contract level refl)
+update-chosen level = (
+  level-chosen Contract (record { 0 = 68; 1 = 78 }) level LevelOne LevelTwo refl refl refl,
+  level-chosen Contract (record { 0 = 84; 1 = 78 }) level LevelOne LevelTwo refl refl refl,
+  level-chosen Contract (record { 0 = 70; 1 = 78 }) level FutureOne FutureTwo refl refl refl,
+  level-chosen Contract (record { 0 = 80; 1 = 78 }) level PreOpenOne PreOpenTwo refl refl refl,
+)
+
+-- M-100: DP and TP are updates of pairs
+pub pair-update-chosen : (level : Level)
+    → WritesUpdate Pair (record { 0 = 68; 1 = 80 }) level (atLevel level PairOne PairTwo)
+    × WritesUpdate Pair (record { 0 = 84; 1 = 80 }) level (atLevel level PairOne PairTwo)
+unfolding meaningOf
+pair-update-chosen level = (
+  level-chosen Pair (record { 0 = 68; 1 = 80 }) level PairOne PairTwo refl refl refl,
+  level-chosen Pair (record { 0 = 84; 1 = 80 }) level PairOne PairTwo refl refl refl,
+)

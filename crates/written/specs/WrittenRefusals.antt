@@ -1,6 +1,5 @@
--- What the writer refuses row by row, in the terms of the key and the quote: 01, the table's rows 11 and 12, M-100.
+-- What the writer refuses row by row, in the terms of the key and the quote: 01, the table's rows 11 and 12, M-100, M-104.
 use Prim.Native.Nat.{ℕ, _<_}
-use mathlib.Core.Path.{_≡_}
 use mathlib.Core.Bool.{Bool, false}
 use mathlib.Core.Logic.{_⊎_}
 use mathlib.Core.List.{List}
@@ -22,11 +21,11 @@ use Rattle.forms.specs.declared.forms.Form.{Form}
 use Rattle.forms.specs.declared.rows.Row.{Row}
 use Rattle.forms.specs.declared.rows.Row.the-variants.{Key, MarketType, Status, Price, Quantity, Turnover, Difference}
 use Rattle.layout.specs.Cells.{keyUsed}
-use Rattle.layout.specs.Says.{rowAt}
+use Rattle.layout.specs.Says.{IsMarketType, IsStatus, rowAt}
 use Rattle.quote.specs.Shows.{noOrder}
 use Rattle.spread.specs.Shows.{noSpreadOrder}
 use Rattle.forms.specs.Forms.{namedRows, rowsOf}
-use Rattle.forms.specs.Names.{Name, named, instrument, symbol, expiry, strike, optionType, secondInstrument, secondSymbol, secondExpiry, secondStrike, secondOptionType, marketType, buyPrice, buyQuantity, sellPrice, sellQuantity, lastPrice, tradedQuantity, status, openingPrice, highPrice, lowPrice, closePrice, averagePrice, allBuyers, allSellers, turnover as turnoverName}
+use Rattle.forms.specs.Names.{Name, named, instrument, symbol, expiry, strike, optionType, secondInstrument, secondSymbol, secondExpiry, secondStrike, secondOptionType, marketType, timeStamp, buyPrice, buyQuantity, sellPrice, sellQuantity, lastPrice, tradedQuantity, status, openingPrice, highPrice, lowPrice, closePrice, averagePrice, allBuyers, allSellers, turnover as turnoverName}
 use Rattle.forms.specs.Rows.{total}
 
 -- 01 "The message", M-100: what a row is written from, its part of the key apart: a letter's byte, nothing, or so many units, with a
@@ -56,7 +55,7 @@ abbrev pub differenceGiven : DifferenceCell → Value
 differenceGiven difference.None = nothing
 differenceGiven (difference.Amount units) = amount (units .0) (units .1)
 
--- 01 "The message": each field of a quote; the key is none of it
+-- 01 "The message", M-104: each field of a quote; the key is none of it
 abbrev pub fieldGiven : Quote → Name → Value
 fieldGiven quote instrument = nothing
 fieldGiven quote symbol = nothing
@@ -69,6 +68,7 @@ fieldGiven quote secondExpiry = nothing
 fieldGiven quote secondStrike = nothing
 fieldGiven quote secondOptionType = nothing
 fieldGiven quote marketType = letter (quote .«market_type»)
+fieldGiven quote timeStamp = quantityGiven (quote .«time_stamp»)
 fieldGiven quote (buyPrice k) = priceGiven (getD (quote .buy) k noOrder .price)
 fieldGiven quote (buyQuantity k) = quantityGiven (getD (quote .buy) k noOrder .quantity)
 fieldGiven quote (sellPrice k) = priceGiven (getD (quote .sell) k noOrder .price)
@@ -85,7 +85,7 @@ fieldGiven quote allBuyers = quantityGiven (quote .buyers)
 fieldGiven quote allSellers = quantityGiven (quote .sellers)
 fieldGiven quote turnoverName = turnoverGiven (quote .turnover)
 
--- M-100: each field of a pair's quote; it has no market type, status, close, average or turnover
+-- M-100: each field of a pair's quote; it has no market type, time stamp, status, close, average or turnover
 abbrev pub spreadFieldGiven : SpreadQuote → Name → Value
 spreadFieldGiven quote instrument = nothing
 spreadFieldGiven quote symbol = nothing
@@ -98,6 +98,7 @@ spreadFieldGiven quote secondExpiry = nothing
 spreadFieldGiven quote secondStrike = nothing
 spreadFieldGiven quote secondOptionType = nothing
 spreadFieldGiven quote marketType = nothing
+spreadFieldGiven quote timeStamp = nothing
 spreadFieldGiven quote (buyPrice k) = differenceGiven (getD (quote .buy) k noSpreadOrder .price)
 spreadFieldGiven quote (buyQuantity k) = quantityGiven (getD (quote .buy) k noSpreadOrder .quantity)
 spreadFieldGiven quote (sellPrice k) = differenceGiven (getD (quote .sell) k noSpreadOrder .price)
@@ -124,11 +125,12 @@ byteOf (amount minus n) = 0
 abbrev pub Outside : ℕ → Type 0
 Outside byte = (byte < 32) ⊎ (126 < byte)
 
--- 01, the table's row 11: a byte of the row's part of the key, a market type other than 'N', a status other than 'S' and space
+-- 01, the table's row 11, M-104: a byte of the row's part of the key, a market type that the row doesn't take, a status other than 'S'
+-- and space
 abbrev pub Malformed : Row → List ℕ → Value → Type 0
 Malformed (Key width) part value = (b : ℕ) × (b < width) × Outside (getD part b 0)
-Malformed MarketType part value = byteOf value ≡ 78 → ⊥
-Malformed Status part value = (byteOf value ≡ 83 → ⊥) × (byteOf value ≡ 32 → ⊥)
+Malformed (MarketType markets) part value = IsMarketType markets (byteOf value) → ⊥
+Malformed Status part value = IsStatus (byteOf value) → ⊥
 Malformed (Price width) part value = ⊥
 Malformed (Quantity width) part value = ⊥
 Malformed (Turnover width) part value = ⊥
@@ -144,7 +146,7 @@ Unwritable kind width (amount minus n) = (kind .most < n) ⊎ NoText kind width 
 -- 01, the table's row 12: only a number can be out of range, each by its kind
 abbrev pub OutOfRange : Row → Value → Type 0
 OutOfRange (Key width) value = ⊥
-OutOfRange MarketType value = ⊥
+OutOfRange (MarketType markets) value = ⊥
 OutOfRange Status value = ⊥
 OutOfRange (Price width) value = Unwritable kind.price width value
 OutOfRange (Quantity width) value = Unwritable kind.quantity width value

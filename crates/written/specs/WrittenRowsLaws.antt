@@ -1,6 +1,6 @@
 -- A row is refused 11 exactly where it is malformed, and 12 exactly where it is out of range.
 use Prim.Native.Nat.{ℕ, zero, suc, _+_, _-_, _≤_, _<_}
-use mathlib.Core.Path.{_≡_, refl, ap, sym, _∙_}
+use mathlib.Core.Path.{_≡_, refl, ap, sym, subst, _∙_}
 use mathlib.Core.Bool.{Bool, true, false, true≢false, false≢true, cond, _&&_}
 use mathlib.Core.Logic.{_⊎_, _↔_, inl, inr, ⊎-elim, Iff·trans}
 use mathlib.Core.List.{List, [], _∷_, _++_, map}
@@ -9,7 +9,7 @@ use borrow.Author.Tests.{le-leb, lt-leb, lt-ltb, le-ltb, eqb-false, ne-eqb}
 use lib.Dec.{leb, eqb, lit<}
 use lib.ListN.{length, getD, take, length-drop, length-map, List·getD-map, List·getD-append}
 use lib.Seq.{getD-take, length-take-le}
-use Rattle.laws.specs.Tests.{and-false, conj, or-none}
+use Rattle.laws.specs.Tests.{and-false, conj, eqb-is, or-is}
 use Rattle.laws.specs.Order.{order, same}
 use Rattle.decimal.specs.declared.Kind.{Kind}
 use Rattle.decimal.specs.Kinds.{price, quantity, turnover, difference}
@@ -29,10 +29,14 @@ use Rattle.spread.specs.declared.spread.DifferenceCell.the-variants as differen
 use Rattle.spread.specs.declared.spread.SpreadQuote.{SpreadQuote}
 use Rattle.forms.specs.declared.rows.Level.{Level}
 use Rattle.forms.specs.declared.forms.Form.{Form}
-use Rattle.forms.specs.declared.forms.Form.the-variants.{Heartbeat, LevelOne, LevelTwo, PairOne, PairTwo}
+use Rattle.forms.specs.declared.forms.Form.the-variants.{Heartbeat, LevelOne, LevelTwo, PairOne, PairTwo, FutureOne, FutureTwo, PreOpenOne, PreOpenTwo}
 use Rattle.forms.specs.declared.forms.Item.{Item}
 use Rattle.forms.specs.declared.forms.Item.the-variants.{Contract, Pair}
 use Rattle.forms.specs.declared.forms.Chosen.the-variants as chosen
+use Rattle.forms.specs.declared.forms.Subject.{Subject}
+use Rattle.forms.specs.declared.forms.Subject.the-variants.{Nothing as NoSubject, Of}
+use Rattle.forms.specs.declared.rows.Markets.{Markets}
+use Rattle.forms.specs.declared.rows.Markets.the-variants.{Normal, Any}
 use Rattle.forms.specs.declared.rows.Row.{Row}
 use Rattle.forms.specs.declared.rows.Row.the-variants.{Key, MarketType, Status, Price, Quantity, Turnover, Difference}
 use Rattle.layout.specs.Cells.{minus, sided, keyUsed}
@@ -40,13 +44,14 @@ use Rattle.layout.specs.Plain.{noValue, noRoom, valueOf, heldOf as heldBy}
 use Rattle.layout.specs.CellsLaws.{MayHold}
 use Rattle.layout.specs.PlainLaws.{held-back, has-value}
 use Rattle.compose.specs.FirstBad.{refusalWritten}
-use Rattle.layout.specs.Says.{rowAt}
+use Rattle.layout.specs.Says.{IsMarketType, rowAt}
 use Rattle.quote.specs.Quote.{fieldValue, valuesBy, valuesOf, valueOfPrice, valueOfQuantity, valueOfTurnover}
 use Rattle.spread.specs.Spread.{spreadFieldValue, spreadValuesOf, valueOfDifference}
 use Rattle.layout.specs.Read.{isMarketType, isStatus}
-use Rattle.forms.specs.Forms.{namedRows, rowsOf, subjectOf, keyBytesOf, isAsked}
+use Rattle.forms.specs.Forms.{namedRows, rowsOf, subjectOf, isStamped, keyBytesOf, isAsked}
 use Rattle.forms.specs.Names.{Name, NamedRow, named, instrument}
 use Rattle.forms.specs.Rows.{total}
+use Rattle.forms.specs.Sizes.{keyRowCount}
 use Rattle.compose.specs.Write.{RowText, text, malformed, out-of-range, ofWritten, heldText, rowText, writeRefusal}
 use Rattle.wire.specs.Bytes.{printable, allPrintable}
 use Rattle.writer.specs.declared.writing.Code.{Code}
@@ -65,7 +70,7 @@ heldOf (amount minus n) = sided minus n
 -- the plain number that a row is written from
 abbrev pub plainIn : Row → Value → ℕ
 plainIn (Key width) value = 0
-plainIn MarketType value = byteOf value
+plainIn (MarketType markets) value = byteOf value
 plainIn Status value = byteOf value
 plainIn (Price width) value = valueOf false (heldOf value)
 plainIn (Quantity width) value = valueOf false (heldOf value)
@@ -117,6 +122,10 @@ contract-plain LevelOne level is quote = (omega arith, simp (price-given, quanti
 contract-plain LevelTwo level is quote = (omega arith, simp (price-given, quantity-given, turnover-given))
 contract-plain PairOne level is quote = absurd (false≢true is)
 contract-plain PairTwo level is quote = absurd (false≢true is)
+contract-plain FutureOne level is quote = (omega arith, simp (price-given, quantity-given, turnover-given))
+contract-plain FutureTwo level is quote = (omega arith, simp (price-given, quantity-given, turnover-given))
+contract-plain PreOpenOne level is quote = (omega arith, simp (price-given, quantity-given, turnover-given))
+contract-plain PreOpenTwo level is quote = (omega arith, simp (price-given, quantity-given, turnover-given))
 
 pair-plain : (form : Form) (level : Level) → isAsked (subjectOf form) Pair level ≡ true → (quote : SpreadQuote)
     → (total keyUsed (rowsOf form) ≤ keyBytesOf Pair) × (valuesBy (namedRows form) (spreadFieldValue quote) ≡ plainGiven form (spreadFieldGiven quote))
@@ -126,6 +135,31 @@ pair-plain LevelOne level is quote = absurd (false≢true is)
 pair-plain LevelTwo level is quote = absurd (false≢true is)
 pair-plain PairOne level is quote = (omega arith, simp (difference-given, quantity-given))
 pair-plain PairTwo level is quote = (omega arith, simp (difference-given, quantity-given))
+pair-plain FutureOne level is quote = absurd (false≢true is)
+pair-plain FutureTwo level is quote = absurd (false≢true is)
+pair-plain PreOpenOne level is quote = absurd (false≢true is)
+pair-plain PreOpenTwo level is quote = absurd (false≢true is)
+
+-- a contract's market type is the row behind its key
+abbrev MarketRow : Subject → Form → Type 0
+MarketRow NoSubject form = Unit {0}
+MarketRow (Of Contract level) form = (rowAt (rowsOf form) keyRowCount ≡ MarketType (cond (isStamped form) Any Normal)) × ((quote : Quote) → getD (valuesOf form quote) keyRowCount 0 ≡ quote .«market_type»)
+MarketRow (Of Pair level) form = Unit {0}
+
+market-behind : (form : Form) → MarketRow (subjectOf form) form
+unfolding rowsOf namedRows valuesOf
+market-behind Heartbeat = tt
+market-behind LevelOne = (refl, λ quote. refl)
+market-behind LevelTwo = (refl, λ quote. refl)
+market-behind PairOne = tt
+market-behind PairTwo = tt
+market-behind FutureOne = (refl, λ quote. refl)
+market-behind FutureTwo = (refl, λ quote. refl)
+market-behind PreOpenOne = (refl, λ quote. refl)
+market-behind PreOpenTwo = (refl, λ quote. refl)
+
+pub market-row : (form : Form) (level : Level) → subjectOf form ≡ Of Contract level → MarketRow (Of Contract level) form
+market-row form level s = subst (λ (subject : Subject). MarketRow subject form) s (market-behind form)
 
 module _ (code : Code) (level : Level) (form : Form) where
   -- a contract's message is written from the fields of its quote
@@ -175,6 +209,15 @@ bad-found (c ∷ l) zero h o = ap (λ (t : Bool). t && allPrintable l) (out-bad 
 bad-found (c ∷ l) (suc b) h o = ap (λ (t : Bool). printable c && t) (bad-found l b (omega arith) o) ∙ and-false (printable c)
 
 -- ---- what is refused, and with which number
+
+-- a test fails exactly where what it tests does not hold
+fails : {A : Type 0} {t : Bool} → t ≡ true ↔ A → t ≡ false ↔ (A → ⊥)
+fails {t = true} is = ((λ e. absurd (true≢false e)), (λ no. absurd (no (is .0 refl))))
+fails {t = false} is = ((λ e a. false≢true (is .1 a)), (λ no. refl))
+
+market-is : (markets : Markets) (byte : ℕ) → isMarketType markets byte ≡ true ↔ IsMarketType markets byte
+market-is Normal byte = eqb-is byte 78
+market-is Any byte = or-is (eqb-is byte 78) (or-is (eqb-is byte 79) (or-is (eqb-is byte 83) (eqb-is byte 65)))
 
 -- a text, or malformed
 module _ (t : List ℕ) where
@@ -268,7 +311,7 @@ module _ (kind : Kind) (width : ℕ) where
 row-range : (row : Row) (part : List ℕ) (value : Value) → writeRefusal (rowText row part (plainIn row value)) ≡ 12 ↔ OutOfRange row value
 unfolding rowText
 row-range (Key width) part value = (tested-in-range (take width part) (leb width (length part) && allPrintable (take width part)), (λ e. absurd e))
-row-range MarketType part value = (tested-in-range (byteOf value ∷ []) (isMarketType (byteOf value)), (λ e. absurd e))
+row-range (MarketType markets) part value = (tested-in-range (byteOf value ∷ []) (isMarketType markets (byteOf value)), (λ e. absurd e))
 row-range Status part value = (tested-in-range (byteOf value ∷ []) (isStatus (byteOf value)), (λ e. absurd e))
 row-range (Price width) part value = value-exact price width (lit< tt) value
 row-range (Quantity width) part value = value-exact quantity width (lit< tt) value
@@ -292,13 +335,10 @@ row-field (Key width) part value has =
           (bad-found (take width part) (m .0) (omega arith) (rw (getD-take width part (m .0) 0 near) (m .2)))
           ∙ and-false (leb width (length part))),
     )
-row-field MarketType part value has =
-    Iff·trans (tested (byteOf value ∷ []) (isMarketType (byteOf value))) (eqb-false (byteOf value) 78, ne-eqb (byteOf value) 78)
+row-field (MarketType markets) part value has =
+    Iff·trans (tested (byteOf value ∷ []) (isMarketType markets (byteOf value))) (fails (market-is markets (byteOf value)))
 row-field Status part value has =
-    Iff·trans (tested (byteOf value ∷ []) (isStatus (byteOf value))) (
-      (λ e. let n = or-none (eqb (byteOf value) 83) (eqb (byteOf value) 32) e in (eqb-false (byteOf value) 83 (n .0), eqb-false (byteOf value) 32 (n .1))),
-      (λ m. rw (ne-eqb (byteOf value) 83 (m .0), ne-eqb (byteOf value) 32 (m .1))),
-    )
+    Iff·trans (tested (byteOf value ∷ []) (isStatus (byteOf value))) (fails (or-is (eqb-is (byteOf value) 83) (eqb-is (byteOf value) 32)))
 row-field (Price width) part value has = (held-formed price width (heldBy false (valueOf false (heldOf value))), (λ e. absurd e))
 row-field (Quantity width) part value has = (held-formed quantity width (heldBy false (valueOf false (heldOf value))), (λ e. absurd e))
 row-field (Turnover width) part value has = (held-formed turnover width (heldBy false (valueOf false (heldOf value))), (λ e. absurd e))

@@ -30,7 +30,7 @@ FieldOf kind (amount minus n) field = Shortest kind minus n field
 -- 01 "Numbers in text": the field of a row whose value is a number, by its kind
 abbrev pub NumberField : Row → Value → List ℕ → Type 0
 NumberField (Key width) value field = Unit {0}
-NumberField MarketType value field = Unit {0}
+NumberField (MarketType markets) value field = Unit {0}
 NumberField Status value field = Unit {0}
 NumberField (Price width) value field = FieldOf price value field
 NumberField (Quantity width) value field = FieldOf quantity value field

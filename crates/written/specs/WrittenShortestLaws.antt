@@ -1,20 +1,18 @@
 -- Every number of a written message stands in its field as the shortest text.
-use Prim.Native.Nat.{ℕ, zero, suc, _+_, _-_, _≤_, _<_}
-use mathlib.Core.Path.{_≡_, refl, ap, ap₂, sym, _∙_}
+use Prim.Native.Nat.{ℕ, _-_, _≤_, _<_}
+use mathlib.Core.Path.{_≡_, refl, ap, sym, _∙_}
 use mathlib.Core.Bool.{Bool, true, false}
 use mathlib.Core.Logic.{⊎-elim}
-use mathlib.Core.List.{List, [], _∷_, _++_}
+use mathlib.Core.List.{List}
 use native.Mathlib.Omega.{arith}
 use lib.Dec.{eqb, lit<}
-use lib.ListN.{length, getD, take, drop}
-use lib.Seq.{take-at, drop-append-add, drop-drop, getD-drop}
+use lib.ListN.{length, take}
 use Rattle.laws.specs.Order.{order, same}
 use Rattle.decimal.specs.declared.Kind.{Kind}
 use Rattle.decimal.specs.Kinds.{price, quantity, turnover, difference}
 use Rattle.decimal.specs.Denotes.{belowZero}
 use Rattle.print.specs.Write.{writtenAs, filled, refused, signedText, blankText, spaced}
 use Rattle.print.specs.WriteLaws.{none-spaces, fills-right, shortest, within, fitting, narrow}
-use Rattle.layout.specs.declared.read.Verdict.the-variants.{Good}
 use Rattle.forms.specs.declared.rows.Level.{Level}
 use Rattle.forms.specs.declared.forms.Item.{Item}
 use Rattle.forms.specs.declared.forms.Form.{Form}
@@ -22,23 +20,21 @@ use Rattle.forms.specs.declared.forms.Chosen.the-variants as chosen
 use Rattle.forms.specs.declared.rows.Row.{Row}
 use Rattle.forms.specs.declared.rows.Row.the-variants.{Key, MarketType, Status, Price, Quantity, Turnover, Difference}
 use Rattle.layout.specs.declared.cells.Held.{Held}
-use Rattle.layout.specs.Cells.{minus, sided, keyUsed}
+use Rattle.layout.specs.Cells.{minus, sided}
 use Rattle.layout.specs.Plain.{noRoom, valueOf, heldOf as heldBy}
 use Rattle.layout.specs.CellsLaws.{MayHold, sided-so}
 use Rattle.layout.specs.PlainLaws.{held-back}
-use Rattle.compose.specs.FirstBad.{rowWritten}
 use Rattle.layout.specs.Says.{rowAt, fieldAt}
 use Rattle.forms.specs.Forms.{rowsOf}
-use Rattle.forms.specs.Rows.{widthOf, total, offsetOf}
-use Rattle.compose.specs.RowTextLaws.{text-width, filled-is as text-filled}
-use Rattle.compose.specs.Write.{Laid, text, ofWritten, rowText, heldText, writeRefusal, writeRows}
-use Rattle.compose.specs.WriteLaws.{GoodRow, good-row}
+use Rattle.compose.specs.RowTextLaws.{filled-is as text-filled}
+use Rattle.compose.specs.Write.{text, ofWritten, rowText, heldText, writeRefusal}
 use Rattle.forms.specs.Names.{Name}
 use Rattle.head.specs.Fields.{dataOf}
 use Rattle.state.specs.declared.answers.Written.{Written}
 use Rattle.writer.specs.declared.writing.Code.{Code}
 use Rattle.writer.specs.Chosen.{formWritten}
 use Rattle.writer.specs.WriterPromises.{WroteValues}
+use Rattle.written.specs.WrittenFieldsLaws.{field-written}
 use Rattle.written.specs.WrittenRefusals.{Value, letter, nothing, amount, valueAt, partAt}
 use Rattle.written.specs.WrittenRowsLaws.{heldOf, plainIn, Given, Refuses, held-exact, far, unsigned}
 use Rattle.written.specs.WrittenUpdateLaws.{rows-good, data-there}
@@ -72,32 +68,6 @@ module _ (kind : Kind) (width : ℕ) (minus : Bool) (n : ℕ) (field : List ℕ)
         means = fills-right kind width minus n field e .means;
         no-shorter = λ other d. shortest d;
       }
-
--- ---- the field of a row
-
-field-behind : (row : Row) (rows : List Row) (characters rest : List ℕ) (k : ℕ) → length characters ≡ widthOf row
-    → fieldAt (row ∷ rows) (characters ++ rest) (suc k) ≡ fieldAt rows rest k
-field-behind row rows characters rest k e =
-    ap (take (widthOf (rowAt rows k)))
-    (ap (λ (n : ℕ). drop (n + offsetOf rows k) (characters ++ rest)) (sym e) ∙ drop-append-add characters rest (offsetOf rows k))
-
--- in a good writing each row's field holds its text
-pub field-written : (i : ℕ) (rows : List Row) (key values : List ℕ) → writeRows i rows key values .verdict ≡ Good → (k : ℕ) → k < length rows
-    → rowWritten rows key values k ≡ text (fieldAt rows (writeRows i rows key values .bytes) k)
-field-written i [] key values good k h = absurd (omega arith)
-field-written i (row ∷ rows) key values good zero h =
-    let rest : Laid = writeRows (suc i) rows (drop (keyUsed row) key) (drop 1 values) in
-    let g : GoodRow (rowText row key (getD values 0 0)) i rest = good-row (rowText row key (getD values 0 0)) i rest good in
-    let wide = text-width row key (getD values 0 0) (g .is-text) in
-    g .is-text ∙ ap text (sym (ap (take (widthOf row)) (g .bytes-are) ∙ take-at (g .characters) (rest .bytes) (widthOf row) wide))
-field-written i (row ∷ rows) key values good (suc k) h =
-    let rest : Laid = writeRows (suc i) rows (drop (keyUsed row) key) (drop 1 values) in
-    let g : GoodRow (rowText row key (getD values 0 0)) i rest = good-row (rowText row key (getD values 0 0)) i rest good in
-    let wide = text-width row key (getD values 0 0) (g .is-text) in
-    let next : suc k ≡ 1 + k = omega arith in
-    ap₂ (rowText (rowAt rows k)) (sym (drop-drop (total keyUsed (take k rows)) (keyUsed row) key)) (ap (λ (n : ℕ). getD values n 0) next ∙ sym (getD-drop 1 values k 0))
-    ∙ field-written (suc i) rows (drop (keyUsed row) key) (drop 1 values) (g .rest-good) k (omega arith)
-    ∙ ap text (sym (ap (λ (b : List ℕ). fieldAt (row ∷ rows) b (suc k)) (g .bytes-are) ∙ field-behind row rows (g .characters) (rest .bytes) k wide))
 
 -- ---- the field of a number's row
 
@@ -149,7 +119,7 @@ module _ (kind : Kind) (width : ℕ) (field : List ℕ) where
 row-number : (row : Row) (part : List ℕ) (value : Value) (field : List ℕ) → rowText row part (plainIn row value) ≡ text field → NumberField row value field
 unfolding rowText
 row-number (Key width) part value field e = tt
-row-number MarketType part value field e = tt
+row-number (MarketType markets) part value field e = tt
 row-number Status part value field e = tt
 row-number (Price width) part value field e = number-field price width field (lit< tt) false value e
 row-number (Quantity width) part value field e = number-field quantity width field (lit< tt) false value e

@@ -1,4 +1,4 @@
--- As many updates as the data can hold, 144 at most.
+-- As many updates as the data can hold, 160 at most.
 use native.Mathlib.Omega.{arith}
 use borrow.Author.Needs.{needs}
 use Rattle.batch.proofs.batch.take_data.Statement.{statement}
@@ -14,7 +14,7 @@ take-on-requires-3 : tie.Need-take-on-requires-3
 take-on-requires-3 c κs = let s = c .before .before .before .before .before .before .before .before .before .before .before in (s .pre .0, s .pre .1, record { slots = 24; there = search needs; enough = omega (arith, c .before .before .before .if3 .taken) })
 
 take-on-requires-4 : tie.Need-take-on-requires-4
-take-on-requires-4 c κs = let s = c .before .before .before .before .before .before .before .before .before .before .before in (s .pre .0, s .pre .1, record { slots = 144; there = search needs; enough = omega (arith, s .pre .2) })
+take-on-requires-4 c κs = let s = c .before .before .before .before .before .before .before .before .before .before .before in (s .pre .0, s .pre .1, record { slots = 160; there = search needs; enough = omega (arith, s .pre .2) })
 
 pub take-data-spec : {M : Type 1} → statement M
 take-data-spec =

@@ -21,7 +21,7 @@ use Rattle.batch.proofs.batch.take_on.Statement.{statement}
 use Rattle.batch.proofs.batch.take_on.Tie as tie
 
 -- the segment of the batch's letter
-segment-is : (c : tie.After-segment-of) → placeOf (c .segment-of .result) ≡ segmentOf (c .before .before .before .before .before .before .before .before .args .list .now) (c .before .letter-of .result)
+segment-is : (c : tie.After-segment-of) → placeOf (c .segment-of .result) ≡ segmentOf (c .before .before .before .before .before .before .before .before .args .list .now) (c .before .segment-letter-of .result)
 segment-is c = found-told codeNo (c .segment-of .result) _ (c .segment-of .ensures)
 
 -- what is known once the messages are judged
@@ -29,7 +29,7 @@ module _ (c : tie.After-judge-messages) where
   abbrev found : tie.After-segment-of
   found = c .before .before .before .before .before .before .before
 
-  abbrev first : tie.After-letter-of
+  abbrev first : tie.After-segment-letter-of
   first = found .before
 
   abbrev start : tie.Start
@@ -42,9 +42,9 @@ module _ (c : tie.After-judge-messages) where
   stores′ = c .judge-messages .last .1 .1 .1 .1 .1 .1 .0
 
   ready : RowReady (start .args .rows .now) (placeOf (found .segment-of .result))
-  ready i e = row-ready (lists (start .args .list .now) (start .args .spreads .now)) (start .args .rows .now) (first .letter-of .result) (start .pre .0 .rows-ready) i (sym (segment-is found) ∙ e)
+  ready i e = row-ready (lists (start .args .list .now) (start .args .spreads .now)) (start .args .rows .now) (first .segment-letter-of .result) (start .pre .0 .rows-ready) i (sym (segment-is found) ∙ e)
 
-  scratch : ScratchRow (start .args .rows .now) (segmentOf (start .args .list .now) (first .letter-of .result)) (c .before .before .before .copy-row-in .last .1 .1 .0)
+  scratch : ScratchRow (start .args .rows .now) (segmentOf (start .args .list .now) (first .segment-letter-of .result)) (c .before .before .before .copy-row-in .last .1 .1 .0)
   scratch = rw (segment-is found) at (c .before .before .before .copy-row-in .ensures)
 
 -- and accepted
@@ -58,14 +58,14 @@ module _ (c : tie.After-enum-told) where
   left : (box : Box) × (dataActs (lends (lists (lent .args .list .now) (lent .args .spreads .now)) (lent .args .rows .now) (lent .args .records .now)) (lent .args .«data» .now) (lent .args .count) ≡ acted box)
       × Left (lists (lent .args .list .now) (lent .args .spreads .now)) (Room (length (lent .args .stores .now)) (length (lent .args .«data» .now))) (lent .args .records .now) box (judged .judge-messages .result .kept) (row′ judged) (stores′ judged)
   left =
-      scratch-left _ _ _ _ _ _ (scratch judged) (lent .pre .0 .some-messages) (first judged .letter-of .ensures) _ _ _ _ (judged .judge-messages .ensures) (lent .args .records .now) (c .enum-told .given .1)
+      scratch-left _ _ _ _ _ _ (scratch judged) (lent .pre .0 .some-messages) (first judged .segment-letter-of .ensures) _ _ _ _ (judged .judge-messages .ensures) (lent .args .records .now) (c .enum-told .given .1)
 
 copy-row-in-requires : tie.Need-copy-row-in-requires
 copy-row-in-requires c κs =
     let f = c .before .before .before in
     let u = f .before in
     let s = u .before .before .before .before .before .before .before in
-    ((λ i e. row-ready (lists (s .args .list .now) (s .args .spreads .now)) (s .args .rows .now) (u .letter-of .result) (s .pre .0 .rows-ready) i (sym (segment-is f) ∙ e)), refl)
+    ((λ i e. row-ready (lists (s .args .list .now) (s .args .spreads .now)) (s .args .rows .now) (u .segment-letter-of .result) (s .pre .0 .rows-ready) i (sym (segment-is f) ∙ e)), refl)
 
 judge-messages-requires : tie.Need-judge-messages-requires
 judge-messages-requires c κs =
@@ -90,13 +90,13 @@ returns c =
     let j = judged d in
     let s = start j in
     rw (p .put-row-in .ensures, segment-is (found j), m .make-all .ensures)
-    (scratch-taken _ _ _ _ _ _ (scratch j) (s .pre .0 .some-messages) (first j .letter-of .ensures) _ _ _ _ (j .judge-messages .ensures) (s .args .records .now) (d .enum-told .given .1) (s .pre .2))
+    (scratch-taken _ _ _ _ _ _ (scratch j) (s .pre .0 .some-messages) (first j .segment-letter-of .ensures) _ _ _ _ (j .judge-messages .ensures) (s .args .records .now) (d .enum-told .given .1) (s .pre .2))
 
 returns-2 : tie.Need-returns-2
 returns-2 c =
     let j = c .before .before .before .before in
     let s = start j in
-    scratch-refused _ _ _ _ _ _ (scratch j) (s .pre .0 .some-messages) (first j .letter-of .ensures) _ _ _ _ (j .judge-messages .ensures) (s .args .records .now) _ (c .enum-told2 .given .1)
+    scratch-refused _ _ _ _ _ _ (scratch j) (s .pre .0 .some-messages) (first j .segment-letter-of .ensures) _ _ _ _ (j .judge-messages .ensures) (s .args .records .now) _ (c .enum-told2 .given .1)
 
 pub take-on-spec : {M : Type 1} → statement M
 take-on-spec =

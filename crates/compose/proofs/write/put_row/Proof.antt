@@ -11,10 +11,10 @@ use Rattle.compose.proofs.write.put_row.Statement.{statement}
 use Rattle.compose.proofs.write.put_row.Tie as tie
 
 put-market-type-requires : tie.Need-put-market-type-requires
-put-market-type-requires c κs = c .before .before .before .before .before .pre ∙ ap widthOf (c .before .enum-told2 .given .1)
+put-market-type-requires c κs = c .before .before .before .before .before .before .pre ∙ ap widthOf (c .before .before .row .given .1)
 
 put-status-requires : tie.Need-put-status-requires
-put-status-requires c κs = c .before .before .before .before .before .pre ∙ ap widthOf (c .before .enum-told3 .given .1)
+put-status-requires c κs = c .before .before .before .before .before .pre ∙ ap widthOf (c .before .enum-told2 .given .1)
 
 returns : tie.Need-returns
 unfolding rowText
@@ -22,39 +22,39 @@ returns c = rw (c .before .before .before .before .enum-told .given .1, ← ap w
 
 returns-2 : tie.Need-returns-2
 unfolding rowText
-returns-2 c = rw (c .before .before .before .before .enum-told2 .given .1) (c .before .before .put-market-type .ensures)
+returns-2 c = rw (c .before .before .before .before .before .row .given .1) (c .before .before .put-market-type .ensures)
 
 returns-3 : tie.Need-returns-3
 unfolding rowText
-returns-3 c = rw (c .before .before .before .before .enum-told3 .given .1) (c .before .before .put-status .ensures)
+returns-3 c = rw (c .before .before .before .before .enum-told2 .given .1) (c .before .before .put-status .ensures)
 
 returns-4 : tie.Need-returns-4
 unfolding rowText
 returns-4 c =
     let told = c .before .before .before .before .before in
     let s = told .before .before .before .before in
-    puts-number (s .args .row) (s .args .key .now) (s .args .value) (heldOf false (s .args .value)) price (s .pre) (rw (told .enum-told4 .given .1)) (rw (c .before .before .before .before .held-of .ensures) at (c .before .before .put-number .ensures))
+    puts-number (s .args .row) (s .args .key .now) (s .args .value) (heldOf false (s .args .value)) price (s .pre) (rw (told .enum-told3 .given .1)) (rw (c .before .before .before .before .held-of .ensures) at (c .before .before .put-number .ensures))
 
 returns-5 : tie.Need-returns-5
 unfolding rowText
 returns-5 c =
     let told = c .before .before .before .before .before in
     let s = told .before .before .before .before in
-    puts-number (s .args .row) (s .args .key .now) (s .args .value) (heldOf false (s .args .value)) quantity (s .pre) (rw (told .enum-told5 .given .1)) (rw (c .before .before .before .before .held-of2 .ensures) at (c .before .before .put-number2 .ensures))
+    puts-number (s .args .row) (s .args .key .now) (s .args .value) (heldOf false (s .args .value)) quantity (s .pre) (rw (told .enum-told4 .given .1)) (rw (c .before .before .before .before .held-of2 .ensures) at (c .before .before .put-number2 .ensures))
 
 returns-6 : tie.Need-returns-6
 unfolding rowText
 returns-6 c =
     let told = c .before .before .before .before .before in
     let s = told .before .before .before .before in
-    puts-number (s .args .row) (s .args .key .now) (s .args .value) (heldOf false (s .args .value)) turnover (s .pre) (rw (told .enum-told6 .given .1)) (rw (c .before .before .before .before .held-of3 .ensures) at (c .before .before .put-number3 .ensures))
+    puts-number (s .args .row) (s .args .key .now) (s .args .value) (heldOf false (s .args .value)) turnover (s .pre) (rw (told .enum-told5 .given .1)) (rw (c .before .before .before .before .held-of3 .ensures) at (c .before .before .put-number3 .ensures))
 
 returns-7 : tie.Need-returns-7
 unfolding rowText
 returns-7 c =
     let told = c .before .before .before .before .before in
     let s = told .before .before .before .before in
-    puts-number (s .args .row) (s .args .key .now) (s .args .value) (heldOf true (s .args .value)) difference (s .pre) (rw (told .enum-told7 .given .1)) (rw (c .before .before .before .before .held-of4 .ensures) at (c .before .before .put-number4 .ensures))
+    puts-number (s .args .row) (s .args .key .now) (s .args .value) (heldOf true (s .args .value)) difference (s .pre) (rw (told .enum-told6 .given .1)) (rw (c .before .before .before .before .held-of4 .ensures) at (c .before .before .put-number4 .ensures))
 
 pub put-row-spec : {M : Type 1} → statement M
 put-row-spec =

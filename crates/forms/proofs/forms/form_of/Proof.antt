@@ -17,37 +17,31 @@ unfolding formOf rowsOf namedRows
 returns-2 c = tells (simp (formsOf, sym (c .before .before .before .family-of .ensures) ∙ ap familyMeaning (c .before .enum-told .given .1), ne-eqb _ _ (c .match2 .rest .1)))
 
 returns-3 : tie.Need-returns-3
-unfolding formOf rowsOf namedRows
-returns-3 c = tells (rw (formsOf, sym (c .before .before .before .family-of .ensures) ∙ ap familyMeaning (c .before .enum-told2 .given .1), c .match3 .keys1))
+unfolding formOf
+returns-3 c = rw (formsOf, sym (c .before .before .before .family-of .ensures) ∙ ap familyMeaning (c .before .enum-told2 .given .1)) (c .of-length .ensures)
 
 returns-4 : tie.Need-returns-4
-unfolding formOf rowsOf namedRows
-returns-4 c = tells (rw (formsOf, sym (c .before .before .before .family-of .ensures) ∙ ap familyMeaning (c .before .enum-told2 .given .1), c .match3 .keys2))
+unfolding formOf
+returns-4 c = rw (formsOf, sym (c .before .before .before .family-of .ensures) ∙ ap familyMeaning (c .before .enum-told3 .given .1)) (c .of-length2 .ensures)
 
 returns-5 : tie.Need-returns-5
-unfolding formOf rowsOf namedRows
-returns-5 c = tells (simp (formsOf, sym (c .before .before .before .family-of .ensures) ∙ ap familyMeaning (c .before .enum-told2 .given .1), ne-eqb _ _ (c .match3 .rest .0 .1), ne-eqb _ _ (c .match3 .rest .1)))
+unfolding formOf
+returns-5 c = rw (formsOf, sym (c .before .before .before .family-of .ensures) ∙ ap familyMeaning (c .before .enum-told4 .given .1)) (c .of-length3 .ensures)
 
 returns-6 : tie.Need-returns-6
-unfolding formOf rowsOf namedRows
-returns-6 c = tells (rw (formsOf, sym (c .before .before .before .family-of .ensures) ∙ ap familyMeaning (c .before .enum-told3 .given .1), c .match4 .keys1))
+unfolding formOf
+returns-6 c = rw (formsOf, sym (c .before .before .before .family-of .ensures) ∙ ap familyMeaning (c .before .enum-told5 .given .1)) (c .of-length4 .ensures)
 
 returns-7 : tie.Need-returns-7
-unfolding formOf rowsOf namedRows
-returns-7 c = tells (rw (formsOf, sym (c .before .before .before .family-of .ensures) ∙ ap familyMeaning (c .before .enum-told3 .given .1), c .match4 .keys2))
+unfolding formOf
+returns-7 c = tells (rw (formsOf, sym (c .before .before .family-of .ensures) ∙ ap familyMeaning (c .enum-told6 .given .1)))
 
 returns-8 : tie.Need-returns-8
-unfolding formOf rowsOf namedRows
-returns-8 c = tells (simp (formsOf, sym (c .before .before .before .family-of .ensures) ∙ ap familyMeaning (c .before .enum-told3 .given .1), ne-eqb _ _ (c .match4 .rest .0 .1), ne-eqb _ _ (c .match4 .rest .1)))
-
-returns-9 : tie.Need-returns-9
 unfolding formOf
-returns-9 c = tells (rw (formsOf, sym (c .before .before .family-of .ensures) ∙ ap familyMeaning (c .enum-told4 .given .1)))
-
-returns-10 : tie.Need-returns-10
-unfolding formOf
-returns-10 c = tells (rw (formsOf, sym (c .before .before .family-of .ensures) ∙ ap familyMeaning (c .enum-told5 .given .1)))
+returns-8 c = tells (rw (formsOf, sym (c .before .before .family-of .ensures) ∙ ap familyMeaning (c .enum-told7 .given .1)))
 
 pub form-of-spec : {M : Type 1} → statement M
 form-of-spec =
-    tie.close (tie.spec (search needs) (search needs) (search needs) (search needs) (search needs) (search needs) returns returns-2 returns-3 returns-4 returns-5 returns-6 returns-7 returns-8 returns-9 returns-10)
+    tie.close
+    (tie.spec (search needs) (search needs) (search needs) (λ c κs. search needs) (search needs) (λ c κs. search needs) (search needs) (λ c κs. search needs) (search needs) (λ c κs. search needs) (search needs) (search needs)
+    returns returns-2 returns-3 returns-4 returns-5 returns-6 returns-7 returns-8)

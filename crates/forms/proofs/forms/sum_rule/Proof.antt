@@ -21,6 +21,13 @@ returns-4 c = rw (sumRule, sym (c .before .before .family-of .ensures) ∙ ap fa
 returns-5 : tie.Need-returns-5
 returns-5 c = rw (sumRule, sym (c .before .before .family-of .ensures) ∙ ap familyMeaning (c .enum-told5 .given .1))
 
+returns-6 : tie.Need-returns-6
+returns-6 c = rw (sumRule, sym (c .before .before .family-of .ensures) ∙ ap familyMeaning (c .enum-told6 .given .1))
+
+returns-7 : tie.Need-returns-7
+returns-7 c = rw (sumRule, sym (c .before .before .family-of .ensures) ∙ ap familyMeaning (c .enum-told7 .given .1))
+
 pub sum-rule-spec : {M : Type 1} → statement M
 sum-rule-spec =
-    tie.close (tie.spec (search needs) (search needs) (search needs) (search needs) (search needs) (search needs) returns returns-2 returns-3 returns-4 returns-5)
+    tie.close (tie.spec (search needs) (search needs) (search needs) (search needs) (search needs) (search needs) (search needs) (search needs)
+    returns returns-2 returns-3 returns-4 returns-5 returns-6 returns-7)

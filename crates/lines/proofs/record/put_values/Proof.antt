@@ -7,10 +7,10 @@ use Rattle.lines.proofs.record.put_values.Statement.{statement}
 use Rattle.lines.proofs.record.put_values.Tie as tie
 
 abbrev Inv-loop : tie.InvT-loop
-Inv-loop page₀ used first values count rows more₀ i₀ page more i = (i ≤ count) × (more ≤ length page₀) × (length page ≡ length page₀)
+Inv-loop page₀ used first values at count rows more₀ i₀ page more i = (i ≤ count) × (more ≤ length page₀) × (length page ≡ length page₀)
 
 abbrev μ-loop : tie.MeasureT-loop
-μ-loop page₀ used first values count rows more₀ i₀ page more i = count - i
+μ-loop page₀ used first values at count rows more₀ i₀ page more i = count - i
 
 pub put-values-spec : {M : Type 1} → statement M
 put-values-spec =

@@ -17,10 +17,15 @@ returns c =
 
 returns-2 : tie.Need-returns-2
 returns-2 c =
-    let a = c .before .before .before .before .before .before .before .args in
-    let some : eqb (recordNumber (a .records .now) (a .at)) 0 ≡ false = ne-eqb (recordNumber (a .records .now) (a .at)) 0 (c .before .before .before .before .if1 .left) in
-    record { says = rw some; shows = rw some (c .quote-of .ensures ∙ ap₂ quoteOf (c .before .before .record-form .ensures) (c .before .before .before .cells-at .ensures)) }
+    let made = c .before .before .before in
+    let left = made .before .before .before in
+    let a = left .before .before .before .args in
+    let some : eqb (recordNumber (a .records .now) (a .at)) 0 ≡ false = ne-eqb (recordNumber (a .records .now) (a .at)) 0 (left .if1 .left) in
+    record {
+      says = rw (some, made .before .session-in .ensures);
+      shows = rw some (c .quote-of .ensures ∙ ap₂ quoteOf (c .before .before .record-form .ensures) (made .cells-at .ensures));
+    }
 
 pub read-at-spec : {M : Type 1} → statement M
 read-at-spec =
-    tie.close (tie.spec (search needs) (search needs) (λ c κs. search needs) returns (λ c κs. search needs) (λ c κs. search needs) (λ c κs. search needs) returns-2)
+    tie.close (tie.spec (search needs) (search needs) (λ c κs. search needs) returns (search needs) (search needs) (search needs) (λ c κs. search needs) (λ c κs. search needs) (λ c κs. search needs) (λ c κs. search needs) returns-2)

@@ -18,13 +18,15 @@ found : (c : tie.After-known-told) → let s = c .before .before .before .before
 found c = found-at (rw (c .before .at .given .1) at (c .before .before .before .find-record .ensures))
 
 read-at-requires : tie.Need-read-at-requires
-read-at-requires c κs = found c .2
+read-at-requires c κs = found (c .before) .2
 
 returns : tie.Need-returns
 returns c =
-    let told = c .before in
+    let shown = c .before in
+    let told = shown .before in
     let s = told .before .before .before .before .before .before .before .before .before in
-    record-read quoteOf blank Contract (lent s) (s .args .letter) (s .args .key .now) (s .args .level) (found told .0) (found told .1) (c .read-at .ensures)
+    record-read quoteOf blank Contract (lent s) (s .args .letter) (s .args .key .now) (s .args .level) (found told .0) (found told .1)
+    (rw (shown .stamp-shown .ensures) at (c .read-at .ensures))
 
 returns-2 : tie.Need-returns-2
 returns-2 c =
@@ -35,4 +37,4 @@ returns-2 c =
 
 pub read-record-spec : {M : Type 1} → statement M
 read-record-spec =
-    tie.close (tie.spec (λ c κs. search needs) (search needs) read-at-requires (search needs) (λ c κs. search needs) returns returns-2)
+    tie.close (tie.spec (λ c κs. search needs) (search needs) (λ c κs. search needs) read-at-requires (search needs) (λ c κs. search needs) returns returns-2)

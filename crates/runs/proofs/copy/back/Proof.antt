@@ -39,7 +39,7 @@ use Rattle.laws.specs.Lists.{copy-next}
 use Rattle.laws.specs.Order.{order}
 use mathlib.Core.Logic.{⊎-elim}
 use Rattle.runs.specs.declared.run.Run.{Run}
-use Rattle.runs.specs.Rows.{blank, over}
+use Rattle.runs.specs.Rows.{blank, over, mostRuns}
 use Rattle.runs.specs.RowsLaws.{over-is}
 use Rattle.runs.proofs.Walks.{R, Runs, run-mir, runs-mir, run-typed, runs-val, runs-tells, runs-typed, slot-in, slot-out, at-place, within, Upto, Nearer, Nearer-wf, entry, meets-by, gives, reads-run, stores-run, AtMost, CopyBack, to-back, limits}
 use Rattle.runs.proofs.run.at_most.Symbol as at-most-def
@@ -57,7 +57,7 @@ word = tyInt w64
 abbrev slice : Ty
 slice = sliceTy (tyRef (named 0) mut (pointee (R .written)))
 
-module _ {M : Type 1} (𝓤 : URA M) (H : Heap 𝓤) (A : Atoms 𝓤) (W : Given 𝓤 H A) (mem : Memory → SProp 𝓤) (run : Routine → Fun 𝓤) (κ : Lft) (q : Share) (xs : List Run) (b o : ℕ) (γ : GName) (ys : List Run) (all : length xs ≡ 132) (gn : Room R (length ys)) where
+module _ {M : Type 1} (𝓤 : URA M) (H : Heap 𝓤) (A : Atoms 𝓤) (W : Given 𝓤 H A) (mem : Memory → SProp 𝓤) (run : Routine → Fun 𝓤) (κ : Lft) (q : Share) (xs : List Run) (b o : ℕ) (γ : GName) (ys : List Run) (all : length xs ≡ mostRuns) (gn : Room R (length ys)) where
   abbrev y : CopyBack 𝓤 H A mem run .Ghost
   y = to-back 𝓤 H A mem run κ q b o γ ys xs (runs-val xs)
 
@@ -66,7 +66,7 @@ module _ {M : Type 1} (𝓤 : URA M) (H : Heap 𝓤) (A : Atoms 𝓤) (W : Given
 
   -- how far the loop counts, and the slice after i turns
   abbrev n : ℕ
-  n = min (length ys) 132
+  n = min (length ys) mostRuns
 
   abbrev copied : ℕ → List Run
   copied i = take i xs ++ drop i ys

@@ -41,7 +41,7 @@ use Rattle.laws.specs.Lists.{copy-next}
 use Rattle.laws.specs.Order.{order}
 use mathlib.Core.Logic.{⊎-elim}
 use Rattle.runs.specs.declared.run.Run.{Run}
-use Rattle.runs.specs.Rows.{blank, blanks}
+use Rattle.runs.specs.Rows.{blank, blanks, mostRuns}
 use Rattle.runs.specs.RowsLaws.{over-is}
 use Rattle.runs.proofs.run.Run as T
 use Rattle.runs.proofs.run.Run.Laws as T′
@@ -76,12 +76,12 @@ module _ {M : Type 1} (𝓤 : URA M) (H : Heap 𝓤) (A : Atoms 𝓤) (W : Given
 
   -- how far the loop counts, and the array after i turns
   abbrev n : ℕ
-  n = min (length ys) 132
+  n = min (length ys) mostRuns
 
   abbrev copied : ℕ → List Run
   copied i = take i ys ++ drop i blanks
 
-  copied-length : (i : ℕ) → i ≤ n → length (copied i) ≡ 132
+  copied-length : (i : ℕ) → i ≤ n → length (copied i) ≡ mostRuns
   copied-length i h = simp (length-append, length-take, length-drop) (omega arith)
 
   module _ (𝓣 : Tables 𝓤 H) (q′ : Share) (l₀ l₁ l₂ l₃ l₄ l₅ l₆ l₇ l₈ l₉ l₁₀ l₁₁ l₁₂ l₁₃ : ℕ) where
@@ -127,7 +127,7 @@ module _ {M : Type 1} (𝓤 : URA M) (H : Heap 𝓤) (A : Atoms 𝓤) (W : Given
         forget ! 2 refl $ forget ! 4 refl $ forget ! 6 refl $ forget ! 8 refl $ forget ! 10 refl $ forget ! 12 refl $ forget ! 14 refl $
         again ! (Nearer n) At i (i .0 + 1, add-one-le less) (add-one-dec n (i .0) less))
       where
-        in-blanks : i .0 < 132
+        in-blanks : i .0 < mostRuns
         in-blanks = omega arith
 
         in-array : i .0 < length (copied (i .0))

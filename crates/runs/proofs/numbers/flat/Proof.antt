@@ -6,16 +6,16 @@ use native.Mathlib.Omega.{arith}
 use lib.ListN.{length, getD, set, take, drop, replicate, length-set}
 use lib.Seq.{take-all}
 use Rattle.runs.specs.declared.run.Run.{Run}
-use Rattle.runs.specs.Rows.{flat, blank}
+use Rattle.runs.specs.Rows.{flat, blank, mostRuns, most}
 use Rattle.runs.specs.FlatLaws.{flat-more}
 use Rattle.runs.proofs.numbers.flat.Statement.{statement}
 use Rattle.runs.proofs.numbers.flat.Tie as tie
 
 abbrev Inv-loop : tie.InvT-loop
-Inv-loop runs numbers₀ i₀ numbers i = (i ≤ 132) × (length numbers ≡ 264) × (numbers ≡ flat (take i runs) ++ drop (2 * i) numbers₀)
+Inv-loop runs numbers₀ i₀ numbers i = (i ≤ mostRuns) × (length numbers ≡ most) × (numbers ≡ flat (take i runs) ++ drop (2 * i) numbers₀)
 
 abbrev μ-loop : tie.MeasureT-loop
-μ-loop runs numbers₀ i₀ numbers i = 132 - i
+μ-loop runs numbers₀ i₀ numbers i = mostRuns - i
 
 loop-holds : tie.Need-loop-holds Inv-loop μ-loop
 loop-holds c = (omega arith, refl, refl)
@@ -26,11 +26,11 @@ loop-again c =
     let s = c .before .before .before in
     let runs : List Run = s .args .t1 in
     let run : Run = getD runs (l .i) blank in
-    let long : length runs ≡ 132 = s .good .0 .1 .0 .1 in (
+    let long : length runs ≡ mostRuns = s .good .0 .1 .0 .1 in (
       omega arith,
       length-set (set (l .numbers) (2 * l .i) (run .first)) (2 * l .i + 1) (run .last) ∙ length-set (l .numbers) (2 * l .i) (run .first) ∙ l .inv .1,
       ap (λ (ns : List ℕ). set (set ns (2 * l .i) (run .first)) (2 * l .i + 1) (run .last)) (l .inv .2)
-          ∙ flat-more runs (replicate 264 0) (l .i) (omega arith) (omega arith),
+          ∙ flat-more runs (replicate most 0) (l .i) (omega arith) (omega arith),
     )
 
 returns : tie.Need-returns Inv-loop μ-loop
@@ -38,12 +38,12 @@ returns c =
     let l = c .before .loop in
     let s = c .before .before in
     let runs : List Run = s .args .t1 in
-    let long : length runs ≡ 132 = s .good .0 .1 .0 .1 in
-    let all : l .i ≡ 132 = omega arith in
+    let long : length runs ≡ mostRuns = s .good .0 .1 .0 .1 in
+    let all : l .i ≡ mostRuns = omega arith in
     l .inv .2
-    ∙ ap (λ (k : ℕ). flat (take k runs) ++ drop (2 * k) (replicate 264 0)) all
-    ∙ append-nil (flat (take 132 runs))
-    ∙ ap flat (take-all 132 runs (omega arith))
+    ∙ ap (λ (k : ℕ). flat (take k runs) ++ drop (2 * k) (replicate most 0)) all
+    ∙ append-nil (flat (take mostRuns runs))
+    ∙ ap flat (take-all mostRuns runs (omega arith))
 
 pub flat-spec : {M : Type 1} → statement M
 flat-spec =

@@ -5,16 +5,16 @@ use native.Mathlib.Omega.{arith}
 use borrow.Author.Needs.{needs}
 use lib.ListN.{length, take, length-set}
 use lib.Seq.{take-all}
-use Rattle.runs.specs.Rows.{flat}
+use Rattle.runs.specs.Rows.{flat, mostRuns, most}
 use Rattle.runs.specs.FlatLaws.{paired-more}
 use Rattle.runs.proofs.numbers.paired.Statement.{statement}
 use Rattle.runs.proofs.numbers.paired.Tie as tie
 
 abbrev Inv-loop : tie.InvT-loop
-Inv-loop numbers runs₀ i₀ runs i = (i ≤ 132) × (length runs ≡ 132) × (flat (take i runs) ≡ take (2 * i) numbers)
+Inv-loop numbers runs₀ i₀ runs i = (i ≤ mostRuns) × (length runs ≡ mostRuns) × (flat (take i runs) ≡ take (2 * i) numbers)
 
 abbrev μ-loop : tie.MeasureT-loop
-μ-loop numbers runs₀ i₀ runs i = 132 - i
+μ-loop numbers runs₀ i₀ runs i = mostRuns - i
 
 loop-holds : tie.Need-loop-holds Inv-loop μ-loop
 loop-holds c = (omega arith, ap length (c .blanks .ensures), refl)
@@ -23,15 +23,15 @@ loop-again : tie.Need-loop-again Inv-loop μ-loop
 loop-again c =
     let l = c .before .loop in
     let s = c .before .before .before in
-    let long : length (s .args .t1) ≡ 264 = s .good .0 .1 .0 .1 in
+    let long : length (s .args .t1) ≡ most = s .good .0 .1 .0 .1 in
     (omega arith, length-set (l .runs) (l .i) _ ∙ l .inv .1, paired-more (l .runs) (s .args .t1) (l .i) (omega (arith, l .inv .1)) (omega (arith, long)) (l .inv .2))
 
 returns : tie.Need-returns Inv-loop μ-loop
 returns c =
     let l = c .before .loop in
     let s = c .before .before .before in
-    let long : length (s .args .t1) ≡ 264 = s .good .0 .1 .0 .1 in
-    let all : l .i ≡ 132 = omega arith in
+    let long : length (s .args .t1) ≡ most = s .good .0 .1 .0 .1 in
+    let all : l .i ≡ mostRuns = omega arith in
     ap flat (sym (take-all (l .i) (l .runs) (omega (arith, l .inv .1, all))))
     ∙ l .inv .2
     ∙ take-all (2 * l .i) (s .args .t1) (omega (arith, long, all))

@@ -40,7 +40,7 @@ add-pairs c =
 module _ (list spreads : List ℕ) (segment : ℕ) (under : (j : ℕ) → getD list j 0 < 256) (pairs-under : (j : ℕ) → getD spreads j 0 < 256) where
   abbrev fronts : Fronts
   fronts =
-      record { contracts = 48 * contractsBefore list segment; pairs = 48 * contractsOf list + 38 * contractsBefore spreads segment }
+      record { contracts = 52 * contractsBefore list segment; pairs = 52 * contractsOf list + 38 * contractsBefore spreads segment }
 
   fronts-are : FrontsOf (lists list spreads) segment fronts
   fronts-are = record { are = are; small = small }

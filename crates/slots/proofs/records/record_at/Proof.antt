@@ -27,7 +27,7 @@ add-first : tie.Need-add-first
 add-first c = omega (arith, small c)
 
 add-result : tie.Need-add-result
-add-result c = let d = c .before .before .before in omega (arith, small d, c .level-one .ensures, level-small (start d .args .item) One)
+add-result c = let d = c .before .before .before in omega (arith, small d, c .level-cells .ensures, level-small (start d .args .item) One)
 
 returns : tie.Need-returns
 returns c = let d = c .before .before in rw (c .enum-told .given .1) (omega (arith, d .before .front-in .ensures, before-it d))
@@ -35,7 +35,7 @@ returns c = let d = c .before .before in rw (c .enum-told .given .1) (omega (ari
 returns-2 : tie.Need-returns-2
 returns-2 c =
     let d = c .before .before .before in
-    rw (c .before .enum-told2 .given .1) (omega (arith, d .before .front-in .ensures, before-it d, c .level-one .ensures))
+    rw (c .before .enum-told2 .given .1) (omega (arith, d .before .front-in .ensures, before-it d, c .level-cells .ensures))
 
 pub record-at-spec : {M : Type 1} → statement M
 record-at-spec =

@@ -17,6 +17,13 @@ returns c = rw (subject-is (c .before .before) (c .enum-told .given .1)) (refl, 
 record-at-requires : tie.Need-record-at-requires
 record-at-requires c κs = let s = c .before .before .before .before .before .before in (s .pre .1 (c .before .item .given .0 .0), s .pre .2)
 
+keep-requires : tie.Need-keep-requires
+keep-requires c κs =
+    let r = c .before in
+    let l = r .before .before in
+    let s = l .before .before .before .before .before in
+    (s .pre .0, subject-is (l .before .before) (l .item .given .1), s .pre .3)
+
 returns-2 : tie.Need-returns-2
 returns-2 c =
     let k = c .before .before in
@@ -26,4 +33,4 @@ returns-2 c =
 
 pub keep-update-spec : {M : Type 1} → statement M
 keep-update-spec =
-    tie.close (tie.spec (λ c κs. search needs) (search needs) (search needs) record-at-requires (λ c κs. search needs) returns (search needs) returns-2)
+    tie.close (tie.spec (λ c κs. search needs) (search needs) (search needs) record-at-requires keep-requires returns (search needs) returns-2)

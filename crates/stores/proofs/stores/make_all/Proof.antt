@@ -21,10 +21,10 @@ module _ (c : tie.In-loop Inv-loop μ-loop) where
   abbrev start : tie.Start Inv-loop μ-loop
   start = c .before .before .before .before
 
-  slot : take (35 * c .before .loop .i + 35 - 35 * c .before .loop .i) (drop (35 * c .before .loop .i) (start .args .stores .now)) ≡ storeOf (start .args .stores .now) (c .before .loop .i)
+  slot : take (37 * c .before .loop .i + 37 - 37 * c .before .loop .i) (drop (37 * c .before .loop .i) (start .args .stores .now)) ≡ storeOf (start .args .stores .now) (c .before .loop .i)
   slot =
-      let n : 35 * c .before .loop .i + 35 - 35 * c .before .loop .i ≡ 35 = omega arith in
-      ap (λ (k : ℕ). take k (drop (35 * c .before .loop .i) (start .args .stores .now))) n
+      let n : 37 * c .before .loop .i + 37 - 37 * c .before .loop .i ≡ 37 = omega arith in
+      ap (λ (k : ℕ). take k (drop (37 * c .before .loop .i) (start .args .stores .now))) n
 
 loop-holds : tie.Need-loop-holds Inv-loop μ-loop
 loop-holds c = (omega arith, refl, refl)
@@ -33,8 +33,8 @@ make-requires : tie.Need-make-requires Inv-loop μ-loop
 make-requires c κs =
     let d = c .before .before in
     let s = start d in
-    let there : length (storeOf (s .args .stores .now) (d .before .loop .i)) ≡ 35 =
-    length-take-le 35 (drop (35 * d .before .loop .i) (s .args .stores .now)) (simp length-drop (omega (arith, s .pre .0, d .loop-test .taken))) in
+    let there : length (storeOf (s .args .stores .now) (d .before .loop .i)) ≡ 37 =
+    length-take-le 37 (drop (37 * d .before .loop .i) (s .args .stores .now)) (simp length-drop (omega (arith, s .pre .0, d .loop-test .taken))) in
     rw (slot d) (there, rw (d .before .loop .inv .1) (s .pre .1 (d .before .loop .i) (d .loop-test .taken)))
 
 loop-again : tie.Need-loop-again Inv-loop μ-loop

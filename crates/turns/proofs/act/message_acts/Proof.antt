@@ -77,7 +77,7 @@ module _ (c : tie.After-number-acts2) where
   abbrev changed : List ℕ → List ℕ
   changed =
       let s = start read in
-      updated (both read) (segmentOf (both read .contracts) (s .args .letter)) place (subjectOf (update .what2 .given .0 .1 .0)) (update .what2 .given .0 .0) (message read .cells)
+      updated (both read) (segmentOf (both read .contracts) (s .args .letter)) place (subjectOf (update .what2 .given .0 .1 .0)) (update .what2 .given .0 .1 .0) (update .what2 .given .0 .0) (message read .cells)
 
 read-requires : tie.Need-read-requires
 read-requires c κs = c .before .before .before .before .before .pre .segment-is

@@ -27,7 +27,7 @@
  *
  * A length counts elements, not bytes. Where it is 0 the pointer may be NULL; every other pointer points to as many
  * elements as are said, aligned for their type. What a call writes overlaps nothing else that it is handed. Calls
- * that share no memory which one of them writes may run at the same time. A call uses some 50 KB of stack at most.
+ * that share no memory which one of them writes may run at the same time. A call uses some 55 KB of stack at most.
  */
 #ifndef QUOTEBOX_H
 #define QUOTEBOX_H

@@ -6,7 +6,6 @@ use mathlib.Core.List.{List}
 use mathlib.Core.Option.{Option, some}
 use lib.ListN.{length}
 use Rattle.files.specs.File.{segmentsOf}
-use Rattle.contracts.specs.Sound.{Header}
 use Rattle.pairs.specs.Lists.{Lists, Headers}
 use Rattle.head.specs.Fields.{segmentLetterOf}
 use Rattle.sequence.specs.RowLaid.{soundGapRow}

@@ -11,7 +11,6 @@ use Rattle.files.specs.BelowLaws.{each-passes}
 use Rattle.files.specs.File.{segmentsOf}
 use Rattle.lookup.specs.Lookup.{segmentOf}
 use Rattle.lookup.specs.LookupLaws.{segment-has}
-use Rattle.contracts.specs.Sound.{Header}
 use Rattle.pairs.specs.Lists.{Lists, Headers}
 use Rattle.slots.specs.declared.records.Fronts.{Fronts}
 use Rattle.message.specs.declared.body.What.{What}

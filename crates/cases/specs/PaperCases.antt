@@ -9,7 +9,7 @@ use mathlib.Core.Option.{some}
 use lib.ListN.{length, replicate, drop, set}
 use Rattle.laws.specs.Texts.{codes}
 use Rattle.accumulator.specs.Accumulator.{bitStep, byteStep}
-use Rattle.wire.specs.Checksum.{sumOf, checksumOf}
+use Rattle.checksum.specs.Checksum.{sumOf, checksumOf}
 use Rattle.scan.specs.Answers.{numberNumbers}
 use Rattle.decimal.specs.Kinds.{price}
 use Rattle.scan.specs.Read.{readAs, step, walk}

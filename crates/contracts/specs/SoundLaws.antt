@@ -6,7 +6,6 @@ use mathlib.Core.Bool.{true}
 use mathlib.Core.List.{List}
 use native.Mathlib.Numerals.{add-one}
 use native.Mathlib.Omega.{arith}
-use lib.ListN.{length}
 use Rattle.laws.specs.Order.{climbs}
 use Rattle.laws.specs.Tests.{both, conj}
 use Rattle.wire.specs.Bytes.{allPrintable}

@@ -110,7 +110,7 @@ fn carries_right(bytes: &[u8], whole: usize) -> bool
     ensures { λ r. ⌜ r ≡ sameBytes (sumSent (now (bytes .entry))) (rightSum (now (bytes .entry))) ⌝ }
 {
     let end = whole - fields::TRAILER;
-    let sent = wire::sent(wire::sum(&bytes[..end]));
+    let sent = checksum::sent(checksum::sum(&bytes[..end]));
     carries(bytes, whole, sent[0], sent[1])
 }
 

@@ -16,7 +16,6 @@ use Rattle.layout.specs.Cells.{sessionCell}
 use Rattle.forms.specs.declared.forms.Item.{Item}
 use Rattle.forms.specs.declared.forms.Item.the-variants.{Contract, Pair}
 use Rattle.pairs.specs.NoSpreads.{noSpreads}
-use Rattle.quote.specs.declared.quote.Quote.{Quote}
 use Rattle.sequence.specs.Gaps.{Gaps}
 use Rattle.sequence.specs.Runs.{Run}
 use Rattle.state.specs.declared.refusal.Refusal.{Refusal}

@@ -49,7 +49,7 @@ use Rattle.history.specs.Exactly.{UpdateSays}
 use Rattle.reading.specs.Record.{stampShown}
 use Rattle.reading.specs.Shown.{QuoteFor, shown, cellsFor, stampIn, ShowsEach}
 use Rattle.history.specs.Kept.{FitsSlot}
-use Rattle.history.specs.Updates.{slotOf, itemIn, levelIn}
+use Rattle.history.specs.Updates.{slotOf, itemIn}
 use Rattle.history.specs.Machine.{isNumbered, sequenceNumber, whatForm, formSent}
 
 -- what storing an update in its slot does to records

@@ -6,7 +6,6 @@ use mathlib.Core.Logic.{_⊎_, ⊎-elim}
 use native.Mathlib.Omega.{arith}
 use lib.ListN.{length, getD, take, drop, length-append}
 use lib.Seq.{sets, sets-eq, take-at, drop-at, drop-drop, drop-append-add, length-take-le, getD-take, getD-drop}
-use Rattle.pairs.specs.Lists.{Lists}
 use Rattle.laws.specs.Lists.{part-of-front}
 
 -- a number by the part that it is

@@ -24,10 +24,8 @@ use Rattle.forms.specs.declared.forms.Named.{Named}
 use Rattle.forms.specs.declared.forms.Named.the-variants as is
 use Rattle.forms.specs.declared.forms.Subject.{Subject}
 use Rattle.forms.specs.declared.forms.Subject.the-variants.{Nothing, Of}
-use Rattle.forms.specs.declared.rows.Level.{Level}
-use Rattle.forms.specs.declared.rows.Level.the-variants.{One, Two}
 use Rattle.forms.specs.declared.forms.Form.{Form}
-use Rattle.forms.specs.Forms.{namedRows, rowsOf, recordForm, subjectOf}
+use Rattle.forms.specs.Forms.{namedRows, rowsOf, subjectOf}
 use Rattle.forms.specs.declared.forms.Form.the-variants.{Heartbeat, LevelOne, LevelTwo, PairOne, PairTwo, FutureOne, FutureTwo, PreOpenOne, PreOpenTwo}
 use Rattle.forms.specs.Rows.{messageLength}
 use Rattle.head.specs.declared.head.Fault.{Fault}

@@ -5,8 +5,8 @@ use crate::say::say_runs;
 use crate::say::say_with;
 use sequence::CELLS;
 use sequence::GapsListed;
-use sequence::Taken;
 use sequence::WriteOff;
+use taking::Taken;
 
 pub fn say_start(row: &mut [u32; CELLS], number: u32) {
     sequence::start(row, number);
@@ -23,7 +23,7 @@ fn say_answer(answer: Taken) {
 
 pub fn say_taken(row: &mut [u32; CELLS], number: u32) {
     if sequence::sound(row) {
-        say_answer(sequence::take(row, number));
+        say_answer(taking::take(row, number));
     }
 }
 

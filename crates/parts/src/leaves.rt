@@ -10,7 +10,7 @@ use amount::Quantity;
 use amount::Turnover;
 
 pub fn say_sum(text: &[u8]) {
-    let sent = wire::sent(wire::sum(text));
+    let sent = checksum::sent(checksum::sum(text));
     say_with(b"", sent[0] as u64);
     say_with(b" ", sent[1] as u64);
 }

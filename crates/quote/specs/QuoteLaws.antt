@@ -1,7 +1,7 @@
 -- Laws of the quote, its cells and its values: each gives back the other.
 use Prim.Native.Nat.{ℕ, _<_}
 use mathlib.Core.Path.{_≡_, refl, ap, sym, _∙_}
-use mathlib.Core.Bool.{true, false, false≢true}
+use mathlib.Core.Bool.{false, false≢true}
 use mathlib.Core.List.{List, _++_}
 use mathlib.Core.Option.{some}
 use lib.ListN.{length, getD}

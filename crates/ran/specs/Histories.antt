@@ -22,8 +22,8 @@ use Rattle.starting.specs.StartPromises.{PutNoSpreads}
 use Rattle.writer.specs.WriterPromises.{WroteValues}
 use Rattle.reading.specs.Shown.{QuoteFor, shown, blankFor, ReadsItem}
 use Rattle.history.specs.Past.{Event, afterTake, afterWriteOff}
-use Rattle.runs.specs.declared.run.Run.{Run}
-use Rattle.runs.specs.Rows.{flat}
+use Rattle.copies.specs.declared.run.Run.{Run}
+use Rattle.copies.specs.Rows.{flat}
 use Rattle.runs.specs.Promises.{StartedRuns, JudgedRuns, TookRuns, ListedGaps, WroteOffRuns, ReadsRuns}
 
 -- demand 3, "After any sequence of calls from a fresh start": the runs and records that a history leaves, and its past: `lists` and

@@ -13,9 +13,10 @@ use Rattle.history.specs.HistoriesLaws.{reached-begun, reached-take, reached-of
 use Rattle.history.specs.Exactly.{SameTaken}
 use Rattle.history.specs.Demands.{AfterCalls}
 use Rattle.history.specs.DemandsLaws.{after-calls, two-agree}
-use Rattle.runs.specs.declared.run.Run.{Run}
-use Rattle.runs.specs.Rows.{flat, runsWanted}
-use Rattle.runs.specs.FlatLaws.{length-flat}
+use Rattle.copies.specs.declared.run.Run.{Run}
+use Rattle.copies.specs.Rows.{flat}
+use Rattle.runs.specs.Wanted.{runsWanted}
+use Rattle.copies.specs.FlatLaws.{length-flat}
 use Rattle.runs.specs.PromisesLaws.{judged-enough, took-enough, listed-enough, wrote-off-enough, read-enough, started-core, started-refused}
 use Rattle.ran.specs.Histories.{ReachedRuns, begun, refusedStart, judge, take, listGaps, writeOff, readRecord, writeMessage, noSpreads, AsNumbers, AgreeRuns}
 

@@ -3,9 +3,10 @@ use Prim.Native.Nat.{ℕ, _*_, min}
 use mathlib.Core.Path.{_≡_, sym, ap, _∙_}
 use mathlib.Core.List.{List}
 use lib.ListN.{length, take}
-use Rattle.runs.specs.declared.run.Run.{Run}
-use Rattle.runs.specs.Rows.{flat, inRuns, mostRuns}
-use Rattle.runs.specs.FlatLaws.{in-front, in-fronts, front-length}
+use Rattle.copies.specs.declared.run.Run.{Run}
+use Rattle.copies.specs.Rows.{flat, mostRuns}
+use Rattle.runs.specs.Wanted.{inRuns}
+use Rattle.copies.specs.FlatLaws.{in-front, in-fronts, front-length}
 use Rattle.runs.specs.Promises.{Over}
 
 module _ {A : Type 0} (numbersOf : A → List ℕ) (list : List ℕ) (runs : List Run) (lent count : ℕ) (numbers : List ℕ) (long : length runs ≡ mostRuns) (few : count ≡ min lent mostRuns) (same : numbers ≡ flat runs) (core answer : A)

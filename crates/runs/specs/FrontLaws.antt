@@ -20,7 +20,7 @@ use Rattle.sequence.specs.RowLaid.{soundGapRow}
 use Rattle.state.specs.Memory.{Lent, lends, gapRowCells, gapRowsWanted, gapRowOf, gapRowIn, gapRowOfLetter}
 use Rattle.state.specs.MemoryRows.{withGapRow, gapRowsSound, withGapRowIn, withGapRowOfLetter}
 use Rattle.state.specs.State.{stateRules}
-use Rattle.runs.specs.Rows.{most}
+use Rattle.copies.specs.Rows.{most}
 
 module _ (a z : List ℕ) (room : most ≤ length a) where
   row-front : (i : ℕ) → i < mostSegments → gapRowOf (a ++ z) i ≡ gapRowOf a i

@@ -31,10 +31,12 @@ use Rattle.listing.specs.ListPromises.{ListedRuns, WroteOffRun}
 use Rattle.reading.specs.Reads.{ReadsFor}
 use Rattle.batch.specs.Promises.{JudgedBatch, TookBatch}
 use Rattle.state.specs.Refusals.{refusalNumbers}
-use Rattle.runs.specs.declared.run.Run.{Run}
-use Rattle.runs.specs.Rows.{flat, blanks, over, array, lent, most, inRuns, mostRuns}
-use Rattle.runs.specs.RowsLaws.{over-is, in-runs-enough, in-runs-other}
-use Rattle.runs.specs.FlatLaws.{flat-append, flat-take, flat-drop}
+use Rattle.copies.specs.declared.run.Run.{Run}
+use Rattle.copies.specs.Rows.{flat, blanks, over, array, lent, most, mostRuns}
+use Rattle.runs.specs.Wanted.{inRuns}
+use Rattle.copies.specs.RowsLaws.{over-is}
+use Rattle.runs.specs.WantedLaws.{in-runs-enough, in-runs-other}
+use Rattle.copies.specs.FlatLaws.{flat-append, flat-take, flat-drop}
 use Rattle.runs.specs.FrontLaws.{whole}
 use Rattle.runs.specs.WholeLaws.{started-unlisted, started-front, judged-unlisted, judged-front, took-front, listed-unlisted, listed-front, wrote-unlisted, wrote-front, read-unlisted, read-front}
 use Rattle.runs.specs.Promises.{Over, StartedRuns, JudgedRuns, TookRuns, ListedGaps, WroteOffRuns, ReadsRuns}

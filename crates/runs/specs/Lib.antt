@@ -1,9 +1,8 @@
 pub mod ArrayLaws
-pub mod FlatLaws
 pub mod FrontLaws
 pub mod LentLaws
 pub mod Promises
 pub mod PromisesLaws
-pub mod Rows
-pub mod RowsLaws
+pub mod Wanted
+pub mod WantedLaws
 pub mod WholeLaws

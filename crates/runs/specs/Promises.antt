@@ -31,8 +31,9 @@ use Rattle.forms.specs.declared.forms.Item.{Item}
 use Rattle.forms.specs.declared.forms.Item.the-variants.{Contract, Pair}
 use Rattle.starting.specs.Start.{eachStarts}
 use Rattle.reading.specs.Shown.{QuoteFor, shown, blankFor}
-use Rattle.runs.specs.declared.run.Run.{Run}
-use Rattle.runs.specs.Rows.{flat, inRuns}
+use Rattle.copies.specs.declared.run.Run.{Run}
+use Rattle.copies.specs.Rows.{flat}
+use Rattle.runs.specs.Wanted.{inRuns}
 
 -- 01 "Which form goes where", the lent row of runs: a call over runs is the call over numbers on the runs seen as numbers; but 15 for
 -- gap rows names runs. What that call promises is said of the numbers lent, of those left, and of its answer.

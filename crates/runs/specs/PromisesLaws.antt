@@ -2,7 +2,7 @@
 -- answer of the call over numbers, so that what is known of that call is known of this one.
 use Prim.Native.Nat.{ℕ, _*_, _≤_, _<_}
 use mathlib.Core.Path.{_≡_, refl, ap, sym, _∙_, subst}
-use mathlib.Core.Bool.{true, false}
+use mathlib.Core.Bool.{false}
 use mathlib.Core.List.{List, [], _∷_, _++_}
 use mathlib.Core.Option.{Option, none, some}
 use native.Mathlib.Omega.{arith}
@@ -43,10 +43,11 @@ use Rattle.state.specs.RefusalsLaws.{never-behind}
 use Rattle.starting.specs.StartLaws.{memory-decides}
 use Rattle.state.specs.StateLaws.{state-broken}
 use Rattle.batch.specs.TookLaws.{one-judged, one-took, refused-keeps}
-use Rattle.runs.specs.declared.run.Run.{Run}
-use Rattle.runs.specs.Rows.{flat, runsWanted, inRuns}
-use Rattle.runs.specs.RowsLaws.{in-runs-short, in-runs-enough, in-runs-other, in-runs-first}
-use Rattle.runs.specs.FlatLaws.{length-flat, flat-told}
+use Rattle.copies.specs.declared.run.Run.{Run}
+use Rattle.copies.specs.Rows.{flat}
+use Rattle.runs.specs.Wanted.{runsWanted, inRuns}
+use Rattle.runs.specs.WantedLaws.{in-runs-short, in-runs-enough, in-runs-other, in-runs-first}
+use Rattle.copies.specs.FlatLaws.{length-flat, flat-told}
 use Rattle.batch.specs.BatchLaws.{front-numbers}
 use Rattle.runs.specs.Promises.{Over, StartedRuns, JudgedRuns, TookRuns, ListedGaps, WroteOffRuns, ReadsRuns, HeadersPass, UpToMemory}
 

@@ -54,7 +54,7 @@ use Rattle.starting.specs.Start.{startRules}
 use Rattle.starting.specs.StartActs.{startBroken, startedRows, rowsStarted, recordsCleared, lentStarted}
 use Rattle.state.specs.State.{stateRules, segmentRules}
 use Rattle.state.specs.Refusals.{Rule, refusalNumbers}
-use Rattle.runs.specs.Rows.{most}
+use Rattle.copies.specs.Rows.{most}
 use Rattle.runs.specs.FrontLaws.{longer, rows-within, rows-lent, state-front, letter-front, with-front}
 
 told-as : (o : Option Refusal) (values : List ℕ) → o ≡ some ListOf → answered o values ≡ refusalNumbers ListOf

@@ -1,9 +1,8 @@
 // The public calls: the runs are copied out of the lent rows, the call over numbers is made, and they are copied back.
 ghost use Rattle.pairs.specs.Lists.{lists};
 ghost use Rattle.runs.specs.Promises.{StartedRuns, JudgedRuns, TookRuns, ListedGaps, WroteOffRuns, ReadRuns, ReadSpreadRuns};
-use crate::copy;
 use crate::front;
-use crate::run::Run;
+use copies::Run;
 use layout::Level;
 use quotebox::Judged;
 use quotebox::Listed;
@@ -21,16 +20,16 @@ pub fn start(
 ) -> Started
     ensures { λ r. ⌜ StartedRuns (lists (now (list .entry)) (now (spreads .entry))) (now (starts .entry)) (now (rows .entry)) (now (records .entry)) r (now (rows .exit)) (now (records .exit)) ⌝ }
 {
-    let runs = copy::out(rows);
+    let runs = copies::out(rows);
     let began = front::start(list, spreads, starts, runs, rows.len(), records);
-    copy::back(began.runs, rows);
+    copies::back(began.runs, rows);
     began.answer
 }
 
 pub fn judge(list: &[u8], spreads: &[u8], rows: &[Run], records: &[u64], batch: &[u8]) -> Judged
     ensures { λ r. ⌜ JudgedRuns (lists (now (list .entry)) (now (spreads .entry))) (now (rows .entry)) (now (records .entry)) (now (batch .entry)) r ⌝ }
 {
-    front::judge(list, spreads, copy::out(rows), rows.len(), records, batch)
+    front::judge(list, spreads, copies::out(rows), rows.len(), records, batch)
 }
 
 pub fn take(
@@ -42,9 +41,9 @@ pub fn take(
 ) -> Judged
     ensures { λ r. ⌜ TookRuns (lists (now (list .entry)) (now (spreads .entry))) (now (rows .entry)) (now (records .entry)) (now (batch .entry)) r (now (rows .exit)) (now (records .exit)) ⌝ }
 {
-    let runs = copy::out(rows);
+    let runs = copies::out(rows);
     let took = front::take(list, spreads, runs, rows.len(), records, batch);
-    copy::back(took.runs, rows);
+    copies::back(took.runs, rows);
     took.answer
 }
 
@@ -61,7 +60,7 @@ pub fn list_gaps(
     front::list_gaps(
         list,
         spreads,
-        copy::out(rows),
+        copies::out(rows),
         rows.len(),
         records,
         letter,
@@ -78,9 +77,9 @@ pub fn write_off(
 ) -> WrittenOff
     ensures { λ r. ⌜ WroteOffRuns (lists (now (list .entry)) (now (spreads .entry))) (now (rows .entry)) (now (records .entry)) letter r (now (rows .exit)) ⌝ }
 {
-    let runs = copy::out(rows);
+    let runs = copies::out(rows);
     let wrote = front::write_off(list, spreads, runs, rows.len(), records, letter);
-    copy::back(wrote.runs, rows);
+    copies::back(wrote.runs, rows);
     wrote.answer
 }
 
@@ -98,7 +97,7 @@ pub fn read_record(
     front::read_record(
         list,
         spreads,
-        copy::out(rows),
+        copies::out(rows),
         rows.len(),
         records,
         letter,
@@ -121,7 +120,7 @@ pub fn read_spread(
     front::read_spread(
         list,
         spreads,
-        copy::out(rows),
+        copies::out(rows),
         rows.len(),
         records,
         letter,

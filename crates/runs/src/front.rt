@@ -8,10 +8,8 @@ ghost use Rattle.starting.specs.StartPromises.{StartedBox};
 ghost use Rattle.listing.specs.ListPromises.{ListedRuns, WroteOffRun};
 ghost use Rattle.reading.specs.Reads.{ReadRecord, ReadSpread};
 ghost use Rattle.runs.specs.Promises.{StartedRuns, JudgedRuns, TookRuns, ListedGaps, WroteOffRuns, ReadRuns, ReadSpreadRuns};
-use crate::numbers;
 use crate::refusal;
-use crate::run;
-use crate::run::Run;
+use copies::Run;
 use layout::Level;
 use quotebox::Judged;
 use quotebox::Listed;
@@ -22,17 +20,17 @@ use quotebox::WrittenOff;
 
 pub(crate) struct Began {
     pub answer: Started,
-    pub runs: [Run; run::MOST],
+    pub runs: [Run; copies::MOST],
 }
 
 pub(crate) struct Took {
     pub answer: Judged,
-    pub runs: [Run; run::MOST],
+    pub runs: [Run; copies::MOST],
 }
 
 pub(crate) struct WroteOff {
     pub answer: WrittenOff,
-    pub runs: [Run; run::MOST],
+    pub runs: [Run; copies::MOST],
 }
 
 fn start_numbers(
@@ -53,18 +51,18 @@ pub(crate) fn start(
     list: &[u8],
     spreads: &[u8],
     starts: &[u32],
-    runs: [Run; run::MOST],
+    runs: [Run; copies::MOST],
     lent: usize,
     records: &mut [u64],
 ) -> Began
     ensures { λ r. ⌜ StartedRuns (lists (now (list .entry)) (now (spreads .entry))) (now (starts .entry)) (take lent runs) (now (records .entry)) (r .answer) (take lent (r .runs)) (now (records .exit)) ⌝ }
 {
-    let count = run::at_most(lent);
-    let mut numbers = numbers::flat(runs);
+    let count = copies::at_most(lent);
+    let mut numbers = copies::flat(runs);
     let answer = start_numbers(list, spreads, starts, &mut numbers, 2 * count, records);
     Began {
         answer: refusal::started(list, count, answer),
-        runs: numbers::paired(numbers),
+        runs: copies::paired(numbers),
     }
 }
 
@@ -85,15 +83,15 @@ fn judge_numbers(
 pub(crate) fn judge(
     list: &[u8],
     spreads: &[u8],
-    runs: [Run; run::MOST],
+    runs: [Run; copies::MOST],
     lent: usize,
     records: &[u64],
     batch: &[u8],
 ) -> Judged
     ensures { λ r. ⌜ JudgedRuns (lists (now (list .entry)) (now (spreads .entry))) (take lent runs) (now (records .entry)) (now (batch .entry)) r ⌝ }
 {
-    let count = run::at_most(lent);
-    let numbers = numbers::flat(runs);
+    let count = copies::at_most(lent);
+    let numbers = copies::flat(runs);
     let answer = judge_numbers(list, spreads, &numbers, 2 * count, records, batch);
     refusal::judged(list, count, answer)
 }
@@ -115,19 +113,19 @@ fn take_numbers(
 pub(crate) fn take(
     list: &[u8],
     spreads: &[u8],
-    runs: [Run; run::MOST],
+    runs: [Run; copies::MOST],
     lent: usize,
     records: &mut [u64],
     batch: &[u8],
 ) -> Took
     ensures { λ r. ⌜ TookRuns (lists (now (list .entry)) (now (spreads .entry))) (take lent runs) (now (records .entry)) (now (batch .entry)) (r .answer) (take lent (r .runs)) (now (records .exit)) ⌝ }
 {
-    let count = run::at_most(lent);
-    let mut numbers = numbers::flat(runs);
+    let count = copies::at_most(lent);
+    let mut numbers = copies::flat(runs);
     let answer = take_numbers(list, spreads, &mut numbers, 2 * count, records, batch);
     Took {
         answer: refusal::judged(list, count, answer),
-        runs: numbers::paired(numbers),
+        runs: copies::paired(numbers),
     }
 }
 
@@ -149,7 +147,7 @@ fn list_numbers(
 pub(crate) fn list_gaps(
     list: &[u8],
     spreads: &[u8],
-    runs: [Run; run::MOST],
+    runs: [Run; copies::MOST],
     lent: usize,
     records: &[u64],
     letter: u8,
@@ -157,8 +155,8 @@ pub(crate) fn list_gaps(
 ) -> Listed
     ensures { λ r. ⌜ ListedGaps (lists (now (list .entry)) (now (spreads .entry))) (take lent runs) (now (records .entry)) letter (now (cells .entry)) r (now (cells .exit)) ⌝ }
 {
-    let count = run::at_most(lent);
-    let numbers = numbers::flat(runs);
+    let count = copies::at_most(lent);
+    let numbers = copies::flat(runs);
     let answer = list_numbers(list, spreads, &numbers, 2 * count, records, letter, cells);
     refusal::listed(list, count, answer)
 }
@@ -180,19 +178,19 @@ fn write_off_numbers(
 pub(crate) fn write_off(
     list: &[u8],
     spreads: &[u8],
-    runs: [Run; run::MOST],
+    runs: [Run; copies::MOST],
     lent: usize,
     records: &[u64],
     letter: u8,
 ) -> WroteOff
     ensures { λ r. ⌜ WroteOffRuns (lists (now (list .entry)) (now (spreads .entry))) (take lent runs) (now (records .entry)) letter (r .answer) (take lent (r .runs)) ⌝ }
 {
-    let count = run::at_most(lent);
-    let mut numbers = numbers::flat(runs);
+    let count = copies::at_most(lent);
+    let mut numbers = copies::flat(runs);
     let answer = write_off_numbers(list, spreads, &mut numbers, 2 * count, records, letter);
     WroteOff {
         answer: refusal::written_off(list, count, answer),
-        runs: numbers::paired(numbers),
+        runs: copies::paired(numbers),
     }
 }
 
@@ -215,7 +213,7 @@ fn read_numbers(
 pub(crate) fn read_record(
     list: &[u8],
     spreads: &[u8],
-    runs: [Run; run::MOST],
+    runs: [Run; copies::MOST],
     lent: usize,
     records: &[u64],
     letter: u8,
@@ -224,8 +222,8 @@ pub(crate) fn read_record(
 ) -> Reading
     ensures { λ r. ⌜ ReadRuns (lists (now (list .entry)) (now (spreads .entry))) (take lent runs) (now (records .entry)) letter (now (key .entry)) level r ⌝ }
 {
-    let count = run::at_most(lent);
-    let numbers = numbers::flat(runs);
+    let count = copies::at_most(lent);
+    let numbers = copies::flat(runs);
     let reading = read_numbers(
         list,
         spreads,
@@ -271,7 +269,7 @@ fn read_spread_numbers(
 pub(crate) fn read_spread(
     list: &[u8],
     spreads: &[u8],
-    runs: [Run; run::MOST],
+    runs: [Run; copies::MOST],
     lent: usize,
     records: &[u64],
     letter: u8,
@@ -280,8 +278,8 @@ pub(crate) fn read_spread(
 ) -> SpreadReading
     ensures { λ r. ⌜ ReadSpreadRuns (lists (now (list .entry)) (now (spreads .entry))) (take lent runs) (now (records .entry)) letter (now (pair .entry)) level r ⌝ }
 {
-    let count = run::at_most(lent);
-    let numbers = numbers::flat(runs);
+    let count = copies::at_most(lent);
+    let numbers = copies::flat(runs);
     let reading = read_spread_numbers(
         list,
         spreads,

@@ -1,10 +1,7 @@
 // The public calls over a lent row of runs: document 01's gap list as a slice of structs.
 mod calls;
-mod copy;
 mod front;
-mod numbers;
 mod refusal;
-mod run;
 
 pub use calls::judge;
 pub use calls::list_gaps;
@@ -13,5 +10,5 @@ pub use calls::read_spread;
 pub use calls::start;
 pub use calls::take;
 pub use calls::write_off;
-pub use run::MOST;
-pub use run::Run;
+pub use copies::MOST;
+pub use copies::Run;

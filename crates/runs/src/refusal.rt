@@ -2,8 +2,7 @@
 ghost use mathlib.Core.Path.{_≡_};
 ghost use Rattle.state.specs.Refusals.{refusalNumbers};
 ghost use Rattle.state.specs.Answers.{startedNumbers, judgedNumbers, listedNumbers, writtenOffNumbers, recordedNumbers};
-ghost use Rattle.runs.specs.Rows.{inRuns};
-use crate::run;
+ghost use Rattle.runs.specs.Wanted.{inRuns};
 use quotebox::Judged;
 use quotebox::Listed;
 use quotebox::Recorded;
@@ -14,7 +13,7 @@ use quotebox::WrittenOff;
 fn in_runs(list: &[u8], lent: usize, refusal: Refusal) -> Refusal
     ensures { λ r. ⌜ refusalNumbers r ≡ inRuns (now (list .entry)) lent (refusalNumbers refusal) ⌝ }
 {
-    let wanted = run::ROW * files::segments(list);
+    let wanted = copies::ROW * files::segments(list);
     if let Refusal::Memory(_) = refusal {
         if lent < wanted {
             return Refusal::Memory(wanted);

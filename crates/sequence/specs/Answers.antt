@@ -11,7 +11,6 @@ use Rattle.sequence.specs.Runs.{Run}
 use Rattle.sequence.specs.Gaps.{Gaps, takes, wanted}
 use Rattle.sequence.specs.Changes.{after, full}
 use Rattle.sequence.specs.RowLaid.{flat}
-use Rattle.sequence.specs.declared.Taken.{Taken}
 use Rattle.sequence.specs.declared.WriteOff.{WriteOff}
 use Rattle.sequence.specs.declared.WriteOff.the-variants.{Removed, NoGap}
 use Rattle.sequence.specs.declared.GapsListed.{GapsListed}
@@ -32,12 +31,6 @@ oneOld = 0 ∷ 0 ∷ 1 ∷ []
 -- 01, the table's row 14
 abbrev pub refusedGaps : List ℕ
 refusedGaps = gapsNo ∷ []
-
--- 01 "What may be asked": of one number, how many were taken and old; or 14
-abbrev pub takenNumbers : Taken → List ℕ
-takenNumbers Taken.Taken = oneTaken
-takenNumbers Taken.Old = oneOld
-takenNumbers Taken.Full = refusedGaps
 
 -- 01 "Sequence and gaps": a number that is taken, unless too many runs would stand; all others are old
 unfoldable pub takeAnswer : Gaps → ℕ → List ℕ

@@ -5,21 +5,15 @@ use mathlib.Core.Path.{_≡_}
 use mathlib.Core.List.{List}
 use lib.ListN.{length, replicate}
 use Rattle.sequence.specs.Changes.{begun, wroteOff}
-use Rattle.sequence.specs.Answers.{listAnswer, writeOffAnswer, takeAnswer, took, takenNumbers, writeOffNumbers, listedNumbers, runsListed}
+use Rattle.sequence.specs.Answers.{listAnswer, writeOffAnswer, writeOffNumbers, listedNumbers, runsListed}
 use Rattle.sequence.specs.Row.{cells, gapsOf}
 use Rattle.sequence.specs.RowLaid.{laid}
-use Rattle.sequence.specs.declared.Taken.{Taken}
 use Rattle.sequence.specs.declared.WriteOff.{WriteOff}
 use Rattle.sequence.specs.declared.GapsListed.{GapsListed}
 
 -- 01 "Sequence and gaps": a segment's start, in a row that is cleared
 pub record Began (number : ℕ) (row′ : List ℕ) : Type 0 where
   pub left : row′ ≡ laid (replicate cells 0) (begun number)
-
--- 01 "Sequence and gaps": a number has come; it is taken, old, or would leave too many runs
-pub record Took (row : List ℕ) (number : ℕ) (answer : Taken) (row′ : List ℕ) : Type 0 where
-  pub says : takenNumbers answer ≡ takeAnswer (gapsOf row) number
-  pub left : row′ ≡ laid row (took (gapsOf row) number)
 
 -- 01 "Sequence and gaps": the lowest run is written off
 pub record WroteOff (row : List ℕ) (answer : WriteOff) (row′ : List ℕ) : Type 0 where

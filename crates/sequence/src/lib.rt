@@ -1,7 +1,5 @@
 // A segment's gap row, as numbers: start, highest, number of runs, 0, then 64 runs of first and last.
-mod late;
-mod runs;
-mod skip;
+pub mod runs;
 
 ghost use mathlib.Core.Path.{_≡_};
 ghost use mathlib.Core.Bool.{true};
@@ -12,7 +10,7 @@ ghost use Rattle.sequence.specs.Gaps.{most};
 ghost use Rattle.sequence.specs.SoundTests.{soundRuns};
 ghost use Rattle.sequence.specs.Row.{cells, head, gapsOf, runsOf};
 ghost use Rattle.sequence.specs.RowLaid.{soundGapRow};
-ghost use Rattle.sequence.specs.Promises.{Began, Took, WroteOff, ListedGaps};
+ghost use Rattle.sequence.specs.Promises.{Began, WroteOff, ListedGaps};
 
 // The numbers of a row, and how many runs it has room for.
 pub const CELLS: usize = 132;
@@ -22,19 +20,11 @@ pub const MOST: usize = 64;
 // Where a row has its start number, its highest, the number of its runs, and the first of them.
 const START: usize = 0;
 
-pub(crate) const HIGHEST: usize = 1;
+pub const HIGHEST: usize = 1;
 
 pub(crate) const COUNT: usize = 2;
 
 pub(crate) const HEAD: usize = 4;
-
-// What becomes of a number.
-pub enum Taken {
-    Taken,
-    Old,
-    // 14: more than 64 runs would stand, and the row is as it was.
-    Full,
-}
 
 // What a write-off answers: the run that it removed, or 17.
 pub enum WriteOff {
@@ -104,23 +94,6 @@ pub fn start(row: &mut [u32; CELLS], number: u32)
     if number != 0 {
         row[HIGHEST] = number - 1;
     }
-}
-
-// A number comes. The row has to be sound: to look would cost the number that comes in order, which is nearly every one,
-// more than all else does.
-pub fn take(row: &mut [u32; CELLS], number: u32) -> Taken
-    requires { ⌜ soundGapRow (now row) ≡ true ⌝ }
-    ensures { λ r. ⌜ Took (now (row .entry)) number r (now (row .exit)) ⌝ }
-{
-    let highest = row[HIGHEST];
-    if number <= highest {
-        return late::late(row, number);
-    }
-    if number - highest == 1 {
-        row[HIGHEST] = number;
-        return Taken::Taken;
-    }
-    skip::skip(row, number)
 }
 
 // The lowest run is removed.

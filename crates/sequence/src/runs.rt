@@ -15,7 +15,7 @@ ghost use Rattle.sequence.specs.RowLaid.{laid};
 ghost use Rattle.sequence.specs.Steps.{moved, replaced, divided, Stands};
 
 // How many runs stand.
-pub(crate) fn number(row: &[u32]) -> usize
+pub fn number(row: &[u32]) -> usize
     requires { ⌜ length (now row) ≡ cells ⌝ }
     ensures { λ r. ⌜ (r ≡ length (runsOf (now (row .entry)))) × (r ≤ most) ⌝ }
 {
@@ -23,14 +23,14 @@ pub(crate) fn number(row: &[u32]) -> usize
     if n < MOST { n } else { MOST }
 }
 
-pub(crate) fn first(row: &[u32], i: usize) -> u32
+pub fn first(row: &[u32], i: usize) -> u32
     requires { ⌜ Stands (now row) i ⌝ }
     ensures { λ r. ⌜ r ≡ run (runsOf (now (row .entry))) i .first ⌝ }
 {
     row[HEAD + 2 * i]
 }
 
-pub(crate) fn last(row: &[u32], i: usize) -> u32
+pub fn last(row: &[u32], i: usize) -> u32
     requires { ⌜ Stands (now row) i ⌝ }
     ensures { λ r. ⌜ r ≡ run (runsOf (now (row .entry))) i .last ⌝ }
 {
@@ -38,7 +38,7 @@ pub(crate) fn last(row: &[u32], i: usize) -> u32
 }
 
 // A run gets another first and last.
-pub(crate) fn put(row: &mut [u32; CELLS], i: usize, first: u32, last: u32)
+pub fn put(row: &mut [u32; CELLS], i: usize, first: u32, last: u32)
     requires { ⌜ Stands (now row) i × (count (now row) ≤ most) ⌝ }
     ensures { λ _. ⌜ now (row .exit) ≡ replaced (now (row .entry)) i (first to last ∷ []) ⌝ }
 {
@@ -48,7 +48,7 @@ pub(crate) fn put(row: &mut [u32; CELLS], i: usize, first: u32, last: u32)
 }
 
 // A run comes behind the others.
-pub(crate) fn append(row: &mut [u32; CELLS], first: u32, last: u32)
+pub fn append(row: &mut [u32; CELLS], first: u32, last: u32)
     requires { ⌜ (length (now row) ≡ cells) × (length (runsOf (now row)) < most) ⌝ }
     ensures { λ _. ⌜ now (row .exit) ≡ laid (now (row .entry)) (withRuns (gapsOf (now (row .entry))) (runsOf (now (row .entry)) ++ (first to last ∷ []))) ⌝ }
 {
@@ -72,7 +72,7 @@ fn draw_in(row: &mut [u32; CELLS], at: usize, end: usize)
 }
 
 // A run goes, and those behind it take its room.
-pub(crate) fn remove(row: &mut [u32; CELLS], i: usize)
+pub fn remove(row: &mut [u32; CELLS], i: usize)
     requires { ⌜ Stands (now row) i ⌝ }
     ensures { λ _. ⌜ now (row .exit) ≡ replaced (now (row .entry)) i [] ⌝ }
 {
@@ -94,7 +94,7 @@ fn spread(row: &mut [u32; CELLS], at: usize, end: usize)
 }
 
 // A run ends sooner, and another behind it has the rest from a number on.
-pub(crate) fn divide(row: &mut [u32; CELLS], i: usize, end: u32, begin: u32)
+pub fn divide(row: &mut [u32; CELLS], i: usize, end: u32, begin: u32)
     requires { ⌜ Stands (now row) i × (length (runsOf (now row)) < most) ⌝ }
     ensures { λ _. ⌜ now (row .exit) ≡ replaced (now (row .entry)) i (divided (run (runsOf (now (row .entry))) i) end begin) ⌝ }
 {

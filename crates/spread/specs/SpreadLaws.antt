@@ -1,7 +1,7 @@
 -- Laws of a pair's quote, its cells and its values: each gives back the other.
 use Prim.Native.Nat.{ℕ}
 use mathlib.Core.Path.{_≡_, ap, sym, _∙_}
-use mathlib.Core.Bool.{true, false, false≢true}
+use mathlib.Core.Bool.{true, false≢true}
 use mathlib.Core.List.{List, _++_}
 use lib.ListN.{getD}
 use Rattle.forms.specs.declared.forms.Form.{Form}

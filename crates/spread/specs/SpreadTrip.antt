@@ -2,7 +2,7 @@
 -- it.
 use Prim.Native.Nat.{ℕ, _-_}
 use mathlib.Core.Path.{_≡_, refl, ap, _∙_}
-use mathlib.Core.Bool.{true, false, false≢true}
+use mathlib.Core.Bool.{true, false≢true}
 use mathlib.Core.List.{List}
 use lib.ListN.{length, replicate}
 use Rattle.forms.specs.declared.forms.Form.{Form}

@@ -5,11 +5,11 @@ use mathlib.Core.Bool.{true, false≢true}
 use mathlib.Core.List.{List}
 use lib.ListN.{length}
 use Rattle.pairs.specs.Lists.{Lists}
-use Rattle.sequence.specs.declared.Taken.{Taken}
+use Rattle.taking.specs.declared.Taken.{Taken}
 use Rattle.sequence.specs.Changes.{after}
 use Rattle.sequence.specs.GapsLaws.{took-taken, took-old, taken-exactly, old-exactly, full-exactly}
-use Rattle.sequence.specs.Promises.{Took}
-use Rattle.sequence.specs.PromisesLaws.{took-row}
+use Rattle.taking.specs.Promises.{Took}
+use Rattle.taking.specs.PromisesLaws.{took-row}
 use Rattle.sequence.specs.Row.{gapsOf}
 use Rattle.sequence.specs.RowLaid.{laid, soundGapRow}
 use Rattle.sequence.specs.RowLaws.{laid-self, sound-row-exactly}

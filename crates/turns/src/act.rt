@@ -10,10 +10,10 @@ ghost use lib.ListN.{length};
 use layout::MOST_ROWS;
 use lookup::Found;
 use message::What;
-use sequence::Taken;
 use slots::Fronts;
 use state::Judged;
 use state::Refusal;
+use taking::Taken;
 
 // What becomes of a message.
 pub enum Act {
@@ -48,7 +48,7 @@ fn number_acts(row: &mut [u32; sequence::CELLS], i: usize, number: u32) -> Act
     requires { ⌜ soundGapRow (now row) ≡ true ⌝ }
     ensures { λ r. ⌜ NumberActs (now (row .entry)) i number r (now (row .exit)) ⌝ }
 {
-    match sequence::take(row, number) {
+    match taking::take(row, number) {
         Taken::Taken => Act::Taken,
         Taken::Old => Act::Old,
         Taken::Full => Act::Refused(Refusal::Gaps(i)),

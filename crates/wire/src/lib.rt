@@ -1,11 +1,8 @@
-// Bytes to numbers: big-endian numbers at a place of a slice, and the checksum; and which bytes a key may have.
+// Bytes to numbers: big-endian numbers at a place of a slice; and which bytes a key may have.
 mod bytes;
-mod checksum;
 mod number;
 
 pub use bytes::all_printable;
-pub use checksum::sent;
-pub use checksum::sum;
 pub use number::least;
 pub use number::put_u8;
 pub use number::put_u16;

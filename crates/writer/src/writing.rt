@@ -75,8 +75,8 @@ fn sum_of(sum: Sum, bytes: &[u8]) -> [u8; 2]
 {
     match sum {
         Sum::Zero => [0, 0],
-        Sum::Right => wire::sent(wire::sum(bytes)),
-        Sum::RightOrZero => wire::sent(wire::sum(bytes)),
+        Sum::Right => checksum::sent(checksum::sum(bytes)),
+        Sum::RightOrZero => checksum::sent(checksum::sum(bytes)),
     }
 }
 

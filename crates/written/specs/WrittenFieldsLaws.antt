@@ -7,7 +7,7 @@ use native.Mathlib.Omega.{arith}
 use native.Mathlib.Nat.{mod-eq-of-lt}
 use lib.ListN.{length, getD, take, drop, length-append}
 use lib.Seq.{take-at, drop-append-add, drop-drop, getD-append-add, getD-drop}
-use Rattle.wire.specs.Checksum.{checksumOf}
+use Rattle.checksum.specs.Checksum.{checksumOf}
 use Rattle.wire.specs.Number.{numberAt}
 use Rattle.wire.specs.NumberLaws.{read-back}
 use Rattle.forms.specs.declared.rows.Row.{Row}

@@ -36,9 +36,9 @@ use denote.Triple.Table.{entered, cited}
 use Rattle.pairs.specs.Lists.{lists}
 use Rattle.state.proofs.answers.Listed as J
 use Rattle.state.proofs.answers.Listed.Laws as J′
-use Rattle.runs.specs.declared.run.Run.{Run}
+use Rattle.copies.specs.declared.run.Run.{Run}
 use Rattle.runs.specs.Promises.{ListedGaps}
-use Rattle.runs.proofs.Walks.{R, Runs, Numbers, runs-val, runs-tells, runs-typed, entry, meets-by, calls-for, gives, reborrows, dies, at, lends-shared, shared-back}
+use Rattle.copies.proofs.Walks.{R, Runs, Numbers, runs-val, runs-tells, runs-typed, entry, meets-by, calls-for, gives, reborrows, dies, at, lends-shared, shared-back}
 use Rattle.runs.proofs.list_gaps as callee
 use Rattle.runs.proofs.list_gaps.Symbol as callee-def
 use Rattle.runs.proofs.list_gaps.Symbol.{name as #runs·calls·list-gaps}

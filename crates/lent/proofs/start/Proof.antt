@@ -36,9 +36,9 @@ use denote.Triple.Table.{entered, cited}
 use Rattle.pairs.specs.Lists.{lists}
 use Rattle.state.proofs.answers.Started as J
 use Rattle.state.proofs.answers.Started.Laws as J′
-use Rattle.runs.specs.declared.run.Run.{Run}
+use Rattle.copies.specs.declared.run.Run.{Run}
 use Rattle.runs.specs.Promises.{StartedRuns}
-use Rattle.runs.proofs.Walks.{R, Runs, Numbers, runs-val, runs-tells, runs-typed, as-field, entry, meets-by, calls-for, gives, reborrows, dies, at, lends-row, row-back}
+use Rattle.copies.proofs.Walks.{R, Runs, Numbers, runs-val, runs-tells, runs-typed, as-field, entry, meets-by, calls-for, gives, reborrows, dies, at, lends-row, row-back}
 use Rattle.runs.proofs.start as callee
 use Rattle.runs.proofs.start.Symbol as callee-def
 use Rattle.runs.proofs.start.Symbol.{name as #runs·calls·start}

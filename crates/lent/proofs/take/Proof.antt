@@ -36,9 +36,9 @@ use denote.Triple.Table.{entered, cited}
 use Rattle.pairs.specs.Lists.{lists}
 use Rattle.state.proofs.answers.Judged as J
 use Rattle.state.proofs.answers.Judged.Laws as J′
-use Rattle.runs.specs.declared.run.Run.{Run}
+use Rattle.copies.specs.declared.run.Run.{Run}
 use Rattle.runs.specs.Promises.{TookRuns}
-use Rattle.runs.proofs.Walks.{R, Runs, Numbers, runs-val, runs-tells, runs-typed, as-field, entry, meets-by, calls-for, gives, reborrows, dies, at, lends-row, row-back}
+use Rattle.copies.proofs.Walks.{R, Runs, Numbers, runs-val, runs-tells, runs-typed, as-field, entry, meets-by, calls-for, gives, reborrows, dies, at, lends-row, row-back}
 use Rattle.runs.proofs.take as callee
 use Rattle.runs.proofs.take.Symbol as callee-def
 use Rattle.runs.proofs.take.Symbol.{name as #runs·calls·take}

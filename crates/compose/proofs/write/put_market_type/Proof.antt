@@ -1,6 +1,5 @@
 -- A letter that the row takes is put, and no other.
 use mathlib.Core.Path.{refl, sym, _∙_}
-use mathlib.Core.Bool.{true}
 use native.Mathlib.Omega.{arith}
 use Rattle.layout.specs.Read.{isMarketType}
 use Rattle.compose.specs.PutLaws.{letter-good, letter-bad, refuses}

@@ -1,7 +1,7 @@
 -- P, and every other letter.
 use borrow.Author.Tests.{eq-eqb, ne-eqb}
 use borrow.Author.Needs.{needs}
-use Rattle.head.specs.Fields.{segmentLetter, segmentLetterOf}
+use Rattle.head.specs.Fields.{segmentLetterOf}
 use Rattle.head.proofs.fields.segment_letter_of.Statement.{statement}
 use Rattle.head.proofs.fields.segment_letter_of.Tie as tie
 

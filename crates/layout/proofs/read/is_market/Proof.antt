@@ -1,5 +1,5 @@
 -- N alone, or each of four letters.
-use borrow.Author.Tests.{eq-eqb, ne-eqb}
+use borrow.Author.Tests.{ne-eqb}
 use borrow.Author.Needs.{needs}
 use Rattle.layout.proofs.read.is_market.Statement.{statement}
 use Rattle.layout.proofs.read.is_market.Tie as tie

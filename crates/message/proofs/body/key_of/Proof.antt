@@ -1,8 +1,6 @@
 -- As much of the data as the key has, or all of it.
 use native.Mathlib.Omega.{arith}
-use Prim.Native.Nat.{min}
-use mathlib.Core.Path.{sym, _∙_, ap}
-use lib.ListN.{length, take}
+use mathlib.Core.Path.{sym}
 use lib.Seq.{length-take-le}
 use Rattle.laws.specs.Lists.{take-min}
 use Rattle.forms.specs.Forms.{keyBytesOf}

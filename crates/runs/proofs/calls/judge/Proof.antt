@@ -28,13 +28,13 @@ use denote.Triple.Table.{entered, cited}
 use Rattle.pairs.specs.Lists.{lists}
 use Rattle.state.proofs.answers.Judged as J
 use Rattle.state.proofs.answers.Judged.Laws as J′
-use Rattle.runs.specs.Rows.{blanks, over, array, lent}
+use Rattle.copies.specs.Rows.{blanks, over, array, lent}
 use Rattle.runs.specs.LentLaws.{judged-runs}
 use Rattle.runs.specs.Promises.{JudgedRuns}
 use Rattle.runs.proofs.Cited.{cites-out}
-use Rattle.runs.proofs.Locals.{cell, span, envOf, all-die}
-use Rattle.runs.proofs.Walks.{R, runs-typed, shr-param, walks-by, calls-for, loads, CopyOut, sees, answers}
-use Rattle.runs.proofs.copy.out.Symbol.{name as #runs·copy·out}
+use Rattle.copies.proofs.Locals.{cell, span, envOf, all-die}
+use Rattle.copies.proofs.Walks.{R, runs-typed, shr-param, walks-by, calls-for, loads, CopyOut, sees, answers}
+use Rattle.copies.proofs.out.Symbol.{name as #copies·out}
 use Rattle.runs.proofs.front.judge as front
 use Rattle.runs.proofs.front.judge.Symbol as front-def
 use Rattle.runs.proofs.front.judge.Symbol.{name as #runs·front·judge}
@@ -45,7 +45,7 @@ use Rattle.runs.proofs.calls.judge.Statement as stated
 use Rattle.runs.proofs.calls.judge.Code as code
 
 module _ {M : Type 1} (𝓤 : URA M) (H : Heap 𝓤) (A : Atoms 𝓤) (W : Given 𝓤 H A) (mem : Memory → SProp 𝓤) (run : Routine → Fun 𝓤) (𝓣 : Tables 𝓤 H)
-    (known-out : Triple 𝓤 (𝓣 .C #runs·copy·out) (CopyOut 𝓤 H A mem run)) (known-front : Triple 𝓤 (𝓣 .C #runs·front·judge) (tripleOf 𝓤 H A front.signature (front.spec 𝓤 H A mem run))) where
+    (known-out : Triple 𝓤 (𝓣 .C #copies·out) (CopyOut 𝓤 H A mem run)) (known-front : Triple 𝓤 (𝓣 .C #runs·front·judge) (tripleOf 𝓤 H A front.signature (front.spec 𝓤 H A mem run))) where
   judge-meets : Meets 𝓤 H A judge.signature (WpFn 𝓤 H (𝓣 .C) (𝓣 .Λ) code.function) (judge.spec 𝓤 H A mem run)
   judge-meets =
       walks-by 𝓤 H A W judge.ended (judge.clauses 𝓤 H A mem run) code.function 𝓣
@@ -70,4 +70,4 @@ judge-spec 𝓤 H 𝓜 𝓖 𝓡 =
     entered 𝓤 H (tripleOf 𝓤 H (𝓖 .A) judge.signature (judge.spec 𝓤 H (𝓖 .A) (𝓜 .mem) (𝓡 .run)))
     (tables 𝓤 H 𝓜 𝓡 code.env .C) (tables 𝓤 H 𝓜 𝓡 code.env .Λ) #runs·calls·judge code.function (code.unfolded 𝓤 H 𝓜 𝓡)
     (judge-meets 𝓤 H (𝓖 .A) (givenOf 𝓤 H 𝓜 𝓖) (𝓜 .mem) (𝓡 .run) (tablesOf 𝓤 H 𝓜 (tables 𝓤 H 𝓜 𝓡 code.env))
-    (cites-out 𝓤 H 𝓜 𝓖 𝓡 code.env code.calls-runs·copy·out) (cited 𝓤 H _ 𝓜 𝓡 code.env #runs·front·judge front-def.routine code.calls-runs·front·judge (front-thm.met 𝓤 H 𝓜 𝓖 𝓡)))
+    (cites-out 𝓤 H 𝓜 𝓖 𝓡 code.env code.calls-copies·out) (cited 𝓤 H _ 𝓜 𝓡 code.env #runs·front·judge front-def.routine code.calls-runs·front·judge (front-thm.met 𝓤 H 𝓜 𝓖 𝓡)))

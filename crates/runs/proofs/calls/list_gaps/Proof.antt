@@ -28,13 +28,13 @@ use denote.Triple.Table.{entered, cited}
 use Rattle.pairs.specs.Lists.{lists}
 use Rattle.state.proofs.answers.Listed as J
 use Rattle.state.proofs.answers.Listed.Laws as J′
-use Rattle.runs.specs.Rows.{blanks, over, array, lent}
+use Rattle.copies.specs.Rows.{blanks, over, array, lent}
 use Rattle.runs.specs.LentLaws.{listed-gaps}
 use Rattle.runs.specs.Promises.{ListedGaps}
 use Rattle.runs.proofs.Cited.{cites-out}
-use Rattle.runs.proofs.Locals.{cell, span, envOf, all-die}
-use Rattle.runs.proofs.Walks.{R, runs-typed, shr-param, mut-param, uint-param, walks-by, calls-for, reborrows, loads, CopyOut, sees, answers}
-use Rattle.runs.proofs.copy.out.Symbol.{name as #runs·copy·out}
+use Rattle.copies.proofs.Locals.{cell, span, envOf, all-die}
+use Rattle.copies.proofs.Walks.{R, runs-typed, shr-param, mut-param, uint-param, walks-by, calls-for, reborrows, loads, CopyOut, sees, answers}
+use Rattle.copies.proofs.out.Symbol.{name as #copies·out}
 use Rattle.runs.proofs.front.list_gaps as front
 use Rattle.runs.proofs.front.list_gaps.Symbol as front-def
 use Rattle.runs.proofs.front.list_gaps.Symbol.{name as #runs·front·list-gaps}
@@ -45,7 +45,7 @@ use Rattle.runs.proofs.calls.list_gaps.Statement as stated
 use Rattle.runs.proofs.calls.list_gaps.Code as code
 
 module _ {M : Type 1} (𝓤 : URA M) (H : Heap 𝓤) (A : Atoms 𝓤) (W : Given 𝓤 H A) (mem : Memory → SProp 𝓤) (run : Routine → Fun 𝓤) (𝓣 : Tables 𝓤 H)
-    (known-out : Triple 𝓤 (𝓣 .C #runs·copy·out) (CopyOut 𝓤 H A mem run)) (known-front : Triple 𝓤 (𝓣 .C #runs·front·list-gaps) (tripleOf 𝓤 H A front.signature (front.spec 𝓤 H A mem run))) where
+    (known-out : Triple 𝓤 (𝓣 .C #copies·out) (CopyOut 𝓤 H A mem run)) (known-front : Triple 𝓤 (𝓣 .C #runs·front·list-gaps) (tripleOf 𝓤 H A front.signature (front.spec 𝓤 H A mem run))) where
   list-gaps-meets : Meets 𝓤 H A list-gaps.signature (WpFn 𝓤 H (𝓣 .C) (𝓣 .Λ) code.function) (list-gaps.spec 𝓤 H A mem run)
   list-gaps-meets =
       walks-by 𝓤 H A W list-gaps.ended (list-gaps.clauses 𝓤 H A mem run) code.function 𝓣
@@ -77,4 +77,4 @@ list-gaps-spec 𝓤 H 𝓜 𝓖 𝓡 =
     entered 𝓤 H (tripleOf 𝓤 H (𝓖 .A) list-gaps.signature (list-gaps.spec 𝓤 H (𝓖 .A) (𝓜 .mem) (𝓡 .run)))
     (tables 𝓤 H 𝓜 𝓡 code.env .C) (tables 𝓤 H 𝓜 𝓡 code.env .Λ) #runs·calls·list-gaps code.function (code.unfolded 𝓤 H 𝓜 𝓡)
     (list-gaps-meets 𝓤 H (𝓖 .A) (givenOf 𝓤 H 𝓜 𝓖) (𝓜 .mem) (𝓡 .run) (tablesOf 𝓤 H 𝓜 (tables 𝓤 H 𝓜 𝓡 code.env))
-    (cites-out 𝓤 H 𝓜 𝓖 𝓡 code.env code.calls-runs·copy·out) (cited 𝓤 H _ 𝓜 𝓡 code.env #runs·front·list-gaps front-def.routine code.calls-runs·front·list-gaps (front-thm.met 𝓤 H 𝓜 𝓖 𝓡)))
+    (cites-out 𝓤 H 𝓜 𝓖 𝓡 code.env code.calls-copies·out) (cited 𝓤 H _ 𝓜 𝓡 code.env #runs·front·list-gaps front-def.routine code.calls-runs·front·list-gaps (front-thm.met 𝓤 H 𝓜 𝓖 𝓡)))

@@ -33,13 +33,13 @@ use Rattle.forms.proofs.rows.Level as Lv
 use Rattle.forms.proofs.rows.Level.Laws as Lv′
 use Rattle.reading.proofs.record.Reading as J
 use Rattle.reading.proofs.record.Reading.Laws as J′
-use Rattle.runs.specs.Rows.{blanks, over, array, lent}
+use Rattle.copies.specs.Rows.{blanks, over, array, lent}
 use Rattle.runs.specs.LentLaws.{read-runs}
 use Rattle.runs.specs.Promises.{ReadRuns}
 use Rattle.runs.proofs.Cited.{cites-out}
-use Rattle.runs.proofs.Locals.{cell, span, envOf, all-die}
-use Rattle.runs.proofs.Walks.{R, runs-typed, shr-param, ref-param, uint-param, walks-by, calls-for, loads, CopyOut, sees, answers}
-use Rattle.runs.proofs.copy.out.Symbol.{name as #runs·copy·out}
+use Rattle.copies.proofs.Locals.{cell, span, envOf, all-die}
+use Rattle.copies.proofs.Walks.{R, runs-typed, shr-param, ref-param, uint-param, walks-by, calls-for, loads, CopyOut, sees, answers}
+use Rattle.copies.proofs.out.Symbol.{name as #copies·out}
 use Rattle.runs.proofs.front.read_record as front
 use Rattle.runs.proofs.front.read_record.Symbol as front-def
 use Rattle.runs.proofs.front.read_record.Symbol.{name as #runs·front·read-record}
@@ -54,7 +54,7 @@ abbrev Key : RattleType
 Key = Array u8 39
 
 module _ {M : Type 1} (𝓤 : URA M) (H : Heap 𝓤) (A : Atoms 𝓤) (W : Given 𝓤 H A) (mem : Memory → SProp 𝓤) (run : Routine → Fun 𝓤) (𝓣 : Tables 𝓤 H)
-    (known-out : Triple 𝓤 (𝓣 .C #runs·copy·out) (CopyOut 𝓤 H A mem run)) (known-front : Triple 𝓤 (𝓣 .C #runs·front·read-record) (tripleOf 𝓤 H A front.signature (front.spec 𝓤 H A mem run))) where
+    (known-out : Triple 𝓤 (𝓣 .C #copies·out) (CopyOut 𝓤 H A mem run)) (known-front : Triple 𝓤 (𝓣 .C #runs·front·read-record) (tripleOf 𝓤 H A front.signature (front.spec 𝓤 H A mem run))) where
   read-record-meets : Meets 𝓤 H A read-record.signature (WpFn 𝓤 H (𝓣 .C) (𝓣 .Λ) code.function) (read-record.spec 𝓤 H A mem run)
   read-record-meets =
       walks-by 𝓤 H A W read-record.ended (read-record.clauses 𝓤 H A mem run) code.function 𝓣
@@ -102,4 +102,4 @@ read-record-spec 𝓤 H 𝓜 𝓖 𝓡 =
     entered 𝓤 H (tripleOf 𝓤 H (𝓖 .A) read-record.signature (read-record.spec 𝓤 H (𝓖 .A) (𝓜 .mem) (𝓡 .run)))
     (tables 𝓤 H 𝓜 𝓡 code.env .C) (tables 𝓤 H 𝓜 𝓡 code.env .Λ) #runs·calls·read-record code.function (code.unfolded 𝓤 H 𝓜 𝓡)
     (read-record-meets 𝓤 H (𝓖 .A) (givenOf 𝓤 H 𝓜 𝓖) (𝓜 .mem) (𝓡 .run) (tablesOf 𝓤 H 𝓜 (tables 𝓤 H 𝓜 𝓡 code.env))
-    (cites-out 𝓤 H 𝓜 𝓖 𝓡 code.env code.calls-runs·copy·out) (cited 𝓤 H _ 𝓜 𝓡 code.env #runs·front·read-record front-def.routine code.calls-runs·front·read-record (front-thm.met 𝓤 H 𝓜 𝓖 𝓡)))
+    (cites-out 𝓤 H 𝓜 𝓖 𝓡 code.env code.calls-copies·out) (cited 𝓤 H _ 𝓜 𝓡 code.env #runs·front·read-record front-def.routine code.calls-runs·front·read-record (front-thm.met 𝓤 H 𝓜 𝓖 𝓡)))

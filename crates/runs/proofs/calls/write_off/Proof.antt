@@ -29,16 +29,16 @@ use denote.Triple.Table.{entered, cited}
 use Rattle.pairs.specs.Lists.{lists}
 use Rattle.state.proofs.answers.WrittenOff as J
 use Rattle.state.proofs.answers.WrittenOff.Laws as J′
-use Rattle.runs.specs.Rows.{blanks, over, array, lent}
+use Rattle.copies.specs.Rows.{blanks, over, array, lent}
 use Rattle.runs.specs.LentLaws.{wrote-off-runs}
 use Rattle.runs.specs.Promises.{WroteOffRuns}
 use Rattle.runs.proofs.front.WroteOff as T
 use Rattle.runs.proofs.front.WroteOff.Laws as T′
 use Rattle.runs.proofs.Cited.{cites-out, cites-back}
-use Rattle.runs.proofs.Locals.{cell, span, envOf, all-die}
-use Rattle.runs.proofs.Walks.{R, runs-typed, shr-param, mut-param, uint-param, walks-by, calls-for, loads, CopyOut, CopyBack, halved, begins, leaves}
-use Rattle.runs.proofs.copy.out.Symbol.{name as #runs·copy·out}
-use Rattle.runs.proofs.copy.back.Symbol.{name as #runs·copy·back}
+use Rattle.copies.proofs.Locals.{cell, span, envOf, all-die}
+use Rattle.copies.proofs.Walks.{R, runs-typed, shr-param, mut-param, uint-param, walks-by, calls-for, loads, CopyOut, CopyBack, halved, begins, leaves}
+use Rattle.copies.proofs.out.Symbol.{name as #copies·out}
+use Rattle.copies.proofs.back.Symbol.{name as #copies·back}
 use Rattle.runs.proofs.front.write_off as front
 use Rattle.runs.proofs.front.write_off.Symbol as front-def
 use Rattle.runs.proofs.front.write_off.Symbol.{name as #runs·front·write-off}
@@ -49,7 +49,7 @@ use Rattle.runs.proofs.calls.write_off.Statement as stated
 use Rattle.runs.proofs.calls.write_off.Code as code
 
 module _ {M : Type 1} (𝓤 : URA M) (H : Heap 𝓤) (A : Atoms 𝓤) (W : Given 𝓤 H A) (mem : Memory → SProp 𝓤) (run : Routine → Fun 𝓤) (𝓣 : Tables 𝓤 H)
-    (known-out : Triple 𝓤 (𝓣 .C #runs·copy·out) (CopyOut 𝓤 H A mem run)) (known-front : Triple 𝓤 (𝓣 .C #runs·front·write-off) (tripleOf 𝓤 H A front.signature (front.spec 𝓤 H A mem run))) (known-back : Triple 𝓤 (𝓣 .C #runs·copy·back) (CopyBack 𝓤 H A mem run)) where
+    (known-out : Triple 𝓤 (𝓣 .C #copies·out) (CopyOut 𝓤 H A mem run)) (known-front : Triple 𝓤 (𝓣 .C #runs·front·write-off) (tripleOf 𝓤 H A front.signature (front.spec 𝓤 H A mem run))) (known-back : Triple 𝓤 (𝓣 .C #copies·back) (CopyBack 𝓤 H A mem run)) where
   write-off-meets : Meets 𝓤 H A write-off.signature (WpFn 𝓤 H (𝓣 .C) (𝓣 .Λ) code.function) (write-off.spec 𝓤 H A mem run)
   write-off-meets =
       walks-by 𝓤 H A W write-off.ended (write-off.clauses 𝓤 H A mem run) code.function 𝓣
@@ -82,4 +82,4 @@ write-off-spec 𝓤 H 𝓜 𝓖 𝓡 =
     entered 𝓤 H (tripleOf 𝓤 H (𝓖 .A) write-off.signature (write-off.spec 𝓤 H (𝓖 .A) (𝓜 .mem) (𝓡 .run)))
     (tables 𝓤 H 𝓜 𝓡 code.env .C) (tables 𝓤 H 𝓜 𝓡 code.env .Λ) #runs·calls·write-off code.function (code.unfolded 𝓤 H 𝓜 𝓡)
     (write-off-meets 𝓤 H (𝓖 .A) (givenOf 𝓤 H 𝓜 𝓖) (𝓜 .mem) (𝓡 .run) (tablesOf 𝓤 H 𝓜 (tables 𝓤 H 𝓜 𝓡 code.env))
-    (cites-out 𝓤 H 𝓜 𝓖 𝓡 code.env code.calls-runs·copy·out) (cited 𝓤 H _ 𝓜 𝓡 code.env #runs·front·write-off front-def.routine code.calls-runs·front·write-off (front-thm.met 𝓤 H 𝓜 𝓖 𝓡)) (cites-back 𝓤 H 𝓜 𝓖 𝓡 code.env code.calls-runs·copy·back))
+    (cites-out 𝓤 H 𝓜 𝓖 𝓡 code.env code.calls-copies·out) (cited 𝓤 H _ 𝓜 𝓡 code.env #runs·front·write-off front-def.routine code.calls-runs·front·write-off (front-thm.met 𝓤 H 𝓜 𝓖 𝓡)) (cites-back 𝓤 H 𝓜 𝓖 𝓡 code.env code.calls-copies·back))

@@ -14,8 +14,8 @@ use Rattle.state.specs.declared.refusal.Refusal.{Refusal}
 use Rattle.state.specs.declared.refusal.Refusal.the-variants.{Size, Packed, Flag, Count, Frame, Code, Trailer, Length, Checksum, Numbering, Field, Range, Contract, Gaps, Memory, List as ListOf, NoGap, State}
 use Rattle.state.specs.Refusals.{refusalNumbers}
 use Rattle.state.proofs.refusal.Refusal.{the-type}
-use Rattle.runs.specs.Rows.{inRuns, runsWanted}
-use Rattle.runs.specs.RowsLaws.{in-runs-short, in-runs-enough, in-runs-other}
+use Rattle.runs.specs.Wanted.{inRuns, runsWanted}
+use Rattle.runs.specs.WantedLaws.{in-runs-short, in-runs-enough, in-runs-other}
 use Rattle.runs.proofs.refusal.in_runs.Statement.{statement}
 use Rattle.runs.proofs.refusal.in_runs.Tie as tie
 

@@ -3,8 +3,8 @@ use Prim.Native.Nat.{ℕ}
 use mathlib.Core.Path.{_∙_, sym, ap}
 use mathlib.Core.List.{List, [], _∷_, _++_}
 use borrow.Author.Needs.{needs}
-use Rattle.runs.specs.Rows.{inRuns}
-use Rattle.runs.specs.RowsLaws.{in-runs-behind}
+use Rattle.runs.specs.Wanted.{inRuns}
+use Rattle.runs.specs.WantedLaws.{in-runs-behind}
 use Rattle.runs.proofs.refusal.judged.Statement.{statement}
 use Rattle.runs.proofs.refusal.judged.Tie as tie
 

@@ -1,5 +1,5 @@
 -- A number by what the sequence answers.
-use Rattle.sequence.specs.declared.Taken.{Taken}
+use Rattle.taking.specs.declared.Taken.{Taken}
 use Rattle.turns.specs.ActsLaws.{number-acts}
 use borrow.Author.Needs.{needs}
 use Rattle.turns.proofs.act.number_acts.Statement.{statement}

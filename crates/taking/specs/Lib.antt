@@ -1,0 +1,4 @@
+pub mod Answers
+pub mod Steps
+pub mod Promises
+pub mod PromisesLaws

@@ -1,4 +1,6 @@
 // The checksum's accumulator: a bit, a byte and a word of eight bytes a step.
+#![tactic(auto)]
+
 mod steps;
 mod words;
 

@@ -8,7 +8,7 @@ ghost use Rattle.accumulator.specs.WordsLaws.{Halving, Quarter};
 
 use crate::steps;
 
-#[derive(Drop)]
+#[derive(Clone, Copy)]
 pub struct Words {
     pub first: u64,
     pub second: u64,

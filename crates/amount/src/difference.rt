@@ -11,7 +11,7 @@ use print::Put;
 use scan::Number;
 
 // Whether below zero, and how many ten-millionths.
-#[derive(Drop)]
+#[derive(Clone, Copy)]
 pub struct Difference(pub bool, pub u64);
 
 impl Difference {

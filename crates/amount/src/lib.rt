@@ -1,4 +1,6 @@
 // Numbers in text: the kinds, each of them read and written as its own type.
+#![tactic(auto)]
+
 mod difference;
 mod price;
 mod quantity;

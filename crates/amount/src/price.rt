@@ -10,7 +10,7 @@ use print::Put;
 use scan::Number;
 
 // A count of ten-millionths.
-#[derive(Drop)]
+#[derive(Clone, Copy)]
 pub struct Price(pub u64);
 
 impl Price {

@@ -10,7 +10,7 @@ use print::Put;
 use scan::Number;
 
 // A count of contracts or units.
-#[derive(Drop)]
+#[derive(Clone, Copy)]
 pub struct Quantity(pub u64);
 
 impl Quantity {

@@ -10,7 +10,7 @@ use print::Put;
 use scan::Number;
 
 // A count of hundredths.
-#[derive(Drop)]
+#[derive(Clone, Copy)]
 pub struct Turnover(pub u64);
 
 impl Turnover {

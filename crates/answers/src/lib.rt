@@ -1,4 +1,6 @@
 // A command's call, made with what is lent, and the line that answers it, on the page behind what is used of that.
+#![tactic(auto)]
+
 mod gaps;
 mod pairs;
 mod quotes;

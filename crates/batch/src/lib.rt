@@ -1,4 +1,6 @@
 // A batch: judging it, and taking it.
+#![tactic(auto)]
+
 mod batch;
 mod scratch;
 

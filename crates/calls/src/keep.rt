@@ -5,7 +5,7 @@ ghost use Rattle.calls.specs.Lent.{Within};
 use console::least;
 
 // The bytes of the two lists, the gap-row cells and the record cells that are handed to the calls.
-#[derive(Drop)]
+#[derive(Clone, Copy)]
 pub struct Lent {
     pub list: usize,
     pub spreads: usize,

@@ -1,4 +1,6 @@
 // The test bench: makes the calls that it is told from standard input, and prints what each answers.
+#![tactic(auto)]
+
 mod keep;
 
 ghost use Rattle.std.specs.Prelude.{◌≤◌, length};
@@ -15,7 +17,7 @@ const ROW_CELLS: usize = contracts::MOST_SEGMENTS * sequence::CELLS;
 const RECORD_CELLS: usize = 128 * slots::CONTRACT + 64 * slots::PAIR;
 
 // Where the program stands: in what it reads and says, with what is lent, and whether there may be another turn.
-#[derive(Drop)]
+#[derive(Clone, Copy)]
 struct Turn {
     desk: Desk,
     lent: Lent,
@@ -23,7 +25,7 @@ struct Turn {
 }
 
 // What a command leaves: what is lent, and how much of the page is used.
-#[derive(Drop)]
+#[derive(Clone, Copy)]
 struct Obeyed {
     lent: Lent,
     used: usize,

@@ -1,4 +1,6 @@
 // The checksum of a text, and its two bytes as they are sent.
+#![tactic(auto)]
+
 ghost use Rattle.std.specs.Prelude.{◌≡◌, ◌%◌, length};
 ghost use Rattle.checksum.specs.Checksum.{sum_from, sum_of, sent_of, lowered};
 

@@ -7,7 +7,7 @@ use crate::length;
 use console::Desk;
 
 // Where the next command stands, and its bytes: 0 where the reading ends.
-#[derive(Drop)]
+#[derive(Clone, Copy)]
 pub struct Command {
     pub desk: Desk,
     pub length: usize,

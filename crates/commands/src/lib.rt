@@ -1,4 +1,6 @@
 // The commands of the test bench: how long each is, reading the next one, and what it tells.
+#![tactic(auto)]
+
 mod fields;
 mod input;
 mod length;

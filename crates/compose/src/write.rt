@@ -13,7 +13,7 @@ use forms::{Form, MOST_DATA, MOST_ROWS, Markets, Row};
 use layout::{Held, Verdict};
 
 // What becomes of one row's field: it is filled, or what is wrong with what is to be written.
-#[derive(Drop)]
+#[derive(Clone, Copy)]
 pub enum RowPut {
     Fits,
     Field,
@@ -21,7 +21,7 @@ pub enum RowPut {
 }
 
 // What writing rows gives: the verdict, and in front the bytes of the good rows before the first bad one.
-#[derive(Drop)]
+#[derive(Clone, Copy)]
 struct RowsWritten {
     verdict: Verdict,
     bytes: [u8; MOST_DATA],

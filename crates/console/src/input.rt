@@ -6,7 +6,7 @@ use crate::output;
 use libc::STDIN_FILENO;
 
 // A lent room holds what was read: from `at` up to `end` it is yet to be used. Of a lent page so much is used by what is said.
-#[derive(Drop)]
+#[derive(Clone, Copy)]
 pub struct Desk {
     pub at: usize,
     pub end: usize,

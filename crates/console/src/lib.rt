@@ -1,4 +1,6 @@
 // What the programs share: standard input and output in large pieces, the file of contracts, numbers read and lines said.
+#![tactic(auto)]
+
 mod file;
 mod input;
 mod memory;

@@ -9,7 +9,7 @@ use files::{Habit, Stands};
 pub const MOST_SEGMENTS: usize = 3;
 
 // What is looked at of a segment: its entry in the contents, or its body.
-#[derive(Drop)]
+#[derive(Clone, Copy)]
 pub enum Part {
     Entry,
     Body,

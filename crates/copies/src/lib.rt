@@ -1,4 +1,6 @@
 // Runs of missing numbers in a lent row: copied out of it and back, and as numbers.
+#![tactic(auto)]
+
 mod copy;
 mod numbers;
 mod run;

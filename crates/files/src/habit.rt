@@ -1,5 +1,5 @@
 // The habit of a house file: the bytes of a key, and how few and how many keys a segment may have.
-#[derive(Drop)]
+#[derive(Clone, Copy)]
 pub struct Habit {
     pub key: u16,
     pub fewest: u16,

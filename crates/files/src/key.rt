@@ -5,7 +5,7 @@ ghost use Rattle.files.specs.Keys.{order_of};
 use crate::habit::Habit;
 
 // How a key stands to another.
-#[derive(Drop)]
+#[derive(Clone, Copy)]
 pub enum Stands {
     Below,
     Same,

@@ -1,4 +1,6 @@
 // A house file, as the contract list is one and the spread list another: its header, and its keys and their order.
+#![tactic(auto)]
+
 mod habit;
 mod header;
 mod key;

@@ -35,7 +35,7 @@ const FUTURE_ONE_DATA: usize = 193;
 
 const FUTURE_TWO_DATA: usize = 393;
 
-#[derive(Drop)]
+#[derive(Clone, Copy)]
 pub enum Form {
     Heartbeat,
     LevelOne,
@@ -50,28 +50,28 @@ pub enum Form {
 }
 
 // The market's session in which an update was sent.
-#[derive(Drop)]
+#[derive(Clone, Copy)]
 pub enum Session {
     Normal,
     PreOpen,
 }
 
 // What the house files list: contracts, and spreads, which are pairs of them.
-#[derive(Drop)]
+#[derive(Clone, Copy)]
 pub enum Item {
     Contract,
     Pair,
 }
 
 // What a form tells of: nothing, or one that is listed, at a level.
-#[derive(Drop)]
+#[derive(Clone, Copy)]
 pub enum Subject {
     Nothing,
     Of(Item, Level),
 }
 
 // What the two bytes of the sum may be.
-#[derive(Drop)]
+#[derive(Clone, Copy)]
 pub enum Sum {
     Zero,
     Right,
@@ -79,7 +79,7 @@ pub enum Sum {
 }
 
 // What a code and a length name.
-#[derive(Drop)]
+#[derive(Clone, Copy)]
 pub enum Named {
     Form(Form),
     // A code of the table with none of its lengths.
@@ -89,7 +89,7 @@ pub enum Named {
 }
 
 // The codes that mean the same: they have the same forms and the same rule for their sum.
-#[derive(Drop)]
+#[derive(Clone, Copy)]
 enum Family {
     Heartbeat,
     Contract,
@@ -103,7 +103,7 @@ enum Family {
 }
 
 // The form that is written for a code and what is asked for.
-#[derive(Drop)]
+#[derive(Clone, Copy)]
 pub enum Chosen {
     Form(Form),
     NoForm,

@@ -1,4 +1,6 @@
 // The forms of messages as data: which code and length name which form, and what a form has.
+#![tactic(auto)]
+
 mod forms;
 mod rows;
 

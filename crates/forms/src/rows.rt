@@ -2,14 +2,14 @@ ghost use Rattle.std.specs.Prelude.{◌≡◌};
 ghost use Rattle.forms.specs.Rows.{width_of};
 
 // The market types that a row takes: that of the normal market alone, or every one that the papers print.
-#[derive(Drop)]
+#[derive(Clone, Copy)]
 pub enum Markets {
     Normal,
     Any,
 }
 
 // A row of the data: its kind, and its width where the kind does not fix it.
-#[derive(Drop)]
+#[derive(Clone, Copy)]
 pub enum Row {
     Key(usize),
     MarketType(Markets),
@@ -21,7 +21,7 @@ pub enum Row {
     Turnover(usize),
 }
 
-#[derive(Drop)]
+#[derive(Clone, Copy)]
 pub enum Level {
     One,
     Two,

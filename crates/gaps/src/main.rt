@@ -1,4 +1,6 @@
 // Document 01's program: starts at 1 with the file `contracts`, takes batches from standard input, and lists the gaps.
+#![tactic(auto)]
+
 mod take;
 
 ghost use Rattle.std.specs.Prelude.{◌≤◌, length};

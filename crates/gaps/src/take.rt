@@ -12,7 +12,7 @@ const FRONT: usize = 5;
 const MOST_DATA: usize = 32767;
 
 // Where the program stands: in what it reads and says, whether there may be another batch, and the gap rows.
-#[derive(Drop)]
+#[derive(Clone, Copy)]
 struct Turn {
     desk: Desk,
     more: bool,
@@ -20,7 +20,7 @@ struct Turn {
 }
 
 // The gap rows behind what was taken, and how much of the page is used.
-#[derive(Drop)]
+#[derive(Clone, Copy)]
 pub struct Taken {
     pub rows: [Run; lent::RUNS],
     pub used: usize,

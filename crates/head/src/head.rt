@@ -15,7 +15,7 @@ use lookup::Found;
 const END: u8 = 13;
 
 // What is wrong with a message: the refusals 5 to 13, with the row where there is one.
-#[derive(Drop)]
+#[derive(Clone, Copy)]
 pub enum Fault {
     Frame,
     Code,
@@ -29,7 +29,7 @@ pub enum Fault {
 }
 
 // The verdict on all of a message but its data.
-#[derive(Drop)]
+#[derive(Clone, Copy)]
 pub enum Head {
     Good,
     Bad(Fault),

@@ -1,4 +1,6 @@
 // A message before its data: its fields, and the checks 5 to 10 in document 01's order.
+#![tactic(auto)]
+
 mod fields;
 mod head;
 

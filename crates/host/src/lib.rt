@@ -1,4 +1,6 @@
 // The public calls for hosts in C, C++ and Rust: `include/quotebox.h`.
+#![tactic(auto)]
+
 mod calls;
 mod spreads;
 

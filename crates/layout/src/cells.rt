@@ -14,7 +14,7 @@ const MINUS: u64 = 0x8000_0000_0000_0000;
 const NO_ROOM: u64 = NONE - 1;
 
 // What a number's cell or value means: "none", which is not zero, so many of the kind's unit, or so many below zero.
-#[derive(Drop)]
+#[derive(Clone, Copy)]
 pub enum Held {
     Nothing,
     Units(u64),

@@ -1,4 +1,6 @@
 // The rows of each message, read into cells; and the plain values of numbers, which rows are written from.
+#![tactic(auto)]
+
 mod cells;
 mod read;
 

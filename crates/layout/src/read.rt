@@ -10,7 +10,7 @@ use amount::{Difference, Number, Price, Quantity, Turnover};
 use forms::{Form, MOST_ROWS, Markets, Row};
 
 // A row's field as read: its cell, or what is wrong with it.
-#[derive(Drop)]
+#[derive(Clone, Copy)]
 pub enum RowRead {
     Cell(u64),
     Field,
@@ -18,7 +18,7 @@ pub enum RowRead {
 }
 
 // All rows are good, or the first bad one.
-#[derive(Drop)]
+#[derive(Clone, Copy)]
 pub enum Verdict {
     Good,
     Field(usize),

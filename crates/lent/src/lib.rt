@@ -1,4 +1,6 @@
 // The calls over a lent row of runs, with the program's row handed over and given back.
+#![tactic(auto)]
+
 ghost use Rattle.pairs.specs.Lists.{lists};
 ghost use Rattle.runs.specs.Promises.{StartedRuns, TookRuns, ListedGaps};
 
@@ -8,13 +10,13 @@ use runs::Run;
 // The runs of the gap rows of as many segments as a list may have.
 pub const RUNS: usize = runs::MOST;
 
-#[derive(Drop)]
+#[derive(Clone, Copy)]
 pub struct Began {
     pub answer: Started,
     pub rows: [Run; RUNS],
 }
 
-#[derive(Drop)]
+#[derive(Clone, Copy)]
 pub struct Took {
     pub answer: Judged,
     pub rows: [Run; RUNS],

@@ -1,4 +1,6 @@
 // What each call answered, as the test bench prints it: a line, put on the page behind what is used of it.
+#![tactic(auto)]
+
 mod message;
 mod record;
 

@@ -1,4 +1,6 @@
 // Finding in a house file: a segment's letter, and a key.
+#![tactic(auto)]
+
 mod lookup;
 
 pub use lookup::{Found, Sought, place_of, segment_of};

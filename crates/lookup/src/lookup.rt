@@ -7,7 +7,7 @@ ghost use Rattle.lookup.specs.Lookup.{segment_of, lookup};
 use files::{Habit, Stands};
 
 // Where a letter or a key is listed.
-#[derive(Drop)]
+#[derive(Clone, Copy)]
 pub enum Found {
     At(usize),
     // 6 for a letter, 13 for a key.
@@ -15,7 +15,7 @@ pub enum Found {
 }
 
 // A key that was looked up: where it is listed, and how many keys were compared with it.
-#[derive(Drop)]
+#[derive(Clone, Copy)]
 pub struct Sought {
     pub found: Found,
     pub compared: usize,

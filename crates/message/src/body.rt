@@ -16,7 +16,7 @@ use head::{Fault, Head};
 use layout::{Form, Item, MOST_ROWS, Named, Subject, Verdict};
 use lookup::{Found, Sought};
 
-#[derive(Drop)]
+#[derive(Clone, Copy)]
 pub enum What {
     Heartbeat,
     // With its number.
@@ -28,7 +28,7 @@ pub enum What {
 
 // What a message is, how long it is, and how many keys were compared with its own. The cells of its rows are stored where the
 // caller lends them, so that a message with no rows is handed on by these few bytes.
-#[derive(Drop)]
+#[derive(Clone, Copy)]
 pub struct Outline {
     pub what: What,
     pub length: usize,

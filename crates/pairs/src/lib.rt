@@ -1,4 +1,6 @@
 // The spread list beside the contract list: checking it, and the one without pairs.
+#![tactic(auto)]
+
 mod habit;
 mod no_spreads;
 mod spreads;

@@ -1,5 +1,7 @@
 // Answers what the tests ask of the parts of the box, a line each. What is asked: a byte for the kind, two for the size, and so
 // many bytes. See tests/parts.rs.
+#![tactic(auto)]
+
 mod gaps;
 mod leaves;
 mod lists;

@@ -1,4 +1,6 @@
 // How a number in text is written: one writer for every kind.
+#![tactic(auto)]
+
 mod text;
 
 pub use text::{Put, blank, write};

@@ -7,14 +7,14 @@ ghost use Rattle.print.specs.WriteSteps.{Stripped, digits_in, behind_in, whole_i
 use decimal::Kind;
 
 // What writing a number answers: the text fills the field, or 01's refusal 12 and the field is as it was.
-#[derive(Drop)]
+#[derive(Clone, Copy)]
 pub enum Put {
     Fits,
     OutOfRange,
 }
 
 // So many units of a kind with so many places behind the point.
-#[derive(Drop)]
+#[derive(Clone, Copy)]
 struct Decimal {
     units: u64,
     places: usize,

@@ -1,5 +1,7 @@
 // A contract's quote: what the cells of an update hold, and the values that it is written from. And what serves every quote: its
 // numbers, and where the rows of a form stand.
+#![tactic(auto)]
+
 mod quote;
 
 pub use quote::{

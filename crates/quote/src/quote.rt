@@ -11,32 +11,32 @@ use layout::{Form, Held, KEY_ROWS, MOST_ROWS, PAIR_ROWS};
 pub const MOST_ORDERS: usize = 5;
 
 // A number of its own kind, or "none", which is not zero.
-#[derive(Drop)]
+#[derive(Clone, Copy)]
 pub enum PriceCell {
     None,
     Amount(Price),
 }
 
-#[derive(Drop)]
+#[derive(Clone, Copy)]
 pub enum QuantityCell {
     None,
     Amount(Quantity),
 }
 
-#[derive(Drop)]
+#[derive(Clone, Copy)]
 pub enum TurnoverCell {
     None,
     Amount(Turnover),
 }
 
-#[derive(Drop)]
+#[derive(Clone, Copy)]
 pub struct Order {
     pub price: PriceCell,
     pub quantity: QuantityCell,
 }
 
 // The rows of an update behind its key. What a form has no row for reads as none, and is not looked at in writing.
-#[derive(Drop)]
+#[derive(Clone, Copy)]
 pub struct Quote {
     pub market_type: u8,
     pub time_stamp: QuantityCell,
@@ -58,7 +58,7 @@ pub struct Quote {
 // Where the rows of a form stand: one that it has not stands behind the last. Behind the first order of a side the others stand in
 // turn, behind the last traded price its quantity, behind the opening price high and low, behind the close the average,
 // behind the total of the buyers that of the sellers.
-#[derive(Drop)]
+#[derive(Clone, Copy)]
 pub struct Places {
     pub market_type: usize,
     pub time_stamp: usize,

@@ -1,4 +1,5 @@
 // The public calls over lent memory, under one name.
+#![tactic(auto)]
 
 pub use batch::{judge, take};
 pub use layout::KEY_ROWS;

@@ -19,21 +19,21 @@ use state::{Asked, Recorded, Refusal};
 const TIME_STAMP: usize = KEY_ROWS + 1;
 
 // With the quote of a record; beside any other answer every row is none.
-#[derive(Drop)]
+#[derive(Clone, Copy)]
 pub struct Reading {
     pub answer: Recorded,
     pub quote: Quote,
 }
 
 // The same of a pair.
-#[derive(Drop)]
+#[derive(Clone, Copy)]
 pub struct SpreadReading {
     pub answer: Recorded,
     pub quote: SpreadQuote,
 }
 
 // Where the record that is asked for stands.
-#[derive(Drop)]
+#[derive(Clone, Copy)]
 enum Place {
     At(usize),
     Refused(Refusal),

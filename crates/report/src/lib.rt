@@ -1,4 +1,6 @@
 // What the program `gaps` says. Each line is put on the page behind what is used of it.
+#![tactic(auto)]
+
 ghost use Rattle.std.specs.Prelude.{◌≤◌, length};
 
 use console::{put, put_with};

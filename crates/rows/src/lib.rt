@@ -1,4 +1,6 @@
 // The rows of each form, as data.
+#![tactic(auto)]
+
 ghost use Rattle.std.specs.Prelude.{◌≡◌, length};
 ghost use Rattle.forms.specs.Rows.{padded};
 ghost use Rattle.forms.specs.Forms.{rows_of};

@@ -13,19 +13,19 @@ use copies::Run;
 use layout::Level;
 use quotebox::{Judged, Listed, Reading, SpreadReading, Started, WrittenOff};
 
-#[derive(Drop)]
+#[derive(Clone, Copy)]
 pub(crate) struct Began {
     pub answer: Started,
     pub runs: [Run; copies::MOST],
 }
 
-#[derive(Drop)]
+#[derive(Clone, Copy)]
 pub(crate) struct Took {
     pub answer: Judged,
     pub runs: [Run; copies::MOST],
 }
 
-#[derive(Drop)]
+#[derive(Clone, Copy)]
 pub(crate) struct WroteOff {
     pub answer: WrittenOff,
     pub runs: [Run; copies::MOST],

@@ -1,4 +1,6 @@
 // The public calls over a lent row of runs: document 01's gap list as a slice of structs.
+#![tactic(auto)]
+
 mod calls;
 mod front;
 mod refusal;

@@ -16,7 +16,7 @@ const MINUS: u8 = b'-';
 const POINT: u8 = b'.';
 
 // How far the walk has come, and the amount read up to there: it counts the place of the last digit read.
-#[derive(Drop)]
+#[derive(Clone, Copy)]
 pub struct Walked {
     pub at: usize,
     pub amount: u64,

@@ -1,16 +1,14 @@
 // A segment's gap row, as numbers: start, highest, number of runs, 0, then 64 runs of first and last.
+#![tactic(auto)]
+
 pub mod runs;
 
-ghost use mathlib.Core.Path.{_≡_};
-ghost use mathlib.Core.Bool.{true};
-ghost use mathlib.Core.List.{_++_};
-ghost use Prim.Native.Nat.{_+_, _*_, _≤_};
-ghost use lib.ListN.{length, take, drop};
-ghost use Rattle·sequence·specs.specs.Gaps.{most};
-ghost use Rattle·sequence·specs.specs.SoundTests.{soundRuns};
-ghost use Rattle·sequence·specs.specs.Row.{cells, head, gapsOf, runsOf};
-ghost use Rattle·sequence·specs.specs.RowLaid.{soundGapRow};
-ghost use Rattle·sequence·specs.specs.Promises.{Began, WroteOff, ListedGaps};
+ghost use Rattle.std.specs.Prelude.{◌≡◌, true, ◌++◌, ◌+◌, ◌*◌, ◌≤◌, length, take, drop};
+ghost use Rattle.sequence.specs.Gaps.{most};
+ghost use Rattle.sequence.specs.SoundTests.{sound_runs};
+ghost use Rattle.sequence.specs.Row.{cells, head, gaps_of, runs_of};
+ghost use Rattle.sequence.specs.RowLaid.{sound_gap_row};
+ghost use Rattle.sequence.specs.Promises.{Began, WroteOff, ListedGaps};
 
 // The numbers of a row, and how many runs it has room for.
 pub const CELLS: usize = 132;
@@ -27,12 +25,14 @@ pub(crate) const COUNT: usize = 2;
 pub(crate) const HEAD: usize = 4;
 
 // What a write-off answers: the run that it removed, or 17.
+#[derive(Clone, Copy)]
 pub enum WriteOff {
     Removed(u32, u32),
     NoGap,
 }
 
 // What listing answers: highest and the number of runs, or 15 with the cells wanted.
+#[derive(Clone, Copy)]
 pub enum GapsListed {
     Runs(u32, usize),
     Short(usize),
@@ -40,8 +40,8 @@ pub enum GapsListed {
 
 // The runs of a row, from its start number up to highest.
 fn sound_runs(row: &[u32]) -> bool
-    requires { ⌜ length (now row) ≡ cells ⌝ }
-    ensures { λ r. ⌜ r ≡ soundRuns (gapsOf (now (row .entry)) .start) (runsOf (now (row .entry))) (gapsOf (now (row .entry)) .highest) ⌝ }
+    requires { length row.now ≡ cells }
+    ensures { result ≡ sound_runs (gaps_of row.now).start (runs_of row.now) (gaps_of row.now).highest }
 {
     let highest = row[HIGHEST];
     let n = runs::number(row);
@@ -67,7 +67,7 @@ fn sound_runs(row: &[u32]) -> bool
 
 // The test behind 18, for one row.
 pub fn sound(row: &[u32]) -> bool
-    ensures { λ r. ⌜ r ≡ soundGapRow (now (row .entry)) ⌝ }
+    ensures { result ≡ sound_gap_row row.now }
 {
     if row.len() != CELLS {
         return false;
@@ -87,7 +87,7 @@ pub fn sound(row: &[u32]) -> bool
 
 // A segment starts: highest is one below its start number, nothing is missing, and every other number is 0.
 pub fn start(row: &mut [u32; CELLS], number: u32)
-    ensures { λ _. ⌜ Began number (now (row .exit)) ⌝ }
+    ensures { Began number row.new }
 {
     *row = [0u32; CELLS];
     row[START] = number;
@@ -98,7 +98,7 @@ pub fn start(row: &mut [u32; CELLS], number: u32)
 
 // The lowest run is removed.
 pub fn write_off(row: &mut [u32; CELLS]) -> WriteOff
-    ensures { λ r. ⌜ WroteOff (now (row .entry)) r (now (row .exit)) ⌝ }
+    ensures { WroteOff row.old result row.new }
 {
     if runs::number(row) == 0 {
         return WriteOff::NoGap;
@@ -111,8 +111,8 @@ pub fn write_off(row: &mut [u32; CELLS]) -> WriteOff
 
 // The first numbers of a row's runs are copied to as many cells.
 fn copy(row: &[u32; CELLS], lent: &mut [u32], wanted: usize)
-    requires { ⌜ (length (now row) ≡ cells) × (wanted ≤ length (now lent)) × (wanted ≤ 2 * most) ⌝ }
-    ensures { λ _. ⌜ now (lent .exit) ≡ take wanted (drop head (now (row .entry))) ++ drop wanted (now (lent .entry)) ⌝ }
+    requires { (length row.now ≡ cells) × (wanted ≤ length lent.old) × (wanted ≤ 2 * most) }
+    ensures { lent.new ≡ take wanted (drop head row.now) ++ drop wanted lent.old }
 {
     let mut j = 0;
     while j < wanted {
@@ -123,7 +123,7 @@ fn copy(row: &[u32; CELLS], lent: &mut [u32], wanted: usize)
 
 // The runs are put in lent cells, two a run, where there are so many.
 pub fn list(row: &[u32; CELLS], lent: &mut [u32]) -> GapsListed
-    ensures { λ r. ⌜ ListedGaps (now (row .entry)) (now (lent .entry)) r (now (lent .exit)) ⌝ }
+    ensures { ListedGaps row.now lent.old result lent.new }
 {
     let n = runs::number(row);
     let wanted = 2 * n;

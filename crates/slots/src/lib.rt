@@ -1,4 +1,6 @@
 // Where the records of lent memory stand, and how many cells are wanted for them.
+#![tactic(auto)]
+
 mod records;
 
 pub use records::{

@@ -25,7 +25,7 @@ const PAIR_TWO: usize = 28;
 pub const PAIR: usize = PAIR_ONE + PAIR_TWO;
 
 // Where a segment's records begin.
-#[derive(Drop)]
+#[derive(Clone, Copy)]
 pub struct Fronts {
     pub contracts: usize,
     pub pairs: usize,

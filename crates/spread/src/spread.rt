@@ -9,20 +9,20 @@ use layout::{Form, Held, MOST_ROWS};
 use quote::{MOST_ORDERS, Places, QuantityCell};
 
 // A price difference, or "none", which is not zero.
-#[derive(Drop)]
+#[derive(Clone, Copy)]
 pub enum DifferenceCell {
     None,
     Amount(Difference),
 }
 
-#[derive(Drop)]
+#[derive(Clone, Copy)]
 pub struct SpreadOrder {
     pub price: DifferenceCell,
     pub quantity: QuantityCell,
 }
 
 // The rows of an update of a pair behind its key, as a quote has a contract's. Minus zero is zero.
-#[derive(Drop)]
+#[derive(Clone, Copy)]
 pub struct SpreadQuote {
     pub buy: [SpreadOrder; MOST_ORDERS],
     pub sell: [SpreadOrder; MOST_ORDERS],

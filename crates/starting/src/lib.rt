@@ -1,4 +1,6 @@
 // What a box begins with: the spread list of a host that has none, and a start.
+#![tactic(auto)]
+
 mod spreads;
 mod starting;
 

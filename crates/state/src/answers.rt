@@ -2,35 +2,35 @@
 use crate::refusal::Refusal;
 use layout::Session;
 
-#[derive(Drop)]
+#[derive(Clone, Copy)]
 pub enum Started {
     Started,
     Refused(Refusal),
 }
 
 // Of a batch: how many messages were taken, old and heartbeats, or the refusal; and how many keys its lookups compared.
-#[derive(Drop)]
+#[derive(Clone, Copy)]
 pub enum Judged {
     Accepted(usize, usize, usize, usize),
     Refused(Refusal, usize),
 }
 
 // Highest, and the number of runs put into the lent cells.
-#[derive(Drop)]
+#[derive(Clone, Copy)]
 pub enum Listed {
     Runs(u32, usize),
     Refused(Refusal),
 }
 
 // The run that was removed.
-#[derive(Drop)]
+#[derive(Clone, Copy)]
 pub enum WrittenOff {
     Removed(u32, u32),
     Refused(Refusal),
 }
 
 // A record's number, which is its update's, and the session of the update that wrote it.
-#[derive(Drop)]
+#[derive(Clone, Copy)]
 pub enum Recorded {
     Record(u64, Session),
     NoRecord,
@@ -38,7 +38,7 @@ pub enum Recorded {
 }
 
 // The length of the message that was written.
-#[derive(Drop)]
+#[derive(Clone, Copy)]
 pub enum Written {
     Message(usize),
     Refused(Refusal),

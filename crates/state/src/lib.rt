@@ -1,5 +1,7 @@
 // Lent memory and the state in it: what a call answers and refuses with, the checks of what is handed back, and the gap row of a
 // segment.
+#![tactic(auto)]
+
 mod answers;
 mod gap_rows;
 mod refusal;

@@ -5,7 +5,7 @@ ghost use Rattle.state.specs.Refusals.{in_message, refusal_numbers};
 
 use head::Fault;
 
-#[derive(Drop)]
+#[derive(Clone, Copy)]
 pub enum Refusal {
     Size,
     Packed,

@@ -10,14 +10,14 @@ ghost use Rattle.state.specs.State.{state_rules, memory_rules, Asks};
 use crate::refusal::Refusal;
 use lookup::Found;
 
-#[derive(Drop)]
+#[derive(Clone, Copy)]
 pub enum Checked {
     Good,
     Refused(Refusal),
 }
 
 // The segment that is asked for.
-#[derive(Drop)]
+#[derive(Clone, Copy)]
 pub enum Asked {
     Segment(usize),
     Refused(Refusal),

@@ -9,7 +9,7 @@ use crate::Taken;
 use sequence::{CELLS, MOST, runs};
 
 // Where a number stands among a row's runs.
-#[derive(Drop)]
+#[derive(Clone, Copy)]
 pub(crate) enum Place {
     At(usize),
     Nowhere,

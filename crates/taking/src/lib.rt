@@ -1,4 +1,6 @@
 // A number that comes, in a segment's gap row: taken, old, or one run too many.
+#![tactic(auto)]
+
 mod late;
 mod skip;
 
@@ -9,7 +11,7 @@ ghost use Rattle.taking.specs.Promises.{Took};
 use sequence::{CELLS, HIGHEST};
 
 // What becomes of a number.
-#[derive(Drop)]
+#[derive(Clone, Copy)]
 pub enum Taken {
     Taken,
     Old,

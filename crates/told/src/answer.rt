@@ -6,7 +6,7 @@ ghost use Rattle.state.specs.Answers.{started_numbers, judged_numbers, listed_nu
 
 use quotebox::{Judged, Listed, Recorded, Refusal, Started, Written, WrittenOff};
 
-#[derive(Drop)]
+#[derive(Clone, Copy)]
 pub struct Told {
     pub number: u32,
     pub answer: [u64; 4],

@@ -1,4 +1,6 @@
 // What a host is told of a call: the number that is returned, the answer, and the values of a record.
+#![tactic(auto)]
+
 mod answer;
 mod shown;
 

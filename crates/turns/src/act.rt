@@ -13,7 +13,7 @@ use state::{Judged, Refusal};
 use taking::Taken;
 
 // What becomes of a message.
-#[derive(Drop)]
+#[derive(Clone, Copy)]
 pub enum Act {
     Taken,
     Old,
@@ -22,7 +22,7 @@ pub enum Act {
 }
 
 // With the message's length, how many stores are kept behind it, and how many keys its lookup compared.
-#[derive(Drop)]
+#[derive(Clone, Copy)]
 pub struct Step {
     pub act: Act,
     pub length: usize,
@@ -31,14 +31,14 @@ pub struct Step {
 }
 
 // What the messages of a batch are answered, and how many stores are kept.
-#[derive(Drop)]
+#[derive(Clone, Copy)]
 pub struct InTurn {
     pub answer: Judged,
     pub kept: usize,
 }
 
 // How many messages were taken, old and heartbeats.
-#[derive(Drop)]
+#[derive(Clone, Copy)]
 pub struct Counts {
     pub taken: usize,
     pub old: usize,

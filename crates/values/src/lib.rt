@@ -1,5 +1,7 @@
 // An update's values, as hosts and the test bench are told them: number, a contract's session, and one a row behind the key, in the
 // order of a record's cells. Today a value stands for what a cell of the same bits holds, so a quote is made of values as it is of cells.
+#![tactic(auto)]
+
 ghost use Rattle.std.specs.Prelude.{◌≡◌, ◌+◌, ◌≤◌, length, take, drop, replicate};
 ghost use Rattle.std.proofs.lemmas.List.Edits.{sets};
 ghost use Rattle.forms.specs.Forms.{key_rows_of};

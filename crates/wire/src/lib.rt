@@ -1,4 +1,6 @@
 // Bytes to numbers: big-endian numbers at a place of a slice; and which bytes a key may have.
+#![tactic(auto)]
+
 mod bytes;
 mod number;
 

@@ -15,7 +15,7 @@ use spread::SpreadQuote;
 use state::{Checked, Refusal, Written};
 
 // Any two bytes.
-#[derive(Drop)]
+#[derive(Clone, Copy)]
 pub struct Code(pub u8, pub u8);
 
 // The bytes before the data.

@@ -236,12 +236,14 @@ Told means =
 told_heartbeat : Told (record { sum = Zero; forms = Heartbeat ∷ [] })
 unfolding rows_of named_rows
 told_heartbeat form (Memᴰ.head same) = rw same (refl, refl)
+told_heartbeat form (Memᴰ.tail x4) = elim x4 [ ]
 
 -- two forms of a code at one level each, told apart by their lengths
 told_update : (one two : Form) (item : Item) → subject_of one ≡ Of item One → subject_of two ≡ Of item Two
     → eqb (message_length (rows_of two)) (message_length (rows_of one)) ≡ false → Told (record { sum = Right; forms = one ∷ two ∷ [] })
 told_update one two item first second apart form (Memᴰ.head same) = rw (same, first, eq-eqb (message_length (rows_of one)) (message_length (rows_of one)) refl) (refl, refl)
 told_update one two item first second apart form (Memᴰ.tail (Memᴰ.head same)) = rw (same, second, apart, eq-eqb (message_length (rows_of two)) (message_length (rows_of two)) refl) (refl, refl)
+told_update one two item first second apart form (Memᴰ.tail (Memᴰ.tail x8)) = elim x8 [ ]
 
 told_no_form : (sum : Sum) → Told (record { sum = sum; forms = [] })
 told_no_form sum form m = absurd (Memᴰ.not-nil m)
@@ -309,10 +311,12 @@ no_own letter sum form m = absurd (Memᴰ.not-nil m)
 
 one_own : (letter : ℕ) (sum : Sum) (one : Form) → Own letter one → OwnForms letter (record { sum = sum; forms = one ∷ [] })
 one_own letter sum one h form (Memᴰ.head same) = rw same h
+one_own letter sum one h form (Memᴰ.tail x4) = elim x4 [ ]
 
 two_own : (letter : ℕ) (one two : Form) → Own letter one → Own letter two → OwnForms letter (record { sum = Right; forms = one ∷ two ∷ [] })
 two_own letter one two h k form (Memᴰ.head same) = rw same h
 two_own letter one two h k form (Memᴰ.tail (Memᴰ.head same)) = rw same k
+two_own letter one two h k form (Memᴰ.tail (Memᴰ.tail x8)) = elim x8 [ ]
 
 codes_own : (letter : ℕ) → is_stamped_letter letter ≡ false → letter_session letter ≡ session.Normal → (rest : List Line) → Each OwnForms rest → Each OwnForms (codes_of letter ++ rest)
 codes_own letter other normal rest h =

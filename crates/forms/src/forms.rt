@@ -215,6 +215,7 @@ pub fn record_form(item: Item, level: Level) -> Form
 }
 
 // D and T have the same codes.
+#[tactic(auto, unfolding(crate::specs::Forms::meaning_of))]
 fn family_of_second(second: u8) -> Family
     ensures { family_meaning result ≡ meaning_of 0x44 second }
 {
@@ -231,6 +232,7 @@ fn family_of_second(second: u8) -> Family
 }
 
 // The codes of F.
+#[tactic(auto, unfolding(crate::specs::Forms::meaning_of))]
 fn family_of_future(second: u8) -> Family
     ensures { family_meaning result ≡ meaning_of 0x46 second }
 {
@@ -246,6 +248,7 @@ fn family_of_future(second: u8) -> Family
 }
 
 // The codes of F in pre-open.
+#[tactic(auto, unfolding(crate::specs::Forms::meaning_of))]
 fn family_of_pre_open(second: u8) -> Family
     ensures { family_meaning result ≡ meaning_of 0x50 second }
 {
@@ -258,6 +261,7 @@ fn family_of_pre_open(second: u8) -> Family
 }
 
 // H: a heartbeat of each segment; P has none.
+#[tactic(auto, unfolding(crate::specs::Forms::meaning_of))]
 fn family_of_heartbeat(letter: u8) -> Family
     ensures { family_meaning result ≡ meaning_of letter 0x48 }
 {

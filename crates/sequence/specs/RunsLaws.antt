@@ -46,29 +46,29 @@ pub apart_from : {from from' highest : ℕ} {rs : List Run} → from' ≤ from �
 apart_from h none = none
 apart_from h (next r f l u p) = next r (le_trans h f) l u p
 
-pub apart_up : {from highest highest' : ℕ} {rs : List Run} → highest ≤ highest' → Apart highest from rs → Apart highest' from rs
+pub apart_up : {highest highest' from : ℕ} {rs : List Run} → highest ≤ highest' → Apart highest from rs → Apart highest' from rs
 apart_up h none = none
 apart_up h (next r f l u p) = next r f l (le_trans u h) (apart_up h p)
 
 -- every number missing stands between
-pub none_below : {from highest : ℕ} {rs : List Run} (k : ℕ) → Apart highest from rs → k < from → missing rs k ≡ false
+pub none_below : {highest from : ℕ} {rs : List Run} (k : ℕ) → Apart highest from rs → k < from → missing rs k ≡ false
 none_below k none h = refl
 none_below k (next r f l u p) h = simp (names_below r k (omega arith)) (none_below k p (omega arith))
 
-pub none_above : {from highest : ℕ} {rs : List Run} (k : ℕ) → Apart highest from rs → highest < k → missing rs k ≡ false
+pub none_above : {highest from : ℕ} {rs : List Run} (k : ℕ) → Apart highest from rs → highest < k → missing rs k ≡ false
 none_above k none h = refl
 none_above k (next r f l u p) h = simp (names_above r k (omega arith)) (none_above k p h)
 
 -- ---- a number removed
 
 -- numbers from a to below c, then runs from two above on
-apart_span : {from highest : ℕ} (a c : ℕ) (rs : List Run) → from ≤ a → from ≤ c + 1 → c ≤ highest + 1 → Apart highest (c + 1) rs → Apart highest from (span a c ++ rs)
+apart_span : {highest from : ℕ} (a c : ℕ) (rs : List Run) → from ≤ a → from ≤ c + 1 → c ≤ highest + 1 → Apart highest (c + 1) rs → Apart highest from (span a c ++ rs)
 apart_span a c rs h l m p =
     ⊎_elim (λ (o : c ≤ a). simp (le-ltb a c o) (apart_from l p))
     (λ (o : a < c). simp (lt-ltb a c o) (next (a to (c - 1)) h (omega arith) (omega arith) (apart_from (omega arith) p)))
     (order c a)
 
-pub without_apart : {from highest : ℕ} {rs : List Run} (k : ℕ) → Apart highest from rs → Apart highest from (without rs k)
+pub without_apart : {highest from : ℕ} {rs : List Run} (k : ℕ) → Apart highest from rs → Apart highest from (without rs k)
 without_apart k none = none
 without_apart k (next r {rs = rs} f l u p) =
     let rest = without_apart k p in
@@ -80,7 +80,7 @@ without_apart k (next r {rs = rs} f l u p) =
     (λ (e : names r k ≡ false). simp e (next r f l u rest))
     (either (names r k))
 
-pub without_itself : {from highest : ℕ} {rs : List Run} (k : ℕ) → Apart highest from rs → missing (without rs k) k ≡ false
+pub without_itself : {highest from : ℕ} {rs : List Run} (k : ℕ) → Apart highest from rs → missing (without rs k) k ≡ false
 without_itself k none = refl
 without_itself k (next r f l u p) =
     let rest = without_itself k p in
@@ -111,20 +111,20 @@ pub meet_apart : {highest : ℕ} {rs : List Run} (r : Run) → Apart highest (r.
 meet_apart r none = refl
 meet_apart r (next s f l u p) = simp (ne_eqb (r.last + 1) s.first (omega arith))
 
-pub join_none : {from highest : ℕ} {rs : List Run} → Apart highest from rs → join rs [] ≡ rs
+pub join_none : {highest from : ℕ} {rs : List Run} → Apart highest from rs → join rs [] ≡ rs
 join_none none = refl
 join_none (next r f l u p) = rw (join_none p) (meet_apart r p)
 
-pub no_room : {from highest : ℕ} {rs : List Run} → highest < from → Apart highest from rs → rs ≡ []
+pub no_room : {highest from : ℕ} {rs : List Run} → highest < from → Apart highest from rs → rs ≡ []
 no_room h none = refl
 no_room h (next r f l u p) = absurd (omega arith)
 
 pub join_last : {highest : ℕ} {rs : List Run} (r : Run) (d : ℕ) → r.last ≡ highest → Apart highest (r.last + 2) rs → join (r ∷ rs) ((highest + 1) to d ∷ []) ≡ r.first to d ∷ []
 join_last {highest} r d e p = rw (no_room (omega arith) p) (simp (eq-eqb (r.last + 1) (highest + 1) (omega arith)))
 
-pub join_apart : {from highest : ℕ} {rs : List Run} (d : ℕ) → from ≤ highest + 1 → highest < d → Apart highest from rs → Apart d from (join rs ((highest + 1) to d ∷ []))
+pub join_apart : {highest from : ℕ} {rs : List Run} (d : ℕ) → from ≤ highest + 1 → highest < d → Apart highest from rs → Apart d from (join rs ((highest + 1) to d ∷ []))
 join_apart d m n none = next (_ to d) m (omega arith) (le_refl d) none
-join_apart {from} {highest} d m n (next r {rs = rs} f l u p) =
+join_apart {highest} {from} d m n (next r {rs = rs} f l u p) =
     ⊎_elim (λ (o : r.last + 2 ≤ highest + 1).
     let rest = join_apart d o n p in
     rw (meet_apart r rest) (next r f l (omega arith) rest))
@@ -132,9 +132,9 @@ join_apart {from} {highest} d m n (next r {rs = rs} f l u p) =
     rw (join_last r d (omega arith) p) (next (r.first to d) f (omega arith) (le_refl d) none))
     (order (r.last + 2) (highest + 1))
 
-pub missing_join : {from highest : ℕ} {rs : List Run} (d k : ℕ) → from ≤ highest + 1 → highest < d → Apart highest from rs → missing (join rs ((highest + 1) to d ∷ [])) k ≡ missing rs k || names ((highest + 1) to d) k
+pub missing_join : {highest from : ℕ} {rs : List Run} (d k : ℕ) → from ≤ highest + 1 → highest < d → Apart highest from rs → missing (join rs ((highest + 1) to d ∷ [])) k ≡ missing rs k || names ((highest + 1) to d) k
 missing_join d k m n none = or-false _
-missing_join {from} {highest} d k m n (next r {rs = rs} f l u p) =
+missing_join {highest} {from} d k m n (next r {rs = rs} f l u p) =
     ⊎_elim (λ (o : r.last + 2 ≤ highest + 1).
     rw (meet_apart r (join_apart d o n p)) (simp (missing_join d k o n p, or_assoc)))
     (λ (o : highest + 1 < r.last + 2).
@@ -178,10 +178,10 @@ pub same_runs : {highest highest' from from' : ℕ} (rs ss : List Run) → Apart
 same_runs [] [] p q same = refl
 same_runs [] (s ∷ ss) p q same = absurd (none_named s q same)
 same_runs (r ∷ rs) [] p q same = absurd (none_named r p (λ k. sym (same k)))
-same_runs {highest} {highest'} (r ∷ rs) (s ∷ ss) (next _ f l u p) (next _ f' l' u' q) same =
+same_runs {highest = highest} {highest' = highest'} {from = from} {from' = from'} (r ∷ rs) (s ∷ ss) (next _ f l u p) (next _ f' l' u' q) same =
     let p' : Apart highest _ (r ∷ rs) = next r f l u p in
     let q' : Apart highest' _ (s ∷ ss) = next s f' l' u' q in
     let back : (k : ℕ) → missing (s ∷ ss) k ≡ missing (r ∷ rs) k = λ k. sym (same k) in
     let firsts : r.first ≡ s.first = le_antisymm (not_behind s r q' p' back) (not_behind r s p' q' same) in
     let lasts : r.last ≡ s.last = le_antisymm (not_longer r s firsts p' q' same) (not_longer s r (sym firsts) q' p' back) in
-    ap₂ ◌∷◌ (λ i. firsts i to lasts i) (same_runs rs ss p q (rest_same r s lasts p' q' same))
+    ap₂ ◌∷◌ (λ i. firsts i to lasts i) (same_runs {from = r.last + 2} {from' = s.last + 2} rs ss p q (rest_same r s lasts p' q' same))

@@ -34,7 +34,23 @@ def parse(text):
         while d['lines'] and d['lines'][-1].startswith('--'): d['lines'].pop()
     return pre,uses,decls
 def norm(s): return s.replace('_','-')
-def usefilter(uses,text,extra=()):
+COMMON=set()
+for _l in open('/opt/rattle/rattle/std/proofs/Common.antt'):
+    _m=re.match(r'^pub use [^{]*\.\{(.*)\}',_l)
+    if _m: COMMON|=set(x.strip() for x in _m.group(1).split(','))
+def modern(uses):
+    # names that std's Common passes on come from there
+    common=[];rest=[]
+    for u in uses:
+        m=re.match(r'^use ([^\s{]+?)\.\{([^}]*)\}$',u)
+        if not m or re.match(r'^Rattle\.(?!std\.)',m.group(1)): rest.append(u); continue
+        names=[x.strip() for x in m.group(2).split(',')]
+        common+=[n for n in names if n in COMMON and n not in common]
+        left=[n for n in names if n not in COMMON]
+        if left: rest.append('use %s.{%s}'%(m.group(1),', '.join(left)))
+    return (['use Rattle.std.proofs.Common.{%s}'%', '.join(common)] if common else [])+rest
+def usefilter(uses,text,extra=()): return modern(usefilter0(uses,text))
+def usefilter0(uses,text,extra=()):
     out=[]
     for u in uses:
         m=re.match(r'^use ([^\s{]+?)(?:\.\{([^}]*)\})?(?: as (\S+))?$',u)

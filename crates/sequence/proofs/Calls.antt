@@ -1,10 +1,6 @@
 -- What a write-off and a listing leave is what is promised.
-use Prim.Native.Nat.{ℕ, ◌≤◌, ◌<◌}
-use mathlib.Core.Path.{◌≡◌, refl, sym, ap, ◌∙◌}
-use mathlib.Core.List.{List, [], ◌∷◌, ◌++◌}
-use native.Mathlib.Omega.{arith}
-use borrow.Author.Tests.{le-leb, lt-leb}
-use lib.ListN.{length, take, drop}
+use Rattle.std.proofs.Common.{ℕ, ◌≤◌, ◌<◌, ◌≡◌, refl, sym, ap, ◌∙◌, List, [], ◌∷◌, ◌++◌, arith, le-leb, length, take, drop}
+use borrow.Author.Tests.{lt-leb}
 use Rattle.sequence.specs.Runs.{Run, run}
 use Rattle.sequence.specs.Gaps.{wanted}
 use Rattle.sequence.specs.Changes.{with_runs, without_lowest}

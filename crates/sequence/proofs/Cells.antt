@@ -1,12 +1,6 @@
 -- The numbers of a row up to a run and from a run on, and what stores at a run's place make of the row.
-use Prim.Native.Nat.{ℕ, suc, ◌+◌, ◌-◌, ◌*◌, ◌≤◌, ◌<◌}
-use mathlib.Core.Path.{◌≡◌, refl, sym, ap, ap₂, ◌∙◌}
-use mathlib.Core.Bool.{true}
-use mathlib.Core.List.{List, [], ◌∷◌, ◌++◌, append_assoc}
-use native.Mathlib.Nat.{le_of_lt}
-use native.Mathlib.Omega.{arith}
-use lib.ListN.{length, get_or, set, take, drop, length-append, length-drop, take-append-drop}
-use lib.Seq.{take_at, drop_at, drop-cons, get_or_at, append_snoc, length-take-le, take-suc}
+use Rattle.std.proofs.Common.{ℕ, suc, ◌+◌, ◌-◌, ◌*◌, ◌≤◌, ◌<◌, ◌≡◌, refl, sym, ap, ap₂, ◌∙◌, true, List, [], ◌∷◌, ◌++◌, append_assoc, le_of_lt, arith, length, get_or, set, take, drop, length-append, length-drop, take-append-drop, take_at, drop_at, drop-cons, length-take-le, take-suc}
+use lib.Seq.{get_or_at, append_snoc}
 use Rattle.laws.specs.Moves.{stores_at}
 use Rattle.sequence.specs.Runs.{Run, ◌to◌, run}
 use Rattle.sequence.specs.Gaps.{most}

@@ -1,10 +1,5 @@
 -- `sequence::copy` meets its contract. The loop's invariant: the first j lent are copied, the rest are as they were.
-use Prim.Native.Nat.{ℕ, ◌-◌}
-use mathlib.Core.Path.{sym, ap₂, ◌∙◌}
-use mathlib.Core.List.{List}
-use native.Mathlib.Omega.{arith}
-use lib.ListN.{set, drop, length-set, length-drop}
-use lib.Seq.{get_or-drop}
+use Rattle.std.proofs.Common.{ℕ, sym, ap₂, ◌∙◌, List, arith, set, drop, length-set, length-drop, get_or-drop}
 use Rattle.laws.specs.Lists.{copy_next}
 use Rattle.sequence.specs.Row.{head}
 use Rattle.sequence.proofs.copy.Goals as goal

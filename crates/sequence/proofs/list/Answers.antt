@@ -1,5 +1,5 @@
 -- `sequence::list` meets its contract: where too few cells are lent nothing is written, else the runs are copied.
-use native.Mathlib.Omega.{arith}
+use Rattle.std.proofs.Common.{arith}
 use Rattle.sequence.specs.Row.{gaps_of}
 use Rattle.sequence.proofs.Calls.{listed_short, listed_all}
 use Rattle.sequence.proofs.list.Goals as goal

@@ -1,9 +1,6 @@
 -- `sequence::sound` meets its contract: the tests are those behind 18, in turn.
-use Prim.Native.Nat.{◌-◌}
-use mathlib.Core.Path.{◌≡◌}
-use native.Mathlib.Omega.{arith}
-use borrow.Author.Tests.{eq-eqb, ne_eqb, le-leb, lt-leb, lt-ltb, le-ltb}
-use lib.ListN.{length, get_or}
+use Rattle.std.proofs.Common.{◌-◌, ◌≡◌, arith, eq-eqb, ne_eqb, le-leb, lt-ltb, le-ltb, length, get_or}
+use borrow.Author.Tests.{lt-leb}
 use Rattle.laws.specs.Tests.{and-false}
 use Rattle.sequence.specs.Gaps.{most}
 use Rattle.sequence.specs.Row.{cells, gaps_of, runs_of}

@@ -1,10 +1,6 @@
 -- `sequence::sound_runs` meets its contract. The loop's invariant: the runs passed are sound, and the rest have to begin from a
 -- number on.
-use Prim.Native.Nat.{◌-◌}
-use mathlib.Core.Path.{refl, sym, ◌∙◌}
-use native.Mathlib.Omega.{arith}
-use mathlib.Core.Logic.{inl, inr}
-use lib.ListN.{get_or}
+use Rattle.std.proofs.Common.{refl, sym, ◌∙◌, arith, inl, inr, get_or}
 use Rattle.sequence.specs.SoundLaws.{sound_stop, sound_end}
 use Rattle.sequence.specs.Row.{gaps_of, runs_of}
 use Rattle.sequence.proofs.sound_runs.Goals as goal

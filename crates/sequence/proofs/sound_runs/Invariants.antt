@@ -1,6 +1,4 @@
-use Prim.Native.Nat.{◌-◌, ◌≤◌}
-use mathlib.Core.Path.{◌≡◌}
-use lib.ListN.{drop}
+use Rattle.std.proofs.Common.{◌-◌, ◌≤◌, ◌≡◌, drop}
 use Rattle.sequence.specs.SoundTests.{sound_runs}
 use Rattle.sequence.specs.Row.{gaps_of, runs_of}
 use Rattle.sequence.proofs.sound_runs.Given as goal

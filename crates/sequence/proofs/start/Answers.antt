@@ -1,5 +1,5 @@
 -- `sequence::start` meets its contract: two stores into a row that is cleared.
-use mathlib.Core.Path.{refl}
+use Rattle.std.proofs.Common.{refl}
 use Rattle.sequence.specs.RowLaid.{laid}
 use Rattle.sequence.proofs.start.Goals as goal
 

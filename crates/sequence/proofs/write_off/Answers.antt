@@ -1,8 +1,5 @@
 -- `sequence::write_off` meets its contract: with no run it answers 17, else the lowest run goes.
-use mathlib.Core.Path.{◌≡◌}
-use native.Mathlib.Omega.{arith}
-use borrow.Author.Rules.{rules}
-use lib.ListN.{length}
+use Rattle.std.proofs.Common.{◌≡◌, arith, rules, length}
 use Rattle.sequence.proofs.Calls.{no_gap, wrote_off_lem}
 use Rattle.sequence.proofs.write_off.Goals as goal
 

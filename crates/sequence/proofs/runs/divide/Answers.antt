@@ -1,8 +1,5 @@
 -- `sequence::runs::divide` meets its contract: the numbers from the run on are copied one run on, and two stores part it.
-use Prim.Native.Nat.{ℕ, ◌+◌}
-use mathlib.Core.Path.{ap, ◌∙◌}
-use mathlib.Core.List.{List}
-use lib.ListN.{set}
+use Rattle.std.proofs.Common.{ℕ, ◌+◌, ap, ◌∙◌, List, set}
 use Rattle.sequence.specs.RowLaid.{cell}
 use Rattle.sequence.proofs.Cells.{divide_row}
 use Rattle.sequence.proofs.runs.divide.Goals as goal

@@ -1,9 +1,5 @@
 -- `sequence::runs::draw_in` meets its contract. The loop's invariant: the numbers up to j are copied, the rest is as it was.
-use Prim.Native.Nat.{ℕ, ◌+◌, ◌-◌}
-use mathlib.Core.Path.{ap, ◌∙◌}
-use native.Mathlib.Omega.{arith}
-use mathlib.Core.List.{List}
-use lib.ListN.{get_or, set}
+use Rattle.std.proofs.Common.{ℕ, ◌+◌, ap, ◌∙◌, arith, List, get_or, set}
 use Rattle.laws.specs.Moves.{draw_more}
 use Rattle.sequence.proofs.runs.draw_in.Goals as goal
 

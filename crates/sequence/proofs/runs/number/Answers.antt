@@ -1,5 +1,5 @@
 -- `sequence::runs::number` meets its contract: a row has room for 64 runs, so the smaller of its count and 64 stand.
-use native.Mathlib.Omega.{arith}
+use Rattle.std.proofs.Common.{arith}
 use Rattle.sequence.specs.RowLaws.{length_runs}
 use Rattle.sequence.proofs.runs.number.Goals as goal
 

@@ -1,8 +1,5 @@
 -- `sequence::runs::remove` meets its contract: the numbers behind the run are copied over it, and one run less stands.
-use Prim.Native.Nat.{ℕ, ◌-◌}
-use mathlib.Core.Path.{ap, ◌∙◌}
-use mathlib.Core.List.{List}
-use lib.ListN.{set}
+use Rattle.std.proofs.Common.{ℕ, ◌-◌, ap, ◌∙◌, List, set}
 use Rattle.sequence.proofs.Cells.{remove_row}
 use Rattle.sequence.proofs.runs.remove.Goals as goal
 

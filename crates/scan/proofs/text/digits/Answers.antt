@@ -1,5 +1,5 @@
 -- `digits` passes the digits: what passes those from the place reached, behind the amount reached, passes all of them.
-use Rattle.std.proofs.Common.{◌-◌, refl, arith}
+use Rattle.std.proofs.Common.{refl, arith}
 use Rattle.scan.specs.PartsLaws.{digits_one}
 use Rattle.scan.proofs.text.digits.Goals as goal
 

@@ -1,5 +1,5 @@
 -- `over` passes the digits: what passes those from the place reached passes all of them, and no digit leads below the ceiling.
-use Rattle.std.proofs.Common.{◌-◌, arith}
+use Rattle.std.proofs.Common.{arith}
 use Rattle.scan.specs.PartsLaws.{digits_one}
 use Rattle.scan.proofs.text.over.Goals as goal
 

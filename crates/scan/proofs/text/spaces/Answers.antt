@@ -1,5 +1,4 @@
 -- `spaces` passes the spaces: what passes those from the place reached passes all of them.
-use Rattle.std.proofs.Common.{◌-◌}
 use Rattle.scan.specs.PartsLaws.{spaces_one}
 use Rattle.scan.proofs.text.spaces.Goals as goal
 

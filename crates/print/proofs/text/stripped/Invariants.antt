@@ -1,4 +1,3 @@
-use Prim.Native.Nat.{◌-◌}
 use mathlib.Core.Path.{◌≡◌}
 use Rattle.print.specs.Write.{text_of}
 use Rattle.print.proofs.text.stripped.Given as goal

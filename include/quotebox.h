@@ -1,4 +1,4 @@
-/* The quote box for hosts in C and C++: libhost.a, written by `rt staticlib host`.
+/* The quote box for hosts in C and C++: libhost.a, written by `tests/archive`.
  *
  * The box has no memory of its own. A host lends each call what it works on:
  *

@@ -7,8 +7,7 @@ ghost use Rattle.host.specs.Promises.{HostStarted, HostJudged, HostTook, HostLis
 use layout::{KEY_BYTES, Level};
 use quotebox::Code;
 
-#[unsafe(no_mangle)]
-pub extern "C" fn quotebox_start(
+pub fn quotebox_start(
     list: &[u8],
     spreads: &[u8],
     starts: &[u32],
@@ -22,8 +21,7 @@ pub extern "C" fn quotebox_start(
     told::tell(told::of_started(started), answer)
 }
 
-#[unsafe(no_mangle)]
-pub extern "C" fn quotebox_judge(
+pub fn quotebox_judge(
     list: &[u8],
     spreads: &[u8],
     rows: &[u32],
@@ -37,8 +35,7 @@ pub extern "C" fn quotebox_judge(
     told::tell(told::of_judged(judged), answer)
 }
 
-#[unsafe(no_mangle)]
-pub extern "C" fn quotebox_take(
+pub fn quotebox_take(
     list: &[u8],
     spreads: &[u8],
     rows: &mut [u32],
@@ -52,8 +49,7 @@ pub extern "C" fn quotebox_take(
     told::tell(told::of_judged(judged), answer)
 }
 
-#[unsafe(no_mangle)]
-pub extern "C" fn quotebox_list_gaps(
+pub fn quotebox_list_gaps(
     list: &[u8],
     spreads: &[u8],
     rows: &[u32],
@@ -68,8 +64,7 @@ pub extern "C" fn quotebox_list_gaps(
     told::tell(told::of_listed(listed), answer)
 }
 
-#[unsafe(no_mangle)]
-pub extern "C" fn quotebox_write_off(
+pub fn quotebox_write_off(
     list: &[u8],
     spreads: &[u8],
     rows: &mut [u32],
@@ -103,8 +98,7 @@ fn read(
     told::tell(told::of_recorded(recorded), answer)
 }
 
-#[unsafe(no_mangle)]
-pub extern "C" fn quotebox_read_level1(
+pub fn quotebox_read_level1(
     list: &[u8],
     spreads: &[u8],
     rows: &[u32],
@@ -129,8 +123,7 @@ pub extern "C" fn quotebox_read_level1(
     )
 }
 
-#[unsafe(no_mangle)]
-pub extern "C" fn quotebox_read_level2(
+pub fn quotebox_read_level2(
     list: &[u8],
     spreads: &[u8],
     rows: &[u32],
@@ -171,8 +164,7 @@ fn write(
     told::tell(told::of_written(written), answer)
 }
 
-#[unsafe(no_mangle)]
-pub extern "C" fn quotebox_write_level1(
+pub fn quotebox_write_level1(
     code: &[u8; 2],
     number: u32,
     key: &[u8; KEY_BYTES],
@@ -185,8 +177,7 @@ pub extern "C" fn quotebox_write_level1(
     write(code, Level::One, number, key, values, out, answer)
 }
 
-#[unsafe(no_mangle)]
-pub extern "C" fn quotebox_write_level2(
+pub fn quotebox_write_level2(
     code: &[u8; 2],
     number: u32,
     key: &[u8; KEY_BYTES],

@@ -27,8 +27,7 @@ fn read_spread(
     told::tell(told::of_recorded(recorded), answer)
 }
 
-#[unsafe(no_mangle)]
-pub extern "C" fn quotebox_read_spread1(
+pub fn quotebox_read_spread1(
     list: &[u8],
     spreads: &[u8],
     rows: &[u32],
@@ -53,8 +52,7 @@ pub extern "C" fn quotebox_read_spread1(
     )
 }
 
-#[unsafe(no_mangle)]
-pub extern "C" fn quotebox_read_spread2(
+pub fn quotebox_read_spread2(
     list: &[u8],
     spreads: &[u8],
     rows: &[u32],
@@ -95,8 +93,7 @@ fn write_spread(
     told::tell(told::of_written(written), answer)
 }
 
-#[unsafe(no_mangle)]
-pub extern "C" fn quotebox_write_spread1(
+pub fn quotebox_write_spread1(
     code: &[u8; 2],
     number: u32,
     pair: &[u8; PAIR_BYTES],
@@ -109,8 +106,7 @@ pub extern "C" fn quotebox_write_spread1(
     write_spread(code, Level::One, number, pair, values, out, answer)
 }
 
-#[unsafe(no_mangle)]
-pub extern "C" fn quotebox_write_spread2(
+pub fn quotebox_write_spread2(
     code: &[u8; 2],
     number: u32,
     pair: &[u8; PAIR_BYTES],
@@ -123,8 +119,7 @@ pub extern "C" fn quotebox_write_spread2(
     write_spread(code, Level::Two, number, pair, values, out, answer)
 }
 
-#[unsafe(no_mangle)]
-pub extern "C" fn quotebox_no_spreads(list: &[u8], out: &mut [u8], answer: &mut [u64; 4]) -> u32
+pub fn quotebox_no_spreads(list: &[u8], out: &mut [u8], answer: &mut [u64; 4]) -> u32
     ensures { HostPutNoSpreads list.now out.old result out.new answer.new }
 {
     let written = quotebox::no_spreads(list, out);

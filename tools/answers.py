@@ -139,9 +139,9 @@ for fn,(pre,uses,decls) in parsed.items():
         if m:
             k=d['lines']
             body='\n'.join(k[1:])
-            mm=re.search(r'^'+re.escape(d['name'])+r'((?: '+TOK+r'+)*) =(\s.*)$',body,re.S|re.M)
+            mm=re.search(r'^'+re.escape(d['name'])+r'((?: «?'+TOK+r'+»?)*) =(\s.*)$',body,re.S|re.M)
             head=body[:mm.start()]
-            args=mm.group(1).split(); rest=mm.group(2)
+            args=[a.strip('«»') for a in mm.group(1).split()]; rest=re.sub(r'«('+TOK+r'+)»',r'\1',mm.group(2))
             old=m.group(2)
             li=[l for l in inf['loops'] if l[0][0]==old] or inf['loops']
             vars_=li[0][1]; newl=li[0][0][1]; ch=inf['changed'][inf['loops'].index(li[0])]

@@ -7,6 +7,5 @@ pub mod PlainLaws
 pub mod Read
 pub mod ReadLaws
 pub mod Says
-pub mod SaysLaws
 pub mod FirstBad
 pub mod FirstBadLaws

@@ -12,7 +12,7 @@ use Rattle.layout.specs.declared.read.RowRead.TheVariants.{Cell, Field, Range}
 use Rattle.forms.specs.declared.rows.Row.{Row}
 use Rattle.layout.specs.Says.{row_at, field_at, RowSays}
 use Rattle.layout.specs.Read.{read_row}
-use Rattle.layout.specs.SaysLaws.{row_exactly}
+use Rattle.layout.proofs.SaysLaws.{row_exactly}
 use Rattle.forms.specs.Rows.{width_of, offset_of}
 use Rattle.forms.specs.declared.forms.Item.{Item}
 use Rattle.forms.specs.declared.forms.Named.{Named}

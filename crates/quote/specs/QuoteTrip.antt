@@ -26,7 +26,7 @@ use Rattle.layout.specs.PlainLaws.{has_value}
 use Rattle.layout.specs.CellsLaws.{byte_back}
 use Rattle.layout.specs.Read.{is_market_type, is_status, letter_cell, read_row, Outcome, row_then, read_rows}
 use Rattle.layout.specs.Says.{NumberSays}
-use Rattle.layout.specs.SaysLaws.{row_exactly}
+use Rattle.layout.proofs.SaysLaws.{row_exactly}
 use Rattle.compose.specs.Write.{row_text, letter_text, Laid, write_refusal, write_rows}
 use Rattle.compose.specs.RowTextLaws.{market_small, status_small, text_held}
 use Rattle.compose.specs.WriteLaws.{GoodRow, good_row}

@@ -4,7 +4,8 @@ use Rattle.decimal.specs.Denotes.{below_zero}
 use Rattle.scan.specs.Read.{sided, read_as}
 use Rattle.print.specs.Write.{written_as, filled, blank_text}
 use Rattle.scan.specs.ReadLaws.{denoted, reads_exactly}
-use Rattle.print.specs.WriteLaws.{fills_right, none_spaces}
+use Rattle.print.proofs.WriteTexts.{fills_right}
+use Rattle.print.specs.WriteLaws.{none_spaces}
 use Rattle.decimal.specs.declared.Kind.{Kind}
 use Rattle.scan.specs.declared.Number.TheVariants.{None}
 

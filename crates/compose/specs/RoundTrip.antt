@@ -6,7 +6,7 @@ use Rattle.std.proofs.Math.Seq.{take-append-add}
 use Rattle.wire.specs.Number.{number_at}
 use Rattle.amount.specs.ReadBack.{reads_back, none_reads_back}
 use Rattle.print.specs.Write.{blank_text}
-use Rattle.print.specs.WriteLaws.{fills_right}
+use Rattle.print.proofs.WriteTexts.{fills_right}
 use Rattle.layout.specs.declared.cells.Held.{Held}
 use Rattle.layout.specs.declared.cells.Held.TheVariants.{Nothing, Units, Below}
 use Rattle.forms.specs.declared.rows.Row.{Row}

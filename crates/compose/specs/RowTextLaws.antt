@@ -7,7 +7,7 @@ use Rattle.laws.specs.Order.{same}
 use Rattle.laws.specs.Tests.{eqb_is, or_is}
 use Rattle.decimal.specs.Denotes.{space}
 use Rattle.print.specs.Write.{Written, filled, refused, blank_text}
-use Rattle.print.specs.WriteLaws.{fills_right}
+use Rattle.print.proofs.WriteTexts.{fills_right}
 use Rattle.layout.specs.declared.cells.Held.{Held}
 use Rattle.layout.specs.declared.cells.Held.TheVariants.{Nothing, Units, Below}
 use Rattle.forms.specs.declared.rows.Markets.{Markets}

@@ -10,7 +10,8 @@ use Rattle.laws.specs.Order.{order, same}
 use Rattle.decimal.specs.declared.Kind.{Kind}
 use Rattle.decimal.specs.Kinds.{price, quantity, turnover, difference}
 use Rattle.print.specs.Write.{written_as, Written, filled, refused}
-use Rattle.print.specs.WriteLaws.{Refused, refuses, sideless}
+use Rattle.print.proofs.WriteTexts.{refuses}
+use Rattle.print.specs.WriteLaws.{Refused, sideless}
 use Rattle.layout.specs.declared.cells.Held.{Held}
 use Rattle.layout.specs.declared.cells.Held.TheVariants.{Nothing, Units, Below}
 use Rattle.quote.specs.declared.quote.Quote.{Quote}

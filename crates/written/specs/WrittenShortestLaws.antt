@@ -6,7 +6,8 @@ use Rattle.decimal.specs.declared.Kind.{Kind}
 use Rattle.decimal.specs.Kinds.{price, quantity, turnover, difference}
 use Rattle.decimal.specs.Denotes.{below_zero}
 use Rattle.print.specs.Write.{written_as, filled, refused, signed_text, blank_text, spaced}
-use Rattle.print.specs.WriteLaws.{none_spaces, fills_right, shortest, within, fitting, narrow}
+use Rattle.print.proofs.WriteTexts.{fills_right, shortest}
+use Rattle.print.specs.WriteLaws.{none_spaces, within, fitting, narrow}
 use Rattle.forms.specs.declared.rows.Level.{Level}
 use Rattle.forms.specs.declared.forms.Item.{Item}
 use Rattle.forms.specs.declared.forms.Form.{Form}

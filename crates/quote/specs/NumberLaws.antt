@@ -38,14 +38,14 @@ module _ {A : Type 0} {signed : Bool} {of : Held → A} {held : A → Held} {pla
   pub number_back : (a : A) → (value_of signed (held a) ≡ no_room → ⊥) → of (held_in signed (value_of signed (held a))) ≡ plain a
   number_back a small = ap of (held_back signed (held a) (number.may_hold a) small) ∙ number.of_held a
 
-  no_room : (signed : Bool) → value_of signed (held_in signed no_room) ≡ no_room
-  no_room true = refl
-  no_room false = refl
+  no_room_lem : (signed : Bool) → value_of signed (held_in signed no_room) ≡ no_room
+  no_room_lem true = refl
+  no_room_lem false = refl
 
   -- a number's value is seen as it is
   pub value_again : (a : A) → value_of signed (held_in signed (value_of signed (held a))) ≡ value_of signed (held a)
   value_again a =
-      ⊎_elim (λ (e : value_of signed (held a) ≡ no_room). rw e (no_room signed))
+      ⊎_elim (λ (e : value_of signed (held a) ≡ no_room). rw e (no_room_lem signed))
       (λ (e : value_of signed (held a) ≡ no_room → ⊥). ap (value_of signed) (held_back signed (held a) (number.may_hold a) e))
       (same (value_of signed (held a)) no_room)
 

@@ -4,7 +4,7 @@ use Rattle.std.specs.Prelude.{◌≡◌, Bool, ◌↔◌, List, [], ◌∷◌, �
 use Rattle.std.proofs.Math.Path.{refl}
 use Rattle.std.proofs.Common.{ap, sym, ◌∙◌, ⊎_elim, arith}
 use Rattle.std.proofs.Math.Bool.{true, false, cond}
-use Rattle.std.proofs.Math.Logic.{Iff·trans}
+use Rattle.std.proofs.Math.Logic.Iff
 use Rattle.std.proofs.Math.Option.{Option, none, some}
 use Rattle.laws.specs.Rules.{Rule as RuleOf, first_broken, Hold, Broken}
 use Rattle.laws.specs.RulesLaws.{none_hold, hold_none, some_broken, broken_some, front_holds, front_broken, hold_append, unlike}
@@ -147,7 +147,7 @@ module _ (lists : Lists) (letter : ℕ) where
       let e = eqb_is (length bytes) 0 in
       ((λ h. e.0 h.0), (λ g. (e.1 g, tt)))
   messages_exact (suc more) i gaps bytes =
-      let own = Iff·trans (as_hold i (message_rules lists letter bytes)) (rules_exact lists letter bytes) in
+      let own = Iff.trans (as_hold i (message_rules lists letter bytes)) (rules_exact lists letter bytes) in
       let few = leb_is (length (gaps_after gaps bytes).runs) most in
       let rest = messages_exact more (suc i) (gaps_after gaps bytes) (drop (length_of bytes) bytes) in
       let parts = hold_append (as_rules i (message_rules lists letter bytes)) _ in (

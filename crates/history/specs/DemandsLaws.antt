@@ -1,7 +1,7 @@
 -- The theorems: what `Demands` states holds after every history, of any two, and of every call.
 use Rattle.std.specs.Prelude.{ℕ, ◌≡◌, Bool, ◌||◌, List, ltb}
 use Rattle.std.proofs.Common.{sym, ap₂, subst, ◌∙◌}
-use Rattle.std.proofs.Math.Logic.{Iff·trans, Iff·symm}
+use Rattle.std.proofs.Math.Logic.Iff
 use Rattle.pairs.specs.Lists.{Lists}
 use Rattle.state.specs.declared.refusal.Refusal.TheVariants.{Gaps}
 use Rattle.state.specs.declared.answers.Judged.{Judged}
@@ -49,7 +49,7 @@ module _ {starts : List ℕ} {lent : Lent} {past : List Event} (r : Reached star
         accepted_exactly = accepted_exactly r;
         judged_exactly = judged_exactly r;
         refused_for_gaps = λ batch answer p i.
-            Iff·trans (judged_refused lent batch answer p (Gaps i)) (Iff·trans (Iff·symm (refused_exact lent batch (Gaps i))) (acts_over r batch i));
+            Iff.trans (judged_refused lent batch answer p (Gaps i)) (Iff.trans (Iff.symm (refused_exact lent batch (Gaps i))) (acts_over r batch i));
         keys_compared = λ batch answer p. record { follows = compared_follows lent batch answer p; few = compared_few lent batch answer p };
         state_passes = (reached_holds r).state;
         lists_sound = (reached_holds r).lists_sound;

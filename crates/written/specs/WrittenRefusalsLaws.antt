@@ -3,7 +3,7 @@ use Rattle.std.specs.Prelude.{ℕ, ◌≤◌, ◌<◌, ◌≡◌, Bool, false, c
 use Rattle.std.proofs.Math.Path.{refl, ap}
 use Rattle.std.proofs.Common.{sym, ◌∙◌, arith, leb-false}
 use Rattle.std.proofs.Math.Bool.{true}
-use Rattle.std.proofs.Math.Logic.{Iff·trans}
+use Rattle.std.proofs.Math.Logic.Iff
 use Rattle.std.proofs.Math.Option.{Option, none, some}
 use Rattle.std.proofs.lemmas.Bool.{lt-leb}
 use Rattle.laws.specs.Rules.{first_broken}
@@ -65,17 +65,17 @@ module _ (item : Item) (form : Form) (key values : List ℕ) (given : Name → V
 
   verdict_field : (k : ℕ) → v ≡ verdict.Field k ↔ First form key given (MalformedAt form key given) k
   verdict_field k =
-      Iff·trans (write_exactly (rows_of form) key values (verdict.Field k))
+      Iff.trans (write_exactly (rows_of form) key values (verdict.Field k))
       (first_exact 11 (MalformedAt form key given) (field_exact item form key values given from key-long) k)
 
   verdict_range : (k : ℕ) → v ≡ verdict.Range k ↔ First form key given (OutOfRangeAt form given) k
   verdict_range k =
-      Iff·trans (write_exactly (rows_of form) key values (verdict.Range k))
+      Iff.trans (write_exactly (rows_of form) key values (verdict.Range k))
       (first_exact 12 (OutOfRangeAt form given) (range_exact item form key values given from key-long) k)
 
   verdict_good : v ≡ verdict.Good ↔ AllFine form key given
   verdict_good =
-      Iff·trans (write_exactly (rows_of form) key values verdict.Good)
+      Iff.trans (write_exactly (rows_of form) key values verdict.Good)
       ((λ g k h. (fine_exact item form key values given from key-long k h).0 (g k h)), (λ f k h. (fine_exact item form key values given from key-long k h).1 (f k h)))
 
 -- ---- the first broken rule
@@ -162,13 +162,13 @@ module _ (item : Item) (code : Code) (level : Level) (number : ℕ) (key : List 
     -- 6 exactly where the code is not in the table
     pub refuses_code : answer ≡ Written.Refused (CodeOver 0) ↔ in_table chose ≡ false
     refuses_code =
-        Iff·trans (answers_refusal (CodeOver 0))
+        Iff.trans (answers_refusal (CodeOver 0))
         (rw rules_are (code_why (length_written chose) (in_table chose) (numbered chose number) (data_written chose key handed).verdict fitting))
 
     -- 10 exactly where the code is in the table and the number is not one that its messages have
     pub refuses_number : answer ≡ Written.Refused (Numbering 0) ↔ (in_table chose ≡ true) × (numbered chose number ≡ false)
     refuses_number =
-        Iff·trans (answers_refusal (Numbering 0))
+        Iff.trans (answers_refusal (Numbering 0))
         (rw rules_are (number_why (length_written chose) (in_table chose) (numbered chose number) (data_written chose key handed).verdict fitting))
 
     -- a form whose code and number may be written
@@ -197,27 +197,27 @@ module _ (item : Item) (code : Code) (level : Level) (number : ℕ) (key : List 
         -- 11 at row k exactly where that row is malformed and every row before it is fine
         pub refuses_field : (k : ℕ) → answer ≡ Written.Refused (Field 0 k) ↔ First form key given (MalformedAt form key given) k
         refuses_field k =
-            Iff·trans (answers_refusal (Field 0 k))
-            (by (some (Field 0 k)) (Iff·trans (field_why wanted own (leb wanted (length out)) k) (verdict_field item form key (values form) given from key-long k)))
+            Iff.trans (answers_refusal (Field 0 k))
+            (by (some (Field 0 k)) (Iff.trans (field_why wanted own (leb wanted (length out)) k) (verdict_field item form key (values form) given from key-long k)))
 
         -- 12 at row k exactly where that row is out of range and every row before it is fine
         pub refuses_range : (k : ℕ) → answer ≡ Written.Refused (Range 0 k) ↔ First form key given (OutOfRangeAt form given) k
         refuses_range k =
-            Iff·trans (answers_refusal (Range 0 k))
-            (by (some (Range 0 k)) (Iff·trans (range_why wanted own (leb wanted (length out)) k) (verdict_range item form key (values form) given from key-long k)))
+            Iff.trans (answers_refusal (Range 0 k))
+            (by (some (Range 0 k)) (Iff.trans (range_why wanted own (leb wanted (length out)) k) (verdict_range item form key (values form) given from key-long k)))
 
         -- 15 exactly where every row is fine and `out` is shorter than the message
         pub refuses_memory : answer ≡ Written.Refused (Memory wanted) ↔ AllFine form key given × (length out < wanted)
         refuses_memory =
-            Iff·trans (answers_refusal (Memory wanted))
-            (by (some (Memory wanted)) (Iff·trans (room_why wanted own (leb wanted (length out))) (both_fine (leb-false wanted (length out), lt-leb wanted (length out)))))
+            Iff.trans (answers_refusal (Memory wanted))
+            (by (some (Memory wanted)) (Iff.trans (room_why wanted own (leb wanted (length out))) (both_fine (leb-false wanted (length out), lt-leb wanted (length out)))))
 
         -- and no refusal otherwise: the message is written exactly where every row is fine and there is room
         pub accepts : answer ≡ Written.Message wanted ↔ AllFine form key given × (wanted ≤ length out)
         unfolding length_written
         accepts =
-            Iff·trans (rw (ap length_written is-chosen) at answers_length)
-            (by none (Iff·trans (none_why wanted own (leb wanted (length out))) (both_fine (leb_is wanted (length out)))))
+            Iff.trans (rw (ap length_written is-chosen) at answers_length)
+            (by none (Iff.trans (none_why wanted own (leb wanted (length out))) (both_fine (leb_is wanted (length out)))))
 
 -- a heartbeat has no rows, so that its level, key and quote aren't looked at
 pub nothing_fine : (form : Form) → subject_of form ≡ Nothing → (key : List ℕ) (given : Name → Value) → AllFine form key given

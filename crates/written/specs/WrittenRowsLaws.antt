@@ -2,7 +2,7 @@
 use Rattle.std.specs.Prelude.{ℕ, zero, suc, ◌+◌, ◌-◌, ◌≤◌, ◌<◌, ◌≡◌, refl, Bool, true, false, cond, ◌&&◌, ◌⊎◌, ◌↔◌, List, [], ◌∷◌, ◌++◌, map, leb, eqb, length, get_or, take}
 use Rattle.std.proofs.Common.{ap, sym, subst, ◌∙◌, true≢false, inl, inr, ⊎_elim, arith, le-leb, lt-ltb, le-ltb, ne_eqb, lit<, length-drop, get_or-take, length-take-le}
 use Rattle.std.proofs.lemmas.Bool.{false≢true, lt-leb, eqb-false}
-use Rattle.std.proofs.Math.Logic.{Iff·trans}
+use Rattle.std.proofs.Math.Logic.Iff
 use Rattle.std.proofs.lemmas.List.{length-map}
 use Rattle.std.proofs.Math.ListN.{get_or-map, get_or-append}
 use Rattle.laws.specs.Tests.{and-false, conj, eqb_is, or_is}
@@ -244,8 +244,8 @@ Refuses kind width (Below n) = Refused kind width true n
 module _ (kind : Kind) (width : ℕ) where
   pub held_exact : (held : Held) → write_refusal (held_text kind width held) ≡ 12 ↔ Refuses kind width held
   held_exact Nothing = ((λ e. omega arith), (λ e. absurd e))
-  held_exact (Units n) = Iff·trans (of_written_lem (written_as kind width false n)) (refuses kind width false n)
-  held_exact (Below n) = Iff·trans (of_written_lem (written_as kind width true n)) (refuses kind width true n)
+  held_exact (Units n) = Iff.trans (of_written_lem (written_as kind width false n)) (refuses kind width false n)
+  held_exact (Below n) = Iff.trans (of_written_lem (written_as kind width true n)) (refuses kind width true n)
 
   held_formed : (held : Held) → write_refusal (held_text kind width held) ≡ 11 → ⊥
   held_formed Nothing e = omega arith
@@ -296,7 +296,7 @@ module _ (kind : Kind) (width : ℕ) where
             ((λ u. out), (λ u. held_out))
 
     value_exact : (value : Value) → write_refusal (held_text kind width (heldBy kind.signed (value_of kind.signed (held_of value)))) ≡ 12 ↔ Unwritable kind width value
-    value_exact value = Iff·trans (held_exact (heldBy kind.signed (value_of kind.signed (held_of value)))) (by value)
+    value_exact value = Iff.trans (held_exact (heldBy kind.signed (value_of kind.signed (held_of value)))) (by value)
       where
         by : (value : Value) → Refuses kind width (heldBy kind.signed (value_of kind.signed (held_of value))) ↔ Unwritable kind width value
         by (letter byte) = ((λ u. u), (λ u. u))
@@ -320,7 +320,7 @@ row_field : (row : Row) (part : List ℕ) (value : Value) → key_used row ≤ l
 unfolding row_text
 row_field (Key width) part value has =
     let long = length-take-le width part has in
-    Iff·trans (tested (take width part) (leb width (length part) && all_printable (take width part))) (
+    Iff.trans (tested (take width part) (leb width (length part) && all_printable (take width part))) (
       (λ e.
           let found = bad_there (take width part) (sym (ap (λ (t : Bool). t && all_printable (take width part)) (le-leb width (length part) has)) ∙ e) in
           let inside = found.1 in
@@ -333,9 +333,9 @@ row_field (Key width) part value has =
           ∙ and-false (leb width (length part))),
     )
 row_field (MarketType markets) part value has =
-    Iff·trans (tested (byte_of value ∷ []) (is_market_type markets (byte_of value))) (fails (market_is markets (byte_of value)))
+    Iff.trans (tested (byte_of value ∷ []) (is_market_type markets (byte_of value))) (fails (market_is markets (byte_of value)))
 row_field Status part value has =
-    Iff·trans (tested (byte_of value ∷ []) (is_status (byte_of value))) (fails (or_is (eqb_is (byte_of value) 83) (eqb_is (byte_of value) 32)))
+    Iff.trans (tested (byte_of value ∷ []) (is_status (byte_of value))) (fails (or_is (eqb_is (byte_of value) 83) (eqb_is (byte_of value) 32)))
 row_field (Price width) part value has = (held_formed price width (heldBy false (value_of false (held_of value))), (λ e. absurd e))
 row_field (Quantity width) part value has = (held_formed quantity width (heldBy false (value_of false (held_of value))), (λ e. absurd e))
 row_field (Turnover width) part value has = (held_formed turnover width (heldBy false (value_of false (held_of value))), (λ e. absurd e))

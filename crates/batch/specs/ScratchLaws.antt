@@ -25,7 +25,7 @@ use Rattle.turns.specs.declared.act.InTurn.{InTurn}
 use Rattle.state.specs.declared.answers.Judged.{Judged}
 use Rattle.state.specs.declared.answers.Judged.TheVariants.{Accepted, Refused}
 use Rattle.state.specs.declared.refusal.Refusal.{Refusal}
-use Rattle.turns.specs.Acts.{box_at, InFront, Ready, Left, JudgedMessages, none as noCounts}
+use Rattle.turns.specs.Acts.{box_at, InFront, Ready, Left, JudgedMessages, none as no_counts}
 use Rattle.turns.specs.ActsLaws.{acts_as_lem}
 use Rattle.state.specs.Answers.{judged_numbers}
 use Rattle.turns.specs.Compared.{compared_in, reached_by, counted_numbers}
@@ -92,12 +92,12 @@ module _ (rows : List ℕ) (segment : Option ℕ) where
 module _ (lists : Lists) (rows : List ℕ) (letter : ℕ) where
   -- on scratch the messages do what they do to the box
   module _ (row bytes : List ℕ) (count : ℕ) (s : ScratchRow rows (segment_of lists.contracts letter) row) (h : 0 < count) (e : letter ≡ segment_letter_of bytes) where
-    scratch_acts : (records : List ℕ) → messages_act count lists letter 0 (box_at row records noCounts) bytes ≡ data_acts (lends lists rows records) bytes count
+    scratch_acts : (records : List ℕ) → messages_act count lists letter 0 (box_at row records no_counts) bytes ≡ data_acts (lends lists rows records) bytes count
     scratch_acts records = go (segment_of lists.contracts letter) refl ∙ ap (λ (l : ℕ). messages_act count lists l 0 (box_of (lends lists rows records) l) bytes) e
       where
-        go : (o : Option ℕ) → segment_of lists.contracts letter ≡ o → messages_act count lists letter 0 (box_at row records noCounts) bytes ≡ messages_act count lists letter 0 (box_of (lends lists rows records) letter) bytes
-        go none f = any_box lists letter f count bytes (box_at row records noCounts) (box_of (lends lists rows records) letter) h
-        go (some segment) f = ap (λ (r : List ℕ). messages_act count lists letter 0 (box_at r records noCounts) bytes) (s.is segment f ∙ sym (ap (gap_row_in rows) f))
+        go : (o : Option ℕ) → segment_of lists.contracts letter ≡ o → messages_act count lists letter 0 (box_at row records no_counts) bytes ≡ messages_act count lists letter 0 (box_of (lends lists rows records) letter) bytes
+        go none f = any_box lists letter f count bytes (box_at row records no_counts) (box_of (lends lists rows records) letter) h
+        go (some segment) f = ap (λ (r : List ℕ). messages_act count lists letter 0 (box_at r records no_counts) bytes) (s.is segment f ∙ sym (ap (gap_row_in rows) f))
 
     module _ (cells : ℕ) (turn : InTurn) (row' stores' : List ℕ) (j : JudgedMessages lists letter row cells bytes count turn row' stores') where
       pub scratch_judged : JudgedData lists rows bytes count turn.answer

@@ -13,7 +13,7 @@ use Rattle.contracts.specs.SoundTests.{entry_sound, header_sound_by, key_sound, 
 use Rattle.sequence.specs.Row.{gaps_of}
 use Rattle.sequence.specs.RowLaid.{laid, sound_gap_row}
 use Rattle.forms.specs.Forms.{named_rows, rows_of, meaning_of, form_of}
-use Rattle.head.specs.Fields.{letter_of, segment_letter_of, second_of, length_of, number_of, sum_sent, end_byte, form_in, sum_in, right_sum, data_of as dataIn}
+use Rattle.head.specs.Fields.{letter_of, segment_letter_of, second_of, length_of, number_of, sum_sent, end_byte, form_in, sum_in, right_sum, data_of as data_in}
 use Rattle.head.specs.Rules.{head_of}
 use Rattle.head.specs.Tests.{framed, coded, trailed, summed}
 use Rattle.message.specs.Compared.{message_compared}
@@ -65,7 +65,7 @@ now = all_after (unstarted lent_first) calls
 
 -- they answer: 15 for the 132 cells that the first start wants; started; one message taken, and one more, with no key compared
 pub told : map answer_numbers (all_answers (unstarted lent_first) calls) ≡ (15 ∷ 0 ∷ 0 ∷ 132 ∷ []) ∷ (0 ∷ []) ∷ (0 ∷ 1 ∷ 0 ∷ 0 ∷ 0 ∷ []) ∷ (0 ∷ 1 ∷ 0 ∷ 0 ∷ 0 ∷ []) ∷ []
-unfolding no_spreads pairs_listed spread_header_sound spreads_sound start_rules each_starts key_from key_sound body_sound sound_by rows_started records_cleared segments_of letter_at zero_at count_at offset_at contracts_before segment_of entry_sound header_sound_by gaps_of laid sound_gap_row message_compared meaning_of form_of letter_of segment_letter_of second_of length_of number_of dataIn sum_sent end_byte form_in sum_in right_sum framed coded trailed summed head_of message_key key_place acts_as contents_by message_of flag_of size_of count_of message_acts messages_act batch_acts rows_of named_rows
+unfolding no_spreads pairs_listed spread_header_sound spreads_sound start_rules each_starts key_from key_sound body_sound sound_by rows_started records_cleared segments_of letter_at zero_at count_at offset_at contracts_before segment_of entry_sound header_sound_by gaps_of laid sound_gap_row message_compared meaning_of form_of letter_of segment_letter_of second_of length_of number_of data_in sum_sent end_byte form_in sum_in right_sum framed coded trailed summed head_of message_key key_place acts_as contents_by message_of flag_of size_of count_of message_acts messages_act batch_acts rows_of named_rows
 told = refl
 
 -- the history
@@ -75,7 +75,7 @@ reached = calls_reach lent_first calls (record { starts = starts; past = past_of
 
 -- its past says of segment 0, which is listed for T: highest 4, missing 2 and 3, one run
 pub says : (segment_of now.lent.lists.contracts 84 ≡ some 0) × (highest_in 0 1 (past_of now) ≡ 4) × (those (missing_in 0 1 (past_of now)) 5 ≡ 2 ∷ 3 ∷ []) × (runs_standing 0 1 (past_of now) ≡ 1)
-unfolding no_spreads pairs_listed spread_header_sound spreads_sound start_rules each_starts key_from key_sound body_sound sound_by rows_started records_cleared segments_of letter_at zero_at count_at offset_at contracts_before segment_of entry_sound header_sound_by gaps_of laid sound_gap_row meaning_of form_of letter_of segment_letter_of second_of length_of number_of dataIn sum_sent end_byte form_in sum_in right_sum framed coded trailed summed head_of message_key key_place acts_as contents_by message_of flag_of size_of count_of message_acts messages_act batch_acts rows_of named_rows
+unfolding no_spreads pairs_listed spread_header_sound spreads_sound start_rules each_starts key_from key_sound body_sound sound_by rows_started records_cleared segments_of letter_at zero_at count_at offset_at contracts_before segment_of entry_sound header_sound_by gaps_of laid sound_gap_row meaning_of form_of letter_of segment_letter_of second_of length_of number_of data_in sum_sent end_byte form_in sum_in right_sum framed coded trailed summed head_of message_key key_place acts_as contents_by message_of flag_of size_of count_of message_acts messages_act batch_acts rows_of named_rows
 says = (refl, refl, refl, refl)
 
 -- and so listing its gaps with two cells lent answers highest 4 and one run

@@ -26,7 +26,7 @@ use Rattle.forms.specs.declared.forms.Item.TheVariants.{Contract, Pair}
 use Rattle.sequence.specs.Row.{gaps_of}
 use Rattle.sequence.specs.RowLaid.{laid, sound_gap_row}
 use Rattle.forms.specs.Forms.{named_rows, rows_of, meaning_of, form_of, written_form}
-use Rattle.head.specs.Fields.{letter_of, segment_letter_of, second_of, length_of, number_of, sum_sent, end_byte, form_in, sum_in, right_sum, data_of as dataIn}
+use Rattle.head.specs.Fields.{letter_of, segment_letter_of, second_of, length_of, number_of, sum_sent, end_byte, form_in, sum_in, right_sum, data_of as data_in}
 use Rattle.head.specs.Rules.{head_of}
 use Rattle.head.specs.Tests.{framed, coded, trailed, summed}
 use Rattle.message.specs.Compared.{message_compared}
@@ -251,7 +251,7 @@ unfoldable pub sayings : List Case → List (List ℕ)
 sayings = map (λ (c : Case). c.says)
 
 pub p1_to_p14 : answered cases ≡ sayings cases
-unfolding no_spreads pairs_listed spread_header_sound spreads_sound cases answered sayings bit_step byte_step step walk read_as segments_of letter_at zero_at count_at offset_at contracts_before segment_of entry_sound header_sound_by gaps_of laid sound_gap_row message_compared meaning_of form_of written_form letter_of segment_letter_of second_of length_of number_of dataIn sum_sent end_byte form_in sum_in right_sum framed coded trailed summed head_of message_key key_place acts_as contents_by message_of flag_of size_of count_of message_acts messages_act batch_acts gaps_of_letter list_rules runs_put write_off_rules lent_written_off rows_started records_cleared segment_rules write_rules length_written data_written row_text quote_of values_of text_of size size_in start_rules each_starts key_from key_sound body_sound sound_by rows_of named_rows
+unfolding no_spreads pairs_listed spread_header_sound spreads_sound cases answered sayings bit_step byte_step step walk read_as segments_of letter_at zero_at count_at offset_at contracts_before segment_of entry_sound header_sound_by gaps_of laid sound_gap_row message_compared meaning_of form_of written_form letter_of segment_letter_of second_of length_of number_of data_in sum_sent end_byte form_in sum_in right_sum framed coded trailed summed head_of message_key key_place acts_as contents_by message_of flag_of size_of count_of message_acts messages_act batch_acts gaps_of_letter list_rules runs_put write_off_rules lent_written_off rows_started records_cleared segment_rules write_rules length_written data_written row_text quote_of values_of text_of size size_in start_rules each_starts key_from key_sound body_sound sound_by rows_of named_rows
 p1_to_p14 = refl
 
 -- ---- the table of refusals, where P1 to P14 are silent
@@ -316,5 +316,5 @@ refusals =
     ∷ []
 
 pub refusals_told : answered refusals ≡ sayings refusals
-unfolding no_spreads pairs_listed spread_header_sound spreads_sound refusals answered sayings bit_step byte_step step walk read_as segments_of letter_at zero_at count_at offset_at key_from contracts_before segment_of lookup halved_in entry_sound header_sound_by key_sound body_sound sound_by gaps_of laid sound_gap_row message_compared meaning_of form_of written_form letter_of segment_letter_of second_of length_of number_of dataIn sum_sent end_byte form_in sum_in right_sum framed coded trailed summed head_of message_key key_place acts_as contents_by message_of flag_of size_of count_of message_acts messages_act batch_acts gaps_of_letter list_rules runs_put write_off_rules record_rules start_rules each_starts rows_started records_cleared segment_rules message_bytes read_row rows_of named_rows
+unfolding no_spreads pairs_listed spread_header_sound spreads_sound refusals answered sayings bit_step byte_step step walk read_as segments_of letter_at zero_at count_at offset_at key_from contracts_before segment_of lookup halved_in entry_sound header_sound_by key_sound body_sound sound_by gaps_of laid sound_gap_row message_compared meaning_of form_of written_form letter_of segment_letter_of second_of length_of number_of data_in sum_sent end_byte form_in sum_in right_sum framed coded trailed summed head_of message_key key_place acts_as contents_by message_of flag_of size_of count_of message_acts messages_act batch_acts gaps_of_letter list_rules runs_put write_off_rules record_rules start_rules each_starts rows_started records_cleared segment_rules message_bytes read_row rows_of named_rows
 refusals_told = refl

@@ -49,7 +49,7 @@ module _ (rows : List Row) (key values bytes : List ℕ) (at used i : ℕ) (more
         → taken ≡ min (key_used (get_or rows i (Key 0))) (length key - used) → row_text (get_or rows i (Key 0)) (drop used key) (get_or values i 0) ≡ text characters
         → length bytes' ≡ most_data → take (at + width) bytes' ≡ take at bytes ++ characters
         → Writing rows key values bytes' (at + width) (used + taken) (i + 1)
-    goes_on bytes' width taken is-width is_taken_lem e whole in_front =
+    goes_on bytes' width taken is_width is_taken_lem e whole in_front =
         let left : length (drop used key) ≡ length key - used = length-drop used key in
         let key_left : drop (used + taken) key ≡ drop (key_used (get_or rows i (Key 0))) (drop used key) =
         sym (drop-drop taken used key) ∙ rw (is_taken_lem, ← left) (drop_min (key_used (get_or rows i (Key 0))) (drop used key)) in

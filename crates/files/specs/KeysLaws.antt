@@ -96,15 +96,15 @@ pub record ByWord (a b : List ℕ) (width i : ℕ) : Type 0 where
   pub same : number_at width a i ≡ number_at width b i → order_of (drop i a) (drop i b) ≡ order_of (drop (i + width) a) (drop (i + width) b)
 
 -- of bytes, since the first in which two numbers differ decides their order
-module _ (a b : List ℕ) (byte-a : (i : ℕ) → get_or a i 0 < 256) (byte-b : (i : ℕ) → get_or b i 0 < 256) where
+module _ (a b : List ℕ) (byte_a : (i : ℕ) → get_or a i 0 < 256) (byte_b : (i : ℕ) → get_or b i 0 < 256) where
   one_byte_more : (w i : ℕ) → i < length a → i < length b → ByWord a b w (i + 1) → ByWord a b (suc w) i
   one_byte_more w i h k rest = go (three (get_or a i 0) (get_or b i 0))
     where
       p : number_at w a (i + 1) < 256 ^ w
-      p = number_under a byte-a w (i + 1)
+      p = number_under a byte_a w (i + 1)
 
       q : number_at w b (i + 1) < 256 ^ w
-      q = number_under b byte-b w (i + 1)
+      q = number_under b byte_b w (i + 1)
 
       go : (get_or a i 0 < get_or b i 0) ⊎ ((get_or b i 0 < get_or a i 0) ⊎ (get_or a i 0 ≡ get_or b i 0)) → ByWord a b (suc w) i
       go (inl l) =

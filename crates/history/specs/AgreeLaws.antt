@@ -23,7 +23,7 @@ use Rattle.state.specs.declared.refusal.Refusal.TheVariants.{Code, Contract, Mem
 use Rattle.state.specs.declared.answers.Listed.{Listed}
 use Rattle.state.specs.declared.answers.Recorded.{Recorded}
 use Rattle.state.specs.Memory.{Lent, lends, gap_row_in}
-use Rattle.slots.specs.Slots.{Slot, slot as recordSlot}
+use Rattle.slots.specs.Slots.{Slot, slot as record_slot}
 use Rattle.forms.specs.Forms.{session_of}
 use Rattle.state.specs.AnswersLaws.{listed_told}
 use Rattle.listing.specs.ListPromises.{ListedRuns}
@@ -191,7 +191,7 @@ module _ {lists : Lists} {rows records rows' records' starts starts' : List ℕ}
           there : (i : ℕ) → segment_of lists.contracts letter ≡ some i → (o : Option ℕ) → place_in item lists i key ≡ o → (a ≡ b) × (x ≡ y)
           there i s none f = refused_same (Contract 0) (key_broken item lent letter key (segment_good r letter i s) i s f)
           there i s (some place) f =
-              readings_same letter i s (recordSlot item i place level) a b x y (reads_key r item letter i s key place f level a x p) (reads_key r' item letter i s key place f level b y q)
+              readings_same letter i s (record_slot item i place level) a b x y (reads_key r item letter i s key place f level a x p) (reads_key r' item letter i s key place f level b y q)
 
           go : (o : Option ℕ) → segment_of lists.contracts letter ≡ o → (a ≡ b) × (x ≡ y)
           go none e =

@@ -37,7 +37,7 @@ use Rattle.message.specs.Message.{Message, message_key}
 use Rattle.message.specs.Reads.{message_of}
 use Rattle.message.specs.MessageLaws.{key_in}
 use Rattle.message.specs.Numbers.{verdict_of, number_in}
-use Rattle.slots.specs.Slots.{Slot, slot as recordSlot, SlotListed, slot_for}
+use Rattle.slots.specs.Slots.{Slot, slot as record_slot, SlotListed, slot_for}
 use Rattle.slots.specs.Places.{slot_at, record_of}
 use Rattle.turns.specs.ActsLaws.{acts_as_lem}
 use Rattle.turns.specs.Turns.{Box, number_acts, updated, message_acts}
@@ -115,12 +115,12 @@ module _ (lists : Lists) (letter i : ℕ) (bytes : List ℕ) where
             let number_is : number ≡ sequence_number m = sym (ap number_in e) in
             let some_number : 0 < number = rw (u.form_is, subject, u.number_is) at ((good_exact lists letter bytes).0 (ap verdict_of e)).numbering in
             let quote : QuoteFor item = shown item form (zeros_behind (read_rows 0 (rows_of form) (data_of bytes)).cells) in
-            updates (recordSlot item i place level) (ap is_numbered e, ap verdict_of e) (ap (slot_of i) e ∙ ap (λ (s : Subject). slot_for s i place) subject)
+            updates (record_slot item i place level) (ap is_numbered e, ap verdict_of e) (ap (slot_of i) e ∙ ap (λ (s : Subject). slot_for s i place) subject)
             (λ box k.
             acts_as_lem lists letter bytes m refl e box k
             ∙ ap (λ (s : Subject). number_acts box k number (updated lists (segment_of lists.contracts letter) place s form number m.cells)) subject
             ∙ ap (λ (o : Option ℕ). number_acts box k number (updated lists o place (Of item level) form number m.cells)) listed
-            ∙ ap₂ (λ (n : ℕ) (f : Form). number_acts box k n (stored (slot_at lists (recordSlot item i place level)) n (record_of item f m.cells))) number_is form_is)
+            ∙ ap₂ (λ (n : ℕ) (f : Form). number_acts box k n (stored (slot_at lists (record_slot item i place level)) n (record_of item f m.cells))) number_is form_is)
             (record {
               listed = ((segment_has lists.contracts letter i listed).0, key.0);
               fits =

@@ -11,9 +11,9 @@ use Rattle.forms.specs.declared.forms.Named.TheVariants as is
 use Rattle.forms.specs.declared.forms.Subject.TheVariants.{Of}
 use Rattle.forms.specs.Forms.{named_rows, rows_of, subject_of, session_of}
 use Rattle.forms.specs.Rows.{message_length}
-use Rattle.head.specs.Fields.{length_of, number_of, form_in, data_of as dataIn}
+use Rattle.head.specs.Fields.{length_of, number_of, form_in, data_of as data_in}
 use Rattle.message.specs.Good.{GoodMessage}
-use Rattle.message.specs.Message.{Message, message_key as bytesKey}
+use Rattle.message.specs.Message.{Message, message_key as bytes_key}
 use Rattle.message.specs.Reads.{message_of}
 use Rattle.state.specs.declared.answers.Judged.{Judged}
 use Rattle.state.specs.declared.answers.Recorded.{Recorded}
@@ -57,11 +57,11 @@ pub data ReadsNewest (slot : Slot) (taken : List Message) (answer : Recorded) (q
 -- length, which tells of the slot's contract or pair and level, and its quote, which shows every field from the field of its name
 pub record UpdateSays (lists : Lists) (bytes : List ℕ) (m : Message) (slot : Slot) : Type 0 where
   pub number_is : number_of bytes ≡ sequence_number m
-  pub key_is : bytesKey (item_in slot) bytes ≡ key_in lists slot
+  pub key_is : bytes_key (item_in slot) bytes ≡ key_in lists slot
   pub form_is : form_in bytes ≡ is.Form (form_sent m)
   pub level_is : length_of bytes ≡ message_length (rows_of (form_sent m))
   pub tells : subject_of (form_sent m) ≡ Of (item_in slot) (level_in slot)
-  pub shows : ShowsEach (item_in slot) (field_named (named_rows (form_sent m)) (dataIn bytes)) (shown (item_in slot) (form_sent m) m.cells)
+  pub shows : ShowsEach (item_in slot) (field_named (named_rows (form_sent m)) (data_in bytes)) (shown (item_in slot) (form_sent m) m.cells)
 
 -- 01 "What the proof settles" (counts defined from the history): the counts of an accepted batch are those of its messages,
 -- each by what became of it when it came

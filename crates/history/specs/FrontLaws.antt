@@ -50,7 +50,7 @@ use Rattle.state.specs.Answers.{left_by}
 use Rattle.state.specs.Refusals.{Rule}
 use Rattle.state.specs.Memory.{Lent, lends, gap_row_cells, gap_rows_wanted, gap_row_of, gap_row_in}
 use Rattle.state.specs.MemoryRows.{with_gap_row, with_gap_row_in}
-use Rattle.slots.specs.Slots.{Slot, slot as recordSlot, SlotListed, records_wanted, cells_in_front}
+use Rattle.slots.specs.Slots.{Slot, slot as record_slot, SlotListed, records_wanted, cells_in_front}
 use Rattle.slots.specs.Places.{slot_at, slot_in, record_of, record_rows}
 use Rattle.slots.specs.SlotsLaws.{cells_by_rows, slot_inside, some_front}
 use Rattle.state.specs.State.{memory_rules, state_rules, segment_rules}
@@ -73,7 +73,7 @@ use Rattle.starting.specs.Start.{start_rules, each_starts}
 use Rattle.starting.specs.StartActs.{start_broken, started_rows, rows_started, records_cleared, lent_started}
 use Rattle.starting.specs.StartLaws.{started_lengths}
 use Rattle.reading.specs.Shown.{QuoteFor, shown, blank_for}
-use Rattle.history.specs.Calls.{started, judged, took, listed, wrote_off as offTold, read, Answer, Call, start, judge, take as taking, list_gaps, write_off, read_record, write_message, write_spread, no_spreads, with_lists}
+use Rattle.history.specs.Calls.{started, judged, took, listed, wrote_off as off_told, read, Answer, Call, start, judge, take as taking, list_gaps, write_off, read_record, write_message, write_spread, no_spreads, with_lists}
 use Rattle.history.specs.Step.{start_answer, batch_answer, list_refusal, list_answer, off_refusal, removed, read_refusal, record_answer, read_answer, read_quote, step}
 use Rattle.history.specs.TurnLaws.{took_box, old_box}
 use Rattle.history.specs.Front.{front_of, Enough, handed, SameFront, SameOutcome}
@@ -371,7 +371,7 @@ module _ (lent : Lent) (enough : Enough lent) where
         let held = last_held (segment_rules lent letter) (record { holds = is_some (key_place item lists letter key); refusal = Contract 0 }) e in
         let place = is_some_lem (key_place item lists letter key) held.1 in
         let f = key_found item lists letter key place.0 place.1 in
-        let own : Slot = recordSlot item f.0 place.0 level in
+        let own : Slot = record_slot item f.0 place.0 level in
         let there : SlotListed lists own = ((segment_has lists.contracts letter f.0 f.1).0, (key_at_place (habit_of item) (file_of item lists) f.0 key place.0 f.2).0) in
         omega (arith, slot_inside lists (state_held lent letter held.0).headers own there, cells_by_rows item level, record_found item lent letter key held.0 f.0 f.1 place.0 f.2 level)
 
@@ -431,7 +431,7 @@ front_decides lent (list_gaps letter cells) enough =
     }
 front_decides lent (write_off letter) enough =
     record {
-      same_answer = ap₂ (λ (o : Option Refusal) (g : Gaps). offTold (removed o (lowest_run g))) (off_same lent enough letter) (gaps_same lent enough letter);
+      same_answer = ap₂ (λ (o : Option Refusal) (g : Gaps). off_told (removed o (lowest_run g))) (off_same lent enough letter) (gaps_same lent enough letter);
       same_left = off_left_front lent enough letter;
     }
 front_decides lent (read_record item letter key level) enough = record { same_answer = read_same lent enough item letter key level; same_left = front_again lent enough }

@@ -18,7 +18,7 @@ use Rattle.message.specs.declared.body.What.{What}
 use Rattle.message.specs.declared.body.What.TheVariants as what
 use Rattle.message.specs.Message.{Message}
 use Rattle.stores.specs.Stored.{stored}
-use Rattle.slots.specs.Slots.{Slot, slot as recordSlot, slot_for, SlotListed, records_wanted, cells_in_front, level_cells}
+use Rattle.slots.specs.Slots.{Slot, slot as record_slot, slot_for, SlotListed, records_wanted, cells_in_front, level_cells}
 use Rattle.slots.specs.Places.{slot_at, slot_cells, record_of, record_rows}
 use Rattle.slots.specs.SlotsLaws.{cells_by_rows, record_long, slot_inside, slot_some, slots_apart}
 use Rattle.reading.specs.KeptLaws.{cells_wide}
@@ -42,37 +42,37 @@ same_item_lem Pair Contract e = cc
 same_item_lem Pair Pair e = refl
 
 pub same_slot_lem : (a b : Slot) → same_slot a b ≡ true → a ≡ b
-same_slot_lem (recordSlot a i p x) (recordSlot b j q y) e =
+same_slot_lem (record_slot a i p x) (record_slot b j q y) e =
     let parts = all_four (eqb i j) (eqb p q) (same_level x y) (same_item a b) e in
     let segments = eqb-true i j parts.0 in
     let places = eqb-true p q parts.1 in
     let levels = same_level_lem x y parts.2 in
     let items = same_item_lem a b parts.3 in
-    λ k. recordSlot (items k) (segments k) (places k) (levels k)
+    λ k. record_slot (items k) (segments k) (places k) (levels k)
 
 pub slot_itself : (a : Slot) → same_slot a a ≡ true
-slot_itself (recordSlot Contract i p One) = simp (eq-eqb i i refl, eq-eqb p p refl)
-slot_itself (recordSlot Contract i p Two) = simp (eq-eqb i i refl, eq-eqb p p refl)
-slot_itself (recordSlot Pair i p One) = simp (eq-eqb i i refl, eq-eqb p p refl)
-slot_itself (recordSlot Pair i p Two) = simp (eq-eqb i i refl, eq-eqb p p refl)
+slot_itself (record_slot Contract i p One) = simp (eq-eqb i i refl, eq-eqb p p refl)
+slot_itself (record_slot Contract i p Two) = simp (eq-eqb i i refl, eq-eqb p p refl)
+slot_itself (record_slot Pair i p One) = simp (eq-eqb i i refl, eq-eqb p p refl)
+slot_itself (record_slot Pair i p Two) = simp (eq-eqb i i refl, eq-eqb p p refl)
 
 -- a message of another segment is no update of a slot
 pub not_its : (slot : Slot) (i : ℕ) (w : What) → (i ≡ segment_in slot → ⊥) → is_slot slot (slot_of i w) ≡ false
-not_its (recordSlot a j p x) i what.Heartbeat n = refl
-not_its (recordSlot a j p x) i (what.PassedOver number) n = refl
-not_its (recordSlot a j p x) i (what.Bad fault) n = refl
-not_its (recordSlot a j p x) i (what.Update number form place) n = go (subject_of form)
+not_its (record_slot a j p x) i what.Heartbeat n = refl
+not_its (record_slot a j p x) i (what.PassedOver number) n = refl
+not_its (record_slot a j p x) i (what.Bad fault) n = refl
+not_its (record_slot a j p x) i (what.Update number form place) n = go (subject_of form)
   where
-    go : (s : Subject) → is_slot (recordSlot a j p x) (slot_for s i place) ≡ false
+    go : (s : Subject) → is_slot (record_slot a j p x) (slot_for s i place) ≡ false
     go Nothing = refl
     go (Of item level) = simp (ne_eqb i j n)
 
 -- a slot's cells: those in front, then one a row
 pub slot_rows : (slot : Slot) → slot_cells slot ≡ cells_in_front (item_in slot) + record_rows (item_in slot) (level_in slot)
-slot_rows (recordSlot item i p level) = cells_by_rows item level
+slot_rows (record_slot item i p level) = cells_by_rows item level
 
 slot_level : (slot : Slot) → slot_cells slot ≡ level_cells (item_in slot) (level_in slot)
-slot_level (recordSlot item i p level) = refl
+slot_level (record_slot item i p level) = refl
 
 -- ---- an update stored
 

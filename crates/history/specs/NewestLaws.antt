@@ -14,7 +14,7 @@ use Rattle.history.specs.Machine.{higher, sequence_number}
 
 module _ (slot : Slot) where
   none_among : FoundNewest slot [] none
-  none_among m in-none = absurd (Memᴰ.not-nil in-none)
+  none_among m in_none = absurd (Memᴰ.not-nil in_none)
 
   module _ (m : Message) (ms : List Message) where
     -- one that is no update of the contract

@@ -28,7 +28,7 @@ use Rattle.state.specs.declared.refusal.Refusal.TheVariants.{Memory}
 use Rattle.state.specs.declared.answers.Started.{Started}
 use Rattle.state.specs.declared.answers.Listed.{Listed}
 use Rattle.state.specs.declared.answers.WrittenOff.{WrittenOff}
-use Rattle.slots.specs.Slots.{Slot, slot as recordSlot}
+use Rattle.slots.specs.Slots.{Slot, slot as record_slot}
 use Rattle.writer.specs.WriterPromisesLaws.{one_written}
 use Rattle.starting.specs.StartPromisesLaws.{one_no_spreads}
 use Rattle.starting.specs.Start.{start_rules}
@@ -155,7 +155,7 @@ module _ (m : Machine) (letter : ℕ) where
 
   -- of sound lists a key and a level have one slot
   one_slot : SoundLists m.lists → {item : Item} {key : List ℕ} {level : Level} (a b : Slot) → AsksFor m.lists item letter key level a → AsksFor m.lists item letter key level b → a ≡ b
-  one_slot sound {item} {key} {level} (recordSlot x i place k) (recordSlot y j spot l) p q =
+  one_slot sound {item} {key} {level} (record_slot x i place k) (record_slot y j spot l) p q =
       let i_is = (segment_exact m.lists.contracts sound.contracts_sound.header letter i).1 (p.listed.0, p.of_letter) in
       let j_is = (segment_exact m.lists.contracts sound.contracts_sound.header letter j).1 (q.listed.0, q.of_letter) in
       let same : i ≡ j = one_segment i_is j_is in
@@ -166,10 +166,10 @@ module _ (m : Machine) (letter : ℕ) where
       let both : some place ≡ some spot = sym at ∙ here ∙ spot_at in
       let places : place ≡ spot = cc in
       let levels : k ≡ l = p.of_level ∙ sym q.of_level in
-      λ n. recordSlot (items n) (same n) (places n) (levels n)
+      λ n. record_slot (items n) (same n) (places n) (levels n)
 
   slot_there_lem : {item : Item} {key : List ℕ} {level : Level} (slot : Slot) → AsksFor m.lists item letter key level slot → LetterListed m.lists.contracts letter × KeyListed item m.lists letter key
-  slot_there_lem {item} {key} (recordSlot x i place k) p =
+  slot_there_lem {item} {key} (record_slot x i place k) p =
       ((i, p.listed.0, p.of_letter), subst (λ (y : Item). KeyListed y m.lists letter key) p.of_item (i, place, p.listed.0, p.of_letter, p.listed.1, p.of_key))
 
   one_reading : SoundLists m.lists → {item : Item} {key : List ℕ} {level : Level} {a b : Recorded} {p q : QuoteFor item} → Reads m item letter key level a p → Reads m item letter key level b q → (a ≡ b) × (p ≡ q)

@@ -20,7 +20,7 @@ use Rattle.state.specs.declared.refusal.Refusal.{Refusal}
 use Rattle.state.specs.declared.answers.Recorded.{Recorded}
 use Rattle.state.specs.Answers.{recorded_numbers, answered}
 use Rattle.state.specs.Memory.{Lent}
-use Rattle.slots.specs.Slots.{Slot, slot as recordSlot, SlotListed}
+use Rattle.slots.specs.Slots.{Slot, slot as record_slot, SlotListed}
 use Rattle.slots.specs.Places.{slot_at, slot_cells, record_of}
 use Rattle.slots.specs.SlotsLaws.{slot_inside}
 use Rattle.state.specs.AnswersLaws.{recorded_told}
@@ -56,16 +56,16 @@ module _ (lists : Lists) (records : List ℕ) (m : Message) where
   -- its session is the update's
   session_back : (slot : Slot) → slot_at lists slot + slot_cells slot ≤ length records → HoldsUpdate lists records slot m
       → record_session (item_in slot) records (slot_at lists slot) ≡ session_of (form_sent m)
-  session_back (recordSlot item i place level) room k =
-      let slot : Slot = recordSlot item i place level in
+  session_back (record_slot item i place level) room k =
+      let slot : Slot = record_slot item i place level in
       session_kept item level (form_sent m) k.fits.about records (slot_at lists slot) m.cells (behind_number lists records slot m room k)
 
   -- and it shows what the update holds
   shown_back : (slot : Slot) → slot_at lists slot + slot_cells slot ≤ length records → HoldsUpdate lists records slot m
       → shown (item_in slot) (record_form (item_in slot) (level_in slot)) (cells_at (item_in slot) (stamp_shown (item_in slot) (letter_in lists slot)) records (slot_at lists slot) (level_in slot))
       ≡ shown (item_in slot) (form_sent m) m.cells
-  shown_back (recordSlot item i place level) room k =
-      let slot : Slot = recordSlot item i place level in
+  shown_back (record_slot item i place level) room k =
+      let slot : Slot = record_slot item i place level in
       shown_kept item level (form_sent m) k.fits.about records (slot_at lists slot) m.cells (behind_number lists records slot m room k)
       room k.fits.quote k.fits.of_quote (stamp_shown item (letter_in lists slot)) (sym k.fits.stamped)
 
@@ -96,11 +96,11 @@ module _ {starts : List ℕ} {lent : Lent} {past : List Event} (r : Reached star
   -- the record of a key that is listed in the segment of a letter
   pub read_newest : (letter i : ℕ) → segment_of lent.lists.contracts letter ≡ some i → (key : List ℕ) (place : ℕ) → place_in item lent.lists i key ≡ some place
       → (level : Level) (answer : Recorded) (quote : QuoteFor item) → ReadsItem item lent letter key level answer quote
-      → (answer ≡ answer_for (newest (recordSlot item i place level) (taken_of i (start_of starts i) past)))
-      × (quote ≡ quote_beside_it item (newest (recordSlot item i place level) (taken_of i (start_of starts i) past)))
+      → (answer ≡ answer_for (newest (record_slot item i place level) (taken_of i (start_of starts i) past)))
+      × (quote ≡ quote_beside_it item (newest (record_slot item i place level) (taken_of i (start_of starts i) past)))
   read_newest letter i s key place found level answer quote p =
       let lists : Lists = lent.lists in
-      let own : Slot = recordSlot item i place level in
+      let own : Slot = record_slot item i place level in
       let there : SlotListed lists own = ((segment_has lists.contracts letter i s).0, (key_at_place (habit_of item) (file_of item lists) i key place found).0) in
       let good = segment_good r letter i s in
       let holds = key_holds item lent letter key good i s place found in
@@ -117,9 +117,9 @@ module _ {starts : List ℕ} {lent : Lent} {past : List Event} (r : Reached star
 
   pub reads_key : (letter i : ℕ) → segment_of lent.lists.contracts letter ≡ some i → (key : List ℕ) (place : ℕ) → place_in item lent.lists i key ≡ some place
       → (level : Level) (answer : Recorded) (quote : QuoteFor item) → ReadsItem item lent letter key level answer quote
-      → ReadsNewest (recordSlot item i place level) (taken_of i (start_of starts i) past) answer quote
+      → ReadsNewest (record_slot item i place level) (taken_of i (start_of starts i) past) answer quote
   reads_key letter i s key place found level answer quote p =
-      let own : Slot = recordSlot item i place level in
+      let own : Slot = record_slot item i place level in
       let taken : List Message = taken_of i (start_of starts i) past in
       let is = read_newest letter i s key place found level answer quote p in
       is_newest own taken answer quote (newest own taken) (newest_found own taken) is.0 is.1
@@ -128,7 +128,7 @@ module _ {starts : List ℕ} {lent : Lent} {past : List Event} (r : Reached star
 pub reads_slot : {starts : List ℕ} {lent : Lent} {past : List Event} (r : Reached starts lent past) (slot : Slot) → SlotListed lent.lists slot
     → (answer : Recorded) (quote : QuoteFor (item_in slot)) → ReadsItem (item_in slot) lent (letter_in lent.lists slot) (key_in lent.lists slot) (level_in slot) answer quote
     → ReadsNewest slot (taken_for starts slot past) answer quote
-reads_slot {lent = lent} r (recordSlot item i place level) there =
+reads_slot {lent = lent} r (record_slot item i place level) there =
     let lists : Lists = lent.lists in
     let sound = (reached_holds r).lists_sound in
     let headers = (reached_holds r).state.headers in
@@ -140,10 +140,10 @@ reads_slot {lent = lent} r (recordSlot item i place level) there =
 -- "A contract with no update taken reads as 'no record'", and no other does
 pub no_record_exactly : {slot : Slot} {taken : List Message} {answer : Recorded} {quote : QuoteFor (item_in slot)} → ReadsNewest slot taken answer quote
     → answer ≡ Recorded.NoRecord ↔ NoUpdate slot taken
-no_record_exactly (no_record none-taken says quote) = ((λ e. none-taken), (λ n. says))
+no_record_exactly (no_record none_taken says quote) = ((λ e. none_taken), (λ n. says))
 no_record_exactly (a_record m is says quote) = (
   (λ e. let clashes : Recorded.Record (sequence_number m) (session_of (form_sent m)) ≡ Recorded.NoRecord = sym says ∙ e in absurd (clash (cc))),
-  (λ none-taken. absurd (true≢false (sym is.of_slot ∙ none-taken m is.was_taken))),
+  (λ none_taken. absurd (true≢false (sym is.of_slot ∙ none_taken m is.was_taken))),
 )
 
 -- what has a slot is an update of it
@@ -158,7 +158,7 @@ update_says lists letter i s bytes slot is = go (does lists letter i bytes s)
     go (is_bad fault e) = absurd (none_there (ap (slot_of i) (sym e) ∙ is))
     go (beats e) = absurd (none_there (ap (slot_of i) (sym e) ∙ is))
     go (passes numbered none_of acts) = absurd (none_there (sym none_of ∙ is))
-    go (updates own numbered of-own acts u) =
-        let both : some own ≡ some slot = sym of-own ∙ is in
+    go (updates own numbered of_own acts u) =
+        let both : some own ≡ some slot = sym of_own ∙ is in
         let same : own ≡ slot = cc in
         subst (UpdateSays lists bytes (message_of lists letter bytes)) same u.says

@@ -5,7 +5,7 @@ use Rattle.std.proofs.Math.Path.{fun_ext}
 use Rattle.std.proofs.lemmas.Bool.{lt-leb}
 use Rattle.laws.specs.Choice.{either}
 use Rattle.laws.specs.Order.{order, same}
-use Rattle.laws.specs.Tests.{and-false, and-true, or-false, any}
+use Rattle.laws.specs.Tests.{and_false, and-true, or-false, any}
 use Rattle.sequence.specs.Runs.{◌to◌, names, missing, runs_in}
 use Rattle.sequence.specs.RunsCountLaws.{runs_counted}
 use Rattle.sequence.specs.SoundLaws.{sound_apart}
@@ -40,7 +40,7 @@ fits_begun start h =
       start_is = refl;
       highest_is = refl;
       missing_is = λ n.
-          ⊎_elim (λ (o : start ≤ n). simp (lt-leb n (start - 1) (omega arith), and-false))
+          ⊎_elim (λ (o : start ≤ n). simp (lt-leb n (start - 1) (omega arith), and_false))
           (λ (o : n < start). simp (lt-leb start n o))
           (order start n);
       off_below = λ n e. absurd (true≢false (sym e));
@@ -111,7 +111,7 @@ module _ (start : ℕ) (taken : List Message) (written_off : ℕ → Bool) (g : 
 
         missing_now : (j : ℕ) → Now j
         missing_now j =
-            ⊎_elim (λ (e : j ≡ k). simp (eq-eqb j k e, eq-eqb k j (sym e), and-false))
+            ⊎_elim (λ (e : j ≡ k). simp (eq-eqb j k e, eq-eqb k j (sym e), and_false))
             (λ (n : j ≡ k → ⊥). ⊎_elim (below j n) (above j n) (order j g.highest))
             (same j k)
 
@@ -155,9 +155,9 @@ module _ (start : ℕ) (taken : List Message) (written_off : ℕ → Bool) (g : 
               wrote_off_missing g f.sound a b e n ∙ ap (λ (t : Bool). not (names (a to b) n) && t) (f.missing_is n)
               ∙ apart (names (a to b) n) (leb start n && leb n (highest_of start taken) && not (held taken n)) (written_off n);
           off_below = λ n w.
-              ⊎_elim (λ (in-run : names (a to b) n ≡ true).
-              let both = named (a to b) n in-run in
-              (missing_inside n f.sound (wrote_off_lowest g f.sound a b e n (omega arith) ∙ in-run)).1)
+              ⊎_elim (λ (in_run : names (a to b) n ≡ true).
+              let both = named (a to b) n in_run in
+              (missing_inside n f.sound (wrote_off_lowest g f.sound a b e n (omega arith) ∙ in_run)).1)
               (λ (before : written_off n ≡ true). f.off_below n before)
               (any (names (a to b) n) (written_off n) w);
         }

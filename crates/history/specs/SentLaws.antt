@@ -33,7 +33,7 @@ use Rattle.state.specs.declared.answers.Recorded.{Recorded}
 use Rattle.state.specs.Answers.{recorded_numbers, left_by}
 use Rattle.state.specs.AnswersLaws.{accepted_by}
 use Rattle.state.specs.Memory.{Lent}
-use Rattle.slots.specs.Slots.{Slot, slot as recordSlot}
+use Rattle.slots.specs.Slots.{Slot, slot as record_slot}
 use Rattle.state.specs.State.{segment_rules}
 use Rattle.state.specs.StateLaws.{is_some_lem}
 use Rattle.batch.specs.Batch.{batch_letter, count_of, batch_data}
@@ -210,7 +210,7 @@ module _ {starts : List ℕ} {lent : Lent} {past : List Event} (r : Reached star
 
   module _ (letter i : ℕ) (s : segment_of lists.contracts letter ≡ some i) (item : Item) (place : ℕ) (level : Level) where
     abbrev slot : Slot
-    slot = recordSlot item i place level
+    slot = record_slot item i place level
 
     sent : (key : List ℕ) → key_by (habit_of item) (file_of item lists) i place ≡ key → (m : Message) → Memᴰ m (taken_of i (start_of starts i) past) → is_of slot m.what ≡ true
         → ShownAsSent (batches_of r) item letter key level (sequence_number m) (session_of (form_sent m)) (shown item (form_sent m) m.cells)
@@ -249,8 +249,8 @@ module _ {starts : List ℕ} {lent : Lent} {past : List Event} (r : Reached star
       go i found.2 place (key_at_place (habit_of item) (file_of item lists) i key place found.3).1 (reads_key r item letter i found.2 key place found.3 level answer quote p)
     where
       go : (i : ℕ) → segment_of lists.contracts letter ≡ some i → (place : ℕ) → key_by (habit_of item) (file_of item lists) i place ≡ key
-          → ReadsNewest (recordSlot item i place level) (taken_of i (start_of starts i) past) answer quote → ShownAsSent (batches_of r) item letter key level number session quote
-      go i s place key_is (no_record none-taken says shows) = let both : Recorded.NoRecord ≡ Recorded.Record number session = sym says ∙ e in absurd (clash (cc))
+          → ReadsNewest (record_slot item i place level) (taken_of i (start_of starts i) past) answer quote → ShownAsSent (batches_of r) item letter key level number session quote
+      go i s place key_is (no_record none_taken says shows) = let both : Recorded.NoRecord ≡ Recorded.Record number session = sym says ∙ e in absurd (clash (cc))
       go i s place key_is (a_record m newest says shows) =
           let both : Recorded.Record (sequence_number m) (session_of (form_sent m)) ≡ Recorded.Record number session = sym says ∙ e in
           let same : sequence_number m ≡ number = cc in

@@ -71,7 +71,7 @@ module _ (i start : ℕ) where
       (new_or_before j new past k also))
       (λ (earlier : Memᴰ m before).
       ⊎_elim (λ (v : (k ≡ new) × (comes_new start before (wrote_off_in i past) new ≡ true)). absurd (clashes v.1 m earlier (e ∙ ap sequence_number v.0)))
-      (λ (also-earlier : Memᴰ k before). rest earlier also-earlier e)
+      (λ (also_earlier : Memᴰ k before). rest earlier also_earlier e)
       (new_or_before j new past k also))
       (new_or_before j new past m among)
     where
@@ -79,8 +79,8 @@ module _ (i start : ℕ) where
       before = taken_of i start past
 
       clashes : comes_new start (taken_of i start past) (wrote_off_in i past) new ≡ true → (j : Message) → Memᴰ j (taken_of i start past) → sequence_number j ≡ sequence_number new → ⊥
-      clashes is-new j earlier same =
-          true≢false (sym (mem_held (taken_of i start past) j earlier) ∙ ap (held (taken_of i start past)) same ∙ new_is past new is-new)
+      clashes new_here j earlier same =
+          true≢false (sym (mem_held (taken_of i start past) j earlier) ∙ ap (held (taken_of i start past)) same ∙ new_is past new new_here)
 
 -- ---- highest
 

@@ -234,12 +234,12 @@ module _ (lists : Lists) (starts : List ℕ) (letter i : ℕ) (listed : segment_
             records_changed lists starts box.records i past m f.records_fit box.records new
             (λ slot there o kept. subst (λ (s : Option Slot). RecordHolds lists box.records slot (cond (is_slot slot s) (higher m o) o)) (sym none_of) kept))
             k box' (sym (is box k) ∙ acts)
-        go (updates own numbered of-own is u) =
+        go (updates own numbered of_own is u) =
             number_turns m numbered.0 (stored_in lists own m) (stored_long (slot_at lists own) (sequence_number m) (record_of (item_in own) (form_sent m) m.cells) box.records)
             (λ new.
             records_changed lists starts box.records i past m f.records_fit (stored_in lists own m box.records) new
             (λ slot there o kept.
-            subst (λ (s : Option Slot). RecordHolds lists (stored_in lists own m box.records) slot (cond (is_slot slot s) (higher m o) o)) (sym of-own)
+            subst (λ (s : Option Slot). RecordHolds lists (stored_in lists own m box.records) slot (cond (is_slot slot s) (higher m o) o)) (sym of_own)
             (update_changes lists f.headers box.records f.records_long own u.listed m u.fits slot there o kept)))
             k box' (sym (is box k) ∙ acts)
 

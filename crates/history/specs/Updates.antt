@@ -9,11 +9,11 @@ use Rattle.pairs.specs.Lists.{Lists}
 use Rattle.message.specs.declared.body.What.{What}
 use Rattle.message.specs.declared.body.What.TheVariants.{Heartbeat, PassedOver, Update, Bad}
 use Rattle.pairs.specs.Items.{file_of, habit_of}
-use Rattle.slots.specs.Slots.{Slot, slot as recordSlot, slot_for}
+use Rattle.slots.specs.Slots.{Slot, slot as record_slot, slot_for}
 
 -- 01 "What may be asked": one record's slot
 abbrev pub same_slot : Slot → Slot → Bool
-same_slot (recordSlot item i place level) (recordSlot other j p l) = eqb i j && eqb place p && same_level level l && same_item item other
+same_slot (record_slot item i place level) (record_slot other j p l) = eqb i j && eqb place p && same_level level l && same_item item other
 
 -- 01 "Sequence and gaps": an update of segment i replaces "its contract's record at its level": that one's slot, M-100: or its pair's
 abbrev pub slot_of : ℕ → What → Option Slot
@@ -24,15 +24,15 @@ slot_of i (Bad fault) = none
 
 -- lent memory: the segment of a slot
 abbrev pub segment_in : Slot → ℕ
-segment_in (recordSlot item i place level) = i
+segment_in (record_slot item i place level) = i
 
 -- lent memory: the level of the updates that a slot holds
 abbrev pub level_in : Slot → Level
-level_in (recordSlot item i place level) = level
+level_in (record_slot item i place level) = level
 
 -- lent memory, M-100: whether a slot's record is a contract's or a pair's
 abbrev pub item_in : Slot → Item
-item_in (recordSlot item i place level) = item
+item_in (record_slot item i place level) = item
 
 -- 01 "What may be asked": the letter that a slot's record is asked for by
 abbrev pub letter_in : Lists → Slot → ℕ
@@ -40,7 +40,7 @@ letter_in lists slot = letter_at lists.contracts (segment_in slot)
 
 -- 01 "What may be asked": the key that a slot's record is asked for by
 abbrev pub key_in : Lists → Slot → List ℕ
-key_in lists (recordSlot item i place level) = key_by (habit_of item) (file_of item lists) i place
+key_in lists (record_slot item i place level) = key_by (habit_of item) (file_of item lists) i place
 
 -- 01 "Sequence and gaps": the slot, where there is one, is this one
 abbrev pub is_slot : Slot → Option Slot → Bool

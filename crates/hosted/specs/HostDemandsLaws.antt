@@ -120,9 +120,9 @@ module _ {starts : List ℕ} {lent : Lent} {past : List Event} (reached : HostRe
       level = level_in kept_at
 
       go : ReadsNewest kept_at (taken_for starts kept_at past) p.recorded p.quote → TellsNewest kept_at (taken_for starts kept_at past) values returned values' answer'
-      go (exactly.no_record none-taken a q) =
+      go (exactly.no_record none_taken a q) =
           let told : Tells (record_numbers Recorded.NoRecord) returned answer' = rw a at p.tells in
-          no_record none-taken (record { returns = told.number; answers = told.values })
+          no_record none_taken (record { returns = told.number; answers = told.values })
           (p.shows ∙ ap (λ (x : Recorded). values_after item x (values_for item level p.quote) values) a)
       go (exactly.a_record m is a q) =
           let told : Tells (record_numbers (Recorded.Record (sequence_number m) (session_of (form_sent m)))) returned answer' = rw a at p.tells in

@@ -32,7 +32,7 @@ pub host_tells_fields : {starts : List ℕ} {lent : Lent} {past : List Event} (r
 host_tells_fields {starts} {lent} {past} reached kept_at there values long returned values' answer' p = go ((after_host_calls reached).reads kept_at there values long returned values' answer' p)
   where
     go : TellsNewest kept_at (taken_for starts kept_at past) values returned values' answer' → TellsFields lent.lists (batches_of (host_reached reached)) kept_at (taken_for starts kept_at past) values returned values' answer'
-    go (demands.no_record none-taken gives e) = no_record none-taken gives e
+    go (demands.no_record none_taken gives e) = no_record none_taken gives e
     go (demands.a_record m newest gives e) =
         let lists : Lists = lent.lists in
         let source = taken_from (host_reached reached) (segment_in kept_at) m newest.was_taken in

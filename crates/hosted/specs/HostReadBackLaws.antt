@@ -58,7 +58,7 @@ use Rattle.hosted.specs.ValuesBackLaws.{values_seen, spread_values_seen}
 
 older_number : (item : Item) (lent : Lent) (level : Level) (letter : ℕ) (key : List ℕ) (number : ℕ) → 1 ≤ number → ReadsOlder item lent level letter key number
     → record_number lent.records (record_of_key item lent.lists letter key level) < number
-older_number item lent level letter key number Some-number o = go o.read.recorded o.read.promised.answers o.read.tells o.read.shows
+older_number item lent level letter key number some_number o = go o.read.recorded o.read.promised.answers o.read.tells o.read.shows
   where
     there : ℕ
     there = record_number lent.records (record_of_key item lent.lists letter key level)
@@ -101,7 +101,7 @@ normal_held Contract Two values e = simp get_or-drop (rw e refl)
 normal_held Pair level values e = tt
 
 module _ (item : Item) (code : List ℕ) (level : Level) (number : ℕ) (key values out out' : List ℕ) (n : ℕ) (form : Form)
-    (update : WritesUpdate item (code_of code) level form) (normal : UpdatesRecord item values) (few : number < 2 ^ 32) (key-long : length key ≡ key_bytes_of item)
+    (update : WritesUpdate item (code_of code) level form) (normal : UpdatesRecord item values) (few : number < 2 ^ 32) (key_long : length key ≡ key_bytes_of item)
     (wrote : HostWroteItem item code level number key values out 0 out' (n ∷ 0 ∷ 0 ∷ 0 ∷ []))
   where
     abbrev letter : ℕ
@@ -161,7 +161,7 @@ module _ (item : Item) (code : List ℕ) (level : Level) (number : ℕ) (key val
             (either new)
 
         back : ReadsBack item letter key level number (session_of form) (seen_for item form quote) lent batch
-        back = reads_back item (code_of code) level number key quote out out' n form update few key-long message_written lent state room is_normal place listed
+        back = reads_back item (code_of code) level number key quote out out' n form update few key_long message_written lent state room is_normal place listed
 
         judged_one : (a : Judged) → JudgedBatch lent batch a → a ≡ counted_as new keys
         judged_one = back.counts.judged
@@ -193,11 +193,11 @@ module _ (item : Item) (code : List ℕ) (level : Level) (number : ℕ) (key val
 
     acts : acts_as message ≡ is.Form form
     acts =
-        acts_as_lem item (code_of code) level number key laid out out' n form update.0 message_written (level, update.1) key-long true
+        acts_as_lem item (code_of code) level number key laid out out' n form update.0 message_written (level, update.1) key_long true
         (market_updates item level form update.1 quote is_normal)
 
     has_key : message_key item message ≡ key
-    has_key = key_is item (code_of code) level number key laid out out' n form update.0 message_written (level, update.1) key-long
+    has_key = key_is item (code_of code) level number key laid out out' n form update.0 message_written (level, update.1) key_long
 
     has_number : number_of message ≡ number
     has_number = number_is item (code_of code) level number key laid out out' n form update.0 message_written few
@@ -232,6 +232,6 @@ module _ (item : Item) (code : List ℕ) (level : Level) (number : ℕ) (key val
           reads = λ lent lent' compared t older.
               let good = took_good t in
               let listed = is_listed lent good in
-              let newer = older_number item lent level letter key number (numbered item (code_of code) level number key quote out out' n form update few key-long message_written) older in
+              let newer = older_number item lent level letter key number (numbered item (code_of code) level number key quote out out' n form update few key_long message_written) older in
               values_read lent good.state listed.0 listed.1 (has_room lent good) newer lent' compared t;
         }

@@ -10,7 +10,7 @@ use Rattle.forms.specs.declared.forms.Item.TheVariants.{Contract, Pair}
 use Rattle.forms.specs.declared.forms.Named.TheVariants as is
 use Rattle.forms.specs.declared.forms.Subject.TheVariants.{Of}
 use Rattle.forms.specs.declared.rows.Level.{Level}
-use Rattle.forms.specs.Names.{Name, NamedRow, instrument, symbol, expiry, strike, option_type, second_instrument, second_symbol, second_expiry, second_strike, second_option_type, market_type, time_stamp, buy_price, buy_quantity, sell_price, sell_quantity, last_price, traded_quantity, status, opening_price, high_price, low_price, close_price, average_price, all_buyers, all_sellers, turnover as turnoverName}
+use Rattle.forms.specs.Names.{Name, NamedRow, instrument, symbol, expiry, strike, option_type, second_instrument, second_symbol, second_expiry, second_strike, second_option_type, market_type, time_stamp, buy_price, buy_quantity, sell_price, sell_quantity, last_price, traded_quantity, status, opening_price, high_price, low_price, close_price, average_price, all_buyers, all_sellers, turnover as turnover_name}
 use Rattle.forms.specs.Forms.{named_rows, subject_of}
 use Rattle.layout.specs.declared.cells.Held.{Held}
 use Rattle.layout.specs.Cells.{session_cell}
@@ -62,7 +62,7 @@ ValueSays item text close_price value = NumberTold (price_kind item) (text close
 ValueSays item text average_price value = NumberTold (price_kind item) (text average_price) value
 ValueSays item text all_buyers value = NumberTold quantity (text all_buyers) value
 ValueSays item text all_sellers value = NumberTold quantity (text all_sellers) value
-ValueSays item text turnoverName value = NumberTold turnover (text turnoverName) value
+ValueSays item text turnover_name value = NumberTold turnover (text turnover_name) value
 
 -- the host's header: one value a row, in turn
 abbrev pub EachSays : (Name → ℕ → Type 0) → List NamedRow → List ℕ → Type 0

@@ -10,7 +10,7 @@ use Rattle.forms.specs.declared.forms.Item.{Item}
 use Rattle.forms.specs.declared.forms.Item.TheVariants.{Contract, Pair}
 use Rattle.forms.specs.declared.rows.Level.{Level}
 use Rattle.forms.specs.declared.rows.Level.TheVariants.{One, Two}
-use Rattle.forms.specs.Names.{Name, NamedRow, instrument, symbol, expiry, strike, option_type, second_instrument, second_symbol, second_expiry, second_strike, second_option_type, market_type, time_stamp, buy_price, buy_quantity, sell_price, sell_quantity, last_price, traded_quantity, status, opening_price, high_price, low_price, close_price, average_price, all_buyers, all_sellers, turnover as turnoverName}
+use Rattle.forms.specs.Names.{Name, NamedRow, instrument, symbol, expiry, strike, option_type, second_instrument, second_symbol, second_expiry, second_strike, second_option_type, market_type, time_stamp, buy_price, buy_quantity, sell_price, sell_quantity, last_price, traded_quantity, status, opening_price, high_price, low_price, close_price, average_price, all_buyers, all_sellers, turnover as turnover_name}
 use Rattle.forms.specs.SameName.{order_level}
 use Rattle.forms.specs.Forms.{named_rows, session_of}
 use Rattle.layout.specs.Cells.{session_cell}
@@ -23,7 +23,7 @@ use Rattle.spread.specs.Shows.{ShowsSpreadFields}
 use Rattle.head.specs.HeadLaws.{session_by}
 use Rattle.message.specs.Message.{Message}
 use Rattle.message.specs.Reads.{message_of}
-use Rattle.slots.specs.Slots.{Slot, slot as recordSlot}
+use Rattle.slots.specs.Slots.{Slot, slot as record_slot}
 use Rattle.values.specs.Values.{value_rows, row_values, spread_values}
 use Rattle.reading.specs.Shown.{QuoteFor, shown, ShowsEach}
 use Rattle.told.specs.Shown.{values_in_front}
@@ -66,7 +66,7 @@ contract_says text quote h close_price e = (_, h.close_price_shown, refl)
 contract_says text quote h average_price e = (_, h.average_price_shown, refl)
 contract_says text quote h all_buyers e = (_, h.all_buyers_shown, refl)
 contract_says text quote h all_sellers e = (_, h.all_sellers_shown, refl)
-contract_says text quote h turnoverName e = (_, h.turnover_shown, refl)
+contract_says text quote h turnover_name e = (_, h.turnover_shown, refl)
 
 -- the fields that a pair has
 abbrev of_pairs : Name → Bool
@@ -96,7 +96,7 @@ of_pairs close_price = false
 of_pairs average_price = false
 of_pairs all_buyers = true
 of_pairs all_sellers = true
-of_pairs turnoverName = false
+of_pairs turnover_name = false
 
 pair_says : (text : Name → Option (List ℕ)) (quote : SpreadQuote) → ShowsSpreadFields text quote → (name : Name) → of_pairs name ≡ true → ValueSays Pair text name (spread_field_value quote name)
 pair_says text quote h instrument e = tt
@@ -125,7 +125,7 @@ pair_says text quote h close_price e = absurd (false≢true e)
 pair_says text quote h average_price e = absurd (false≢true e)
 pair_says text quote h all_buyers e = (_, h.all_buyers_shown, refl)
 pair_says text quote h all_sellers e = (_, h.all_sellers_shown, refl)
-pair_says text quote h turnoverName e = absurd (false≢true e)
+pair_says text quote h turnover_name e = absurd (false≢true e)
 
 -- ---- one value a row
 
@@ -167,8 +167,8 @@ module _ (lists : Lists) (letter i : ℕ) (s : segment_of lists.contracts letter
   told item level behind = (values_in_front item (sequence_number m) (session_of (form_sent m)) ++ values_for item level (shown item (form_sent m) m.cells)) ++ behind
 
   pub host_values_say : (slot : Slot) → slot_of i m.what ≡ some slot → (behind : List ℕ) → ValuesSay bytes (item_in slot) (level_in slot) (told (item_in slot) (level_in slot) behind)
-  host_values_say (recordSlot Contract j place level) is behind =
-      let u = update_says lists letter i s bytes (recordSlot Contract j place level) is in
+  host_values_say (record_slot Contract j place level) is behind =
+      let u = update_says lists letter i s bytes (record_slot Contract j place level) is in
       record {
         number_is = sym u.number_is;
         session_is = ap session_cell (session_by bytes (form_sent m) u.form_is);
@@ -177,8 +177,8 @@ module _ (lists : Lists) (letter i : ℕ) (s : segment_of lists.contracts letter
         tells = u.tells;
         rows_say = values_say Contract level _ (shown Contract (form_sent m) m.cells) u.shows behind;
       }
-  host_values_say (recordSlot Pair j place level) is behind =
-      let u = update_says lists letter i s bytes (recordSlot Pair j place level) is in
+  host_values_say (record_slot Pair j place level) is behind =
+      let u = update_says lists letter i s bytes (record_slot Pair j place level) is in
       record {
         number_is = sym u.number_is;
         session_is = tt;

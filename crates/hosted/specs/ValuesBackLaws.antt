@@ -57,11 +57,11 @@ difference_held v = cell_held difference_number v
 
 -- a letter that is written is a byte: none is 0, which a larger number counts as
 letter_back : (taken : ℕ → Bool) → taken 0 ≡ false → (v : ℕ) → write_refusal (letter_text taken (letter_of v)) ≡ 0 → letter_of v ≡ v
-letter_back taken none-taken v good = go (leb v 255) refl
+letter_back taken none_taken v good = go (leb v 255) refl
   where
     go : (byte : Bool) → leb v 255 ≡ byte → letter_of v ≡ v
     go true t = rw t
-    go false t = absurd (let bad : 11 ≡ 0 = rw (t, none-taken) at good in omega arith)
+    go false t = absurd (let bad : 11 ≡ 0 = rw (t, none_taken) at good in omega arith)
 
 -- values whose rows can be written in a form
 abbrev pub Writable : Form → Level → List ℕ → List ℕ → Type 0

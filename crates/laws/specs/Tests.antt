@@ -4,9 +4,9 @@ use Rattle.std.proofs.Common.{true≢false, inl, inr, ⊎_elim, arith, le-leb, e
 use Rattle.std.proofs.lemmas.Bool.{false≢true, lt-leb}
 use Rattle.laws.specs.Order.{order}
 
-pub and-false : (t : Bool) → t && false ≡ false
-and-false true = refl
-and-false false = refl
+pub and_false : (t : Bool) → t && false ≡ false
+and_false true = refl
+and_false false = refl
 
 pub and-true : (t : Bool) → t && true ≡ t
 and-true true = refl

@@ -19,7 +19,7 @@ use Rattle.layout.specs.Says.{row_at}
 
 module _ (refusal : ℕ → ℕ) (count : ℕ) where
   one_place : {m n i j : ℕ} → 0 < m → 0 < n → FirstAt refusal count m i → FirstAt refusal count n j → i ≡ j
-  one_place {m} {n} {i} {j} some-m some-n p q =
+  one_place {m} {n} {i} {j} some_m some_n p q =
       ⊎_elim
       (λ (h : i ≤ j).
       ⊎_elim (λ (k : j ≤ i). let e : i ≡ j = omega arith in e)

@@ -55,17 +55,17 @@ begins rows bytes lent = record { within = omega arith; front = []; many = refl;
 
 -- the next row of the data, as the walk sees it: as many bytes as its width, or as are left
 module _ (rows : List Row) (bytes lent cells : List ℕ) (at i width : ℕ) (more : i < length rows)
-    (is-width : width ≡ min (width_of (get_or rows i (Key 0))) (length bytes - at)) (going : Going rows bytes lent cells at i)
+    (is_width : width ≡ min (width_of (get_or rows i (Key 0))) (length bytes - at)) (going : Going rows bytes lent cells at i)
   where
     left : length (drop at bytes) ≡ length bytes - at
     left = length-drop at bytes
 
     -- the field that the walk hands on is the row's
     pub field_is : take width (drop at bytes) ≡ take (width_of (get_or rows i (Key 0))) (drop at bytes)
-    field_is = rw (is-width, ← left) (take_min (width_of (get_or rows i (Key 0))) (drop at bytes))
+    field_is = rw (is_width, ← left) (take_min (width_of (get_or rows i (Key 0))) (drop at bytes))
 
     next_is : drop (at + width) bytes ≡ drop (width_of (get_or rows i (Key 0))) (drop at bytes)
-    next_is = sym (drop-drop width at bytes) ∙ rw (is-width, ← left) (drop_min (width_of (get_or rows i (Key 0))) (drop at bytes))
+    next_is = sym (drop-drop width at bytes) ∙ rw (is_width, ← left) (drop_min (width_of (get_or rows i (Key 0))) (drop at bytes))
 
     -- what is left to be read begins with this row
     pub this_row : {answer : RowRead} → read_row (get_or rows i (Key 0)) (take width (drop at bytes)) ≡ answer
@@ -79,7 +79,7 @@ module _ (rows : List Row) (bytes lent cells : List ℕ) (at i width : ℕ) (mor
     goes_on {cell} e =
         let place : 0 + length going.front ≡ i = omega (arith, going.many) in
         record {
-          within = omega (arith, is-width, going.within);
+          within = omega (arith, is_width, going.within);
           front = going.front ++ (cell ∷ []);
           many = simp length-append (omega (arith, going.many));
           stored = ap (λ (l : List ℕ). set l i cell) going.stored ∙ sym (rw place at (sets_append going.front (cell ∷ []) lent 0));

@@ -12,14 +12,14 @@ use Rattle.laws.specs.Order.{order}
 use Rattle.lookup.specs.Lookup.{segment_of}
 use Rattle.sequence.specs.Gaps.{Gaps, wanted}
 use Rattle.sequence.specs.Changes.{wrote_off}
-use Rattle.sequence.specs.Answers.{list_answer, write_off_answer, lowest, runs_listed, listed_numbers as rowListedNumbers}
+use Rattle.sequence.specs.Answers.{list_answer, write_off_answer, lowest, runs_listed, listed_numbers as row_listed_numbers}
 use Rattle.sequence.specs.Row.{gaps_of}
 use Rattle.sequence.specs.RowLaid.{laid}
 use Rattle.sequence.specs.Runs.{Run}
 use Rattle.sequence.specs.Promises.{ListedGaps, WroteOff}
 use Rattle.sequence.specs.declared.GapsListed.{GapsListed as RowListed}
 use Rattle.sequence.specs.declared.GapsListed.TheVariants as row_listed
-use Rattle.sequence.specs.declared.WriteOff.TheVariants as row-off
+use Rattle.sequence.specs.declared.WriteOff.TheVariants as row_off
 use Rattle.state.specs.declared.refusal.Refusal.{Refusal}
 use Rattle.state.specs.declared.refusal.Refusal.TheVariants.{Memory, NoGap}
 use Rattle.state.specs.declared.answers.Listed.{Listed}
@@ -104,19 +104,19 @@ module _ (lent : Lent) (letter : ℕ) where
           }
 
       module _ (answer : RowListed) (cells' : List ℕ) (own : ListedGaps (gap_row_of lent.rows i) cells answer cells') where
-        told : rowListedNumbers answer ≡ list_answer gaps (length cells)
+        told : row_listed_numbers answer ≡ list_answer gaps (length cells)
         told = own.says ∙ ap (λ (g : Gaps). list_answer g (length cells)) (sym gaps_are)
 
         left : cells' ≡ runs_listed cells gaps
         left = own.left ∙ ap (runs_listed cells) (sym gaps_are)
 
-        told_in : wanted gaps.runs ≤ length cells → (rowListedNumbers answer ≡ 0 ∷ list_values gaps) × (cells' ≡ runs_put gaps cells)
+        told_in : wanted gaps.runs ≤ length cells → (row_listed_numbers answer ≡ 0 ∷ list_values gaps) × (cells' ≡ runs_put gaps cells)
         unfolding list_answer runs_listed runs_put
         told_in h =
             let test = le-leb (wanted gaps.runs) (length cells) h in
             (rw test at told, rw test at left)
 
-        told_out : length cells < wanted gaps.runs → (rowListedNumbers answer ≡ 15 ∷ wanted gaps.runs ∷ []) × (cells' ≡ cells)
+        told_out : length cells < wanted gaps.runs → (row_listed_numbers answer ≡ 15 ∷ wanted gaps.runs ∷ []) × (cells' ≡ cells)
         unfolding list_answer runs_listed
         told_out h =
             let test = lt-leb (wanted gaps.runs) (length cells) h in
@@ -163,7 +163,7 @@ module _ (lent : Lent) (letter : ℕ) where
     off_broken g =
         last_broken (segment_rules lent letter) (record { holds = ltb 0 (length gaps.runs); refusal = NoGap }) e (rw g)
 
-    pub off_removed : (first last : ℕ) (row' : List ℕ) → WroteOff (gap_row_of lent.rows i) (row-off.Removed first last) row'
+    pub off_removed : (first last : ℕ) (row' : List ℕ) → WroteOff (gap_row_of lent.rows i) (row_off.Removed first last) row'
         → WroteOffRun lent letter (WrittenOff.Removed first last) (lends lent.lists (with_gap_row lent.rows i row') lent.records)
     unfolding write_off_answer
     off_removed first last row' own = go gaps.runs refl (own.says ∙ ap (λ (g : Gaps). lowest g.runs) (sym gaps_are))
@@ -184,7 +184,7 @@ module _ (lent : Lent) (letter : ℕ) where
                   ∙ sym (ap (λ (o : Option Refusal). left_by o lent (lent_written_off lent letter)) holds);
             }
 
-    pub off_none : (row' : List ℕ) → WroteOff (gap_row_of lent.rows i) row-off.NoGap row' → WroteOffRun lent letter (WrittenOff.Refused NoGap) lent
+    pub off_none : (row' : List ℕ) → WroteOff (gap_row_of lent.rows i) row_off.NoGap row' → WroteOffRun lent letter (WrittenOff.Refused NoGap) lent
     unfolding write_off_answer
     off_none row' own = go gaps.runs refl (own.says ∙ ap (λ (g : Gaps). lowest g.runs) (sym gaps_are))
       where

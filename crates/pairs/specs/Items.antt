@@ -2,7 +2,7 @@
 use Rattle.std.specs.Prelude.{ℕ, List}
 use Rattle.files.specs.declared.habit.Habit.{Habit}
 use Rattle.files.specs.Habits as habits
-use Rattle.pairs.specs.Habits as pairHabits
+use Rattle.pairs.specs.Habits as pair_habits
 use Rattle.pairs.specs.Lists.{Lists}
 use Rattle.forms.specs.declared.forms.Item.{Item}
 use Rattle.forms.specs.declared.forms.Item.TheVariants.{Contract, Pair}
@@ -15,4 +15,4 @@ file_of Pair lists = lists.pairs
 -- 01 "The contract list", M-100: the habit of that file
 abbrev pub habit_of : Item → Habit
 habit_of Contract = habits.contracts
-habit_of Pair = pairHabits.pairs
+habit_of Pair = pair_habits.pairs

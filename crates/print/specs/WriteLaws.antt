@@ -3,7 +3,7 @@ use Rattle.std.specs.Prelude.{ℕ, ◌+◌, ◌/◌, ◌^◌, ◌<◌, ◌≤◌
 use Rattle.std.proofs.Common.{arith, length-append, le-leb}
 use Rattle.std.proofs.lemmas.List.{length-replicate, length-map}
 use Rattle.std.proofs.lemmas.Bool.{lt-leb}
-use Rattle.laws.specs.Tests.{and-false}
+use Rattle.laws.specs.Tests.{and_false}
 use Rattle.decimal.specs.Denotes.{digit_char, pointed, below_zero, Denotes, AllSpaces}
 use Rattle.print.specs.Write.{last_digits, size, trimmed, text_of, signed_text, Written, filled, refused, spaced, in_field, has_side, written_as, blank_text, NoText, put_number, Wrote}
 use Rattle.decimal.specs.declared.Kind.{Kind}
@@ -27,7 +27,7 @@ module _ (kind : Kind) (width : ℕ) (below : Bool) (n : ℕ) where
   sideless e = rw e
 
   pub over : kind.most < n → written_as kind width below n ≡ refused
-  over h = rw (lt-leb n kind.most h, and-false)
+  over h = rw (lt-leb n kind.most h, and_false)
 
   pub within : has_side kind (below_zero below n) ≡ true → n ≤ kind.most
       → written_as kind width below n ≡ in_field width (signed_text (below_zero below n) kind.places n)

@@ -54,18 +54,18 @@ module _ {A : Type 0} {signed : Bool} {of : Held → A} {held : A → Held} {pla
 -- a kind without a sign, whose numbers are "none" and its amounts
 unsigned_number : {A : Type 0} (nothing : A) (amount : ℕ → A) (held : A → Held) → held nothing ≡ Nothing → ((n : ℕ) → held (amount n) ≡ Units n)
     → ((a : A) → (a ≡ nothing) ⊎ ((n : ℕ) × (a ≡ amount n))) → IsNumber false (unsigned_of nothing amount) held (λ a. a)
-unsigned_number {A} nothing amount held none-held amount-held cases = record { held_of_lem = back; may_hold = may; of_held = again }
+unsigned_number {A} nothing amount held none_held amount_held cases = record { held_of_lem = back; may_hold = may; of_held = again }
   where
     back : (h : Held) → MayHold false h → held (unsigned_of nothing amount h) ≡ h
-    back Nothing may-it = none-held
-    back (Units n) may-it = amount-held n
-    back (Below n) may-it = absurd (false≢true may-it.0)
+    back Nothing may_it = none_held
+    back (Units n) may_it = amount_held n
+    back (Below n) may_it = absurd (false≢true may_it.0)
 
     may : (a : A) → MayHold false (held a)
-    may a = ⊎_elim (λ (e : a ≡ nothing). rw (e, none-held) tt) (λ (e : (n : ℕ) × (a ≡ amount n)). rw (e.1, amount-held e.0) tt) (cases a)
+    may a = ⊎_elim (λ (e : a ≡ nothing). rw (e, none_held) tt) (λ (e : (n : ℕ) × (a ≡ amount n)). rw (e.1, amount_held e.0) tt) (cases a)
 
     again : (a : A) → unsigned_of nothing amount (held a) ≡ a
-    again a = ⊎_elim (λ (e : a ≡ nothing). rw (e, none-held)) (λ (e : (n : ℕ) × (a ≡ amount n)). rw (e.1, amount-held e.0)) (cases a)
+    again a = ⊎_elim (λ (e : a ≡ nothing). rw (e, none_held)) (λ (e : (n : ℕ) × (a ≡ amount n)). rw (e.1, amount_held e.0)) (cases a)
 
 price_cases : (p : PriceCell) → (p ≡ price.None) ⊎ ((n : ℕ) × (p ≡ price.Amount (record { 0 = n })))
 price_cases price.None = inl refl

@@ -8,7 +8,7 @@ use Rattle.forms.specs.declared.rows.Row.{Row}
 use Rattle.forms.specs.Names.{Name, NamedRow}
 use Rattle.forms.specs.SameName.{same_name}
 use Rattle.forms.specs.NamesLaws.{same_name_lem}
-use Rattle.layout.specs.Cells.{none as noCell, held_in, byte_in}
+use Rattle.layout.specs.Cells.{none as no_cell, held_in, byte_in}
 use Rattle.layout.specs.Plain.{no_room, value_of, seen_value, seen_values}
 use Rattle.layout.specs.CellsLaws.{byte_back}
 use Rattle.quote.specs.Quote.{next, row_named, cell_at, cell_named, order_levels, side_in, values_by, where_some, where_named, seen_side}
@@ -31,17 +31,17 @@ next_some (some k) value other = refl
 
 -- cells that are given by name have at a name's row what is given for it
 named_cell : (given : Name → ℕ) (rows : List NamedRow) (rest : List ℕ) (name : Name)
-    → cell_named rows name (map (λ row. given row.name) rows ++ rest) ≡ where_named rows name (given name) noCell
+    → cell_named rows name (map (λ row. given row.name) rows ++ rest) ≡ where_named rows name (given name) no_cell
 named_cell given [] rest name = refl
 named_cell given (row ∷ rows) rest name = go (same_name row.name name) refl (named_cell given rows rest name)
   where
     cells : List ℕ
     cells = map (λ r. given r.name) rows ++ rest
 
-    go : (same : Bool) → same_name row.name name ≡ same → cell_named rows name cells ≡ where_named rows name (given name) noCell
-        → cell_named (row ∷ rows) name (given row.name ∷ cells) ≡ where_named (row ∷ rows) name (given name) noCell
+    go : (same : Bool) → same_name row.name name ≡ same → cell_named rows name cells ≡ where_named rows name (given name) no_cell
+        → cell_named (row ∷ rows) name (given row.name ∷ cells) ≡ where_named (row ∷ rows) name (given name) no_cell
     go true t later = rw t (ap given ((same_name_lem row.name name).0 t))
-    go false t later = rw t (next_cell (row_named rows name) (given row.name) cells ∙ later ∙ sym (next_some (row_named rows name) (given name) noCell))
+    go false t later = rw t (next_cell (row_named rows name) (given row.name) cells ∙ later ∙ sym (next_some (row_named rows name) (given name) no_cell))
 
 -- ---- what names are given, through the cells
 
@@ -62,10 +62,10 @@ module _ (given : Name → ℕ) (rows : List NamedRow) (rest : List ℕ) where
       go (some k) e = rw e (ap byte_in (found name k e ∙ is) ∙ byte_back byte (small k e))
 
   -- a side is read back where each of its orders is
-  pub side_seen : {A : Type 0} (order : ℕ → ℕ → A) (see : Name → Name → A → A) (nothing : A) (priceName quantityName : ℕ → Name) (orders : List A)
-      → ((k : ℕ) → order (cell_named rows (priceName k) laid) (cell_named rows (quantityName k) laid) ≡ see (priceName k) (quantityName k) (get_or orders k nothing))
-      → side_in order priceName quantityName rows laid ≡ seen_side see nothing priceName quantityName orders
-  side_seen order see nothing priceName quantityName orders each = λ i. each 0 i ∷ each 1 i ∷ each 2 i ∷ each 3 i ∷ each 4 i ∷ []
+  pub side_seen : {A : Type 0} (order : ℕ → ℕ → A) (see : Name → Name → A → A) (nothing : A) (price_name quantity_name : ℕ → Name) (orders : List A)
+      → ((k : ℕ) → order (cell_named rows (price_name k) laid) (cell_named rows (quantity_name k) laid) ≡ see (price_name k) (quantity_name k) (get_or orders k nothing))
+      → side_in order price_name quantity_name rows laid ≡ seen_side see nothing price_name quantity_name orders
+  side_seen order see nothing price_name quantity_name orders each = λ i. each 0 i ∷ each 1 i ∷ each 2 i ∷ each 3 i ∷ each 4 i ∷ []
 
   module _ (held : AllHeld laid) where
     -- a number of any kind is read back, and is none where there is no row for it

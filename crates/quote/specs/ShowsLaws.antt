@@ -11,7 +11,7 @@ use Rattle.forms.specs.declared.rows.Row.{Row}
 use Rattle.forms.specs.declared.rows.Row.TheVariants.{Key, MarketType, Status, Price, Difference, Quantity, Turnover}
 use Rattle.forms.specs.declared.forms.Form.{Form}
 use Rattle.forms.specs.declared.forms.Form.TheVariants.{Heartbeat, LevelOne, LevelTwo, PairOne, PairTwo, FutureOne, FutureTwo, PreOpenOne, PreOpenTwo}
-use Rattle.forms.specs.Names.{Name, NamedRow, market_type, time_stamp, buy_price, buy_quantity, sell_price, sell_quantity, last_price, traded_quantity, status, opening_price, high_price, low_price, close_price, average_price, all_buyers, all_sellers, turnover as turnoverName}
+use Rattle.forms.specs.Names.{Name, NamedRow, market_type, time_stamp, buy_price, buy_quantity, sell_price, sell_quantity, last_price, traded_quantity, status, opening_price, high_price, low_price, close_price, average_price, all_buyers, all_sellers, turnover as turnover_name}
 use Rattle.forms.specs.SameName.{name_number, same_name}
 use Rattle.forms.specs.Sizes.{most_rows}
 use Rattle.forms.specs.NamesLaws.{same_name_lem}
@@ -198,7 +198,7 @@ module _ (prices : Row) (rows : List NamedRow) (kinded : Kinded prices rows) (by
         average_price_shown = price_shown average_price is;
         all_buyers_shown = quantity_shown all_buyers refl;
         all_sellers_shown = quantity_shown all_sellers refl;
-        turnover_shown = turnover_shown turnoverName refl;
+        turnover_shown = turnover_shown turnover_name refl;
       }
 
 -- a pair's prices have a sign, and no other form's

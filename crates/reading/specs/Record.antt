@@ -14,7 +14,7 @@ use Rattle.forms.specs.declared.forms.Session.{Session}
 use Rattle.forms.specs.declared.forms.Session.TheVariants.{Normal}
 use Rattle.forms.specs.Forms.{record_form, key_rows_of}
 use Rattle.forms.specs.Sizes.{most_rows, key_row_count}
-use Rattle.layout.specs.Cells.{none as noneCell, session_cell, session_in, zeros_behind}
+use Rattle.layout.specs.Cells.{none as none_cell, session_cell, session_in, zeros_behind}
 use Rattle.quote.specs.declared.quote.Quote.{Quote}
 use Rattle.spread.specs.declared.spread.SpreadQuote.{SpreadQuote}
 use Rattle.quote.specs.Quote.{quote_of}
@@ -68,7 +68,7 @@ stamp_shown Pair letter = true
 -- M-104: the rows' cells, the time stamp's as it stands or none; its row stands behind the market type's
 abbrev pub stamp_seen : Bool → List ℕ → List ℕ
 stamp_seen true cells = cells
-stamp_seen false cells = set cells (suc key_row_count) noneCell
+stamp_seen false cells = set cells (suc key_row_count) none_cell
 
 -- lent memory: a record's cells by row: those of the key, and any behind the last row, are 0
 unfoldable pub cells_at : Item → Bool → List ℕ → ℕ → Level → List ℕ
@@ -77,11 +77,11 @@ cells_at item stamped records at level =
 
 -- 01 "What may be asked": the quote beside an answer that is no record; every row is none
 unfoldable pub blank : Quote
-blank = quote_of FutureTwo (replicate most_rows noneCell)
+blank = quote_of FutureTwo (replicate most_rows none_cell)
 
 -- M-100: the same for a pair
 unfoldable pub blank_spread : SpreadQuote
-blank_spread = spread_quote_of PairTwo (replicate most_rows noneCell)
+blank_spread = spread_quote_of PairTwo (replicate most_rows none_cell)
 
 -- 01 "What may be asked": "A contract with no update taken reads as 'no record'": its number is 0; M-104: a record has its session
 abbrev pub record_values : ℕ → Session → List ℕ

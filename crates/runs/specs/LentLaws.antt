@@ -104,23 +104,23 @@ module _ (lists : Lists) (rows : List Run) where
   front = lent rows (array rows)
 
   -- a promise that looks at the numbers lent and no further, by an answer that without a list is 16, with so much behind it
-  lent_over : {A : Type 0} (numbersOf : A → List ℕ) (behind : List ℕ) (promise : List ℕ → List ℕ → A → Type 0) → ((a z a' : List ℕ) (core : A) → most ≤ length a → promise a a' core → promise (a ++ z) (a' ++ z) core)
-      → ((a a' : List ℕ) (core : A) → header_sound lists.contracts ≡ false → promise a a' core → numbersOf core ≡ refusal_numbers ListOf ++ behind)
-      → (runs : List Run) → length runs ≡ most_runs → (answer : A) → Over numbersOf lists.contracts front (lent rows runs) promise answer → Over numbersOf lists.contracts rows (over runs rows) promise answer
-  lent_over numbersOf behind promise more unlisted runs long answer p = record {
+  lent_over : {A : Type 0} (numbers_of : A → List ℕ) (behind : List ℕ) (promise : List ℕ → List ℕ → A → Type 0) → ((a z a' : List ℕ) (core : A) → most ≤ length a → promise a a' core → promise (a ++ z) (a' ++ z) core)
+      → ((a a' : List ℕ) (core : A) → header_sound lists.contracts ≡ false → promise a a' core → numbers_of core ≡ refusal_numbers ListOf ++ behind)
+      → (runs : List Run) → length runs ≡ most_runs → (answer : A) → Over numbers_of lists.contracts front (lent rows runs) promise answer → Over numbers_of lists.contracts rows (over runs rows) promise answer
+  lent_over numbers_of behind promise more unlisted runs long answer p = record {
     core = p.core;
     promised = lent_whole rows (λ a b. promise a b p.core) (λ a z a' room q. more a z a' p.core room q) runs long p.promised;
-    answers = p.answers ∙ lent_told rows lists (numbersOf p.core) behind (λ h. unlisted (flat front) (flat (lent rows runs)) p.core h p.promised);
+    answers = p.answers ∙ lent_told rows lists (numbers_of p.core) behind (λ h. unlisted (flat front) (flat (lent rows runs)) p.core h p.promised);
   }
 
   -- and that says nothing of numbers left
-  seen_over : {A : Type 0} (numbersOf : A → List ℕ) (behind : List ℕ) (promise : List ℕ → A → Type 0) → ((a z : List ℕ) (core : A) → most ≤ length a → promise a core → promise (a ++ z) core)
-      → ((a : List ℕ) (core : A) → header_sound lists.contracts ≡ false → promise a core → numbersOf core ≡ refusal_numbers ListOf ++ behind)
-      → (answer : A) → Over numbersOf lists.contracts front front (λ a b core. promise a core) answer → Over numbersOf lists.contracts rows rows (λ a b core. promise a core) answer
-  seen_over numbersOf behind promise more unlisted answer p = record {
+  seen_over : {A : Type 0} (numbers_of : A → List ℕ) (behind : List ℕ) (promise : List ℕ → A → Type 0) → ((a z : List ℕ) (core : A) → most ≤ length a → promise a core → promise (a ++ z) core)
+      → ((a : List ℕ) (core : A) → header_sound lists.contracts ≡ false → promise a core → numbers_of core ≡ refusal_numbers ListOf ++ behind)
+      → (answer : A) → Over numbers_of lists.contracts front front (λ a b core. promise a core) answer → Over numbers_of lists.contracts rows rows (λ a b core. promise a core) answer
+  seen_over numbers_of behind promise more unlisted answer p = record {
     core = p.core;
     promised = lent_seen rows (λ a. promise a p.core) (λ a z room q. more a z p.core room q) p.promised;
-    answers = p.answers ∙ lent_told rows lists (numbersOf p.core) behind (λ h. unlisted (flat front) p.core h p.promised);
+    answers = p.answers ∙ lent_told rows lists (numbers_of p.core) behind (λ h. unlisted (flat front) p.core h p.promised);
   }
 
   module _ (records : List ℕ) where

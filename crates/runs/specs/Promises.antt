@@ -33,10 +33,10 @@ use Rattle.runs.specs.Wanted.{in_runs}
 
 -- 01 "Which form goes where", the lent row of runs: a call over runs is the call over numbers on the runs seen as numbers; but 15 for
 -- gap rows names runs. What that call promises is said of the numbers lent, of those left, and of its answer.
-pub record Over {A : Type 0} (numbersOf : A → List ℕ) (list : List ℕ) (rows rows' : List Run) (promise : List ℕ → List ℕ → A → Type 0) (answer : A) : Type 0 where
+pub record Over {A : Type 0} (numbers_of : A → List ℕ) (list : List ℕ) (rows rows' : List Run) (promise : List ℕ → List ℕ → A → Type 0) (answer : A) : Type 0 where
   pub core : A
   pub promised : promise (flat rows) (flat rows') core
-  pub answers : numbersOf answer ≡ in_runs list (length rows) (numbersOf core)
+  pub answers : numbers_of answer ≡ in_runs list (length rows) (numbers_of core)
 
 -- 01 "What may be asked": start
 abbrev pub StartedRuns : (lists : Lists) (starts : List ℕ) (rows : List Run) (records : List ℕ) (answer : Started) (rows' : List Run) (records' : List ℕ) → Type 0

@@ -101,8 +101,8 @@ module _ (lists : Lists) (rows : List Run) (enough : runs_wanted lists.contracts
   told_enough : {told numbers : List ℕ} → told ≡ in_runs lists.contracts (length rows) numbers → told ≡ numbers
   told_enough {told} {numbers} e = e ∙ in_runs_enough lists.contracts (length rows) numbers enough
 
-  over_enough : {A : Type 0} {numbersOf : A → List ℕ} {rows' : List Run} {promise : List ℕ → List ℕ → A → Type 0} → ((a b : A) → numbersOf a ≡ numbersOf b → a ≡ b)
-      → (answer : A) → Over numbersOf lists.contracts rows rows' promise answer → promise (flat rows) (flat rows') answer
+  over_enough : {A : Type 0} {numbers_of : A → List ℕ} {rows' : List Run} {promise : List ℕ → List ℕ → A → Type 0} → ((a b : A) → numbers_of a ≡ numbers_of b → a ≡ b)
+      → (answer : A) → Over numbers_of lists.contracts rows rows' promise answer → promise (flat rows) (flat rows') answer
   over_enough {rows' = rows'} {promise} told answer p = subst (promise (flat rows) (flat rows')) (sym (told answer p.core (told_enough p.answers))) p.promised
 
   pub judged_enough : {records batch : List ℕ} (answer : Judged) → JudgedRuns lists rows records batch answer → JudgedBatch (lends lists (flat rows) records) batch answer

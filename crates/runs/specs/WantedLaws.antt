@@ -3,7 +3,7 @@ use Rattle.std.specs.Prelude.{ℕ, ◌≤◌, ◌<◌, ◌≡◌, refl, Bool, tr
 use Rattle.std.proofs.Common.{arith, lt-ltb, le-ltb, get_or-set_other}
 use Rattle.std.proofs.Math.ListN.{get_or-append}
 use Rattle.std.proofs.lemmas.List.{set-append_left}
-use Rattle.laws.specs.Tests.{and-false}
+use Rattle.laws.specs.Tests.{and_false}
 use Rattle.state.specs.declared.refusal.Refusal.{Refusal}
 use Rattle.state.specs.declared.refusal.Refusal.TheVariants.{Memory}
 use Rattle.state.specs.Refusals.{refusal_numbers}
@@ -19,7 +19,7 @@ in_runs_short list lent cells behind h = rw (lt-ltb lent (runs_wanted list) h)
 -- enough are lent
 pub in_runs_enough : (list : List ℕ) (lent : ℕ) (numbers : List ℕ) → runs_wanted list ≤ lent → in_runs list lent numbers ≡ numbers
 unfolding in_runs
-in_runs_enough list lent numbers h = rw (le-ltb lent (runs_wanted list) h, and-false (eqb (get_or numbers 0 0) 15))
+in_runs_enough list lent numbers h = rw (le-ltb lent (runs_wanted list) h, and_false (eqb (get_or numbers 0 0) 15))
 
 -- any other answer
 pub in_runs_other : (list : List ℕ) (lent : ℕ) (numbers : List ℕ) → eqb (get_or numbers 0 0) 15 ≡ false → in_runs list lent numbers ≡ numbers

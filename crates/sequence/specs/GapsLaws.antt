@@ -6,7 +6,7 @@ use Rattle.std.proofs.Common.{sym, ap, ◌∙◌, true≢false, le_refl, arith, 
 use Rattle.std.proofs.Math.Bool.{true, false, not}
 use Rattle.std.proofs.Math.Logic.{⊎_elim}
 use Rattle.std.proofs.Math.Dec.{eqb}
-use Rattle.laws.specs.Tests.{and-false, or-false, same_test}
+use Rattle.laws.specs.Tests.{and_false, or-false, same_test}
 use Rattle.laws.specs.Choice.{either}
 use Rattle.laws.specs.Order.{order, same}
 use Rattle.sequence.specs.Runs.{Run, ◌to◌, run, names, missing, runs_in}
@@ -32,7 +32,7 @@ hole_apart {from} {highest} k m h p =
 none_between : (a c j : ℕ) → c ≤ a + 1 → ltb a j && ltb j c ≡ false
 none_between a c j h =
     ⊎_elim (λ (o : j ≤ a). simp (le-ltb a j o))
-    (λ (o : a < j). simp (le-ltb j c (omega arith), and-false))
+    (λ (o : a < j). simp (le-ltb j c (omega arith), and_false))
     (order j a)
 
 missing_hole : {from highest : ℕ} {rs : List Run} (k j : ℕ) → from ≤ highest + 1 → highest < k → Apart highest from rs → missing (join rs (span (highest + 1) k)) j ≡ missing rs j || ltb highest j && ltb j k
@@ -71,7 +71,7 @@ module _ (g : Gaps) (s : SoundGaps g) (k : ℕ) where
       early o =
           let r = s.reached in
           simp (lt-ltb g.highest k o, missing_hole k j (omega arith) o (sound_apart s))
-          (⊎_elim (λ (e : j ≡ k). simp (eq-eqb j k e, none_above j (sound_apart s) (omega arith), le-ltb j k (omega arith), and-false))
+          (⊎_elim (λ (e : j ≡ k). simp (eq-eqb j k e, none_above j (sound_apart s) (omega arith), le-ltb j k (omega arith), and_false))
           (λ (n : j ≡ k → ⊥). simp (ne_eqb j k n))
           (same j k))
 

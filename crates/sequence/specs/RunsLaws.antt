@@ -3,7 +3,7 @@
 use Rattle.std.specs.Prelude.{ℕ, suc, ◌+◌, ◌-◌, ◌≤◌, ◌<◌, ◌≡◌, refl, true, false, ◌&&◌, ◌||◌, List, [], ◌∷◌, ◌++◌, ◌⊎◌, leb, ltb}
 use Rattle.std.proofs.Common.{sym, ap₂, ◌∙◌, true≢false, append_assoc, inl, inr, ⊎_elim, le_trans, le_refl, le_antisymm, arith, le-leb, leb-true, lt-ltb, le-ltb, ne_eqb, eq-eqb}
 use Rattle.std.proofs.lemmas.Bool.{lt-leb}
-use Rattle.laws.specs.Tests.{and-false, and-true, or-false, or_assoc, both, same_test}
+use Rattle.laws.specs.Tests.{and_false, and-true, or-false, or_assoc, both, same_test}
 use Rattle.laws.specs.Choice.{either}
 use Rattle.laws.specs.Order.{order}
 use Rattle.sequence.specs.Runs.{Run, ◌to◌, names, missing}
@@ -19,7 +19,7 @@ pub names_below : (r : Run) (k : ℕ) → k < r.first → names r k ≡ false
 names_below r k h = simp (lt-leb r.first k h)
 
 pub names_above : (r : Run) (k : ℕ) → r.last < k → names r k ≡ false
-names_above r k h = simp (lt-leb k r.last h, and-false)
+names_above r k h = simp (lt-leb k r.last h, and_false)
 
 pub named : (r : Run) (k : ℕ) → names r k ≡ true → (r.first ≤ k) × (k ≤ r.last)
 named r k e =
@@ -37,7 +37,7 @@ missing_span a c k =
     (order c a)
   where
     empty : c ≤ a → (a ≤ k) ⊎ (k < a) → false ≡ leb a k && ltb k c
-    empty h (inl l) = simp (le-ltb k c (omega arith), and-false)
+    empty h (inl l) = simp (le-ltb k c (omega arith), and_false)
     empty h (inr l) = simp (lt-leb a k l)
 
 -- ---- runs that ascend and stand apart
@@ -86,7 +86,7 @@ without_itself k (next r f l u p) =
     let rest = without_itself k p in
     ⊎_elim (λ (e : names r k ≡ true).
     let both = named r k e in
-    simp (e, missing_append, missing_span, or_assoc, le-ltb k k (omega arith), lt-leb (k + 1) k (omega arith), and-false)
+    simp (e, missing_append, missing_span, or_assoc, le-ltb k k (omega arith), lt-leb (k + 1) k (omega arith), and_false)
     (none_below k p (omega arith)))
     (λ (e : names r k ≡ false). simp e rest)
     (either (names r k))

@@ -2,7 +2,7 @@
 use Rattle.std.specs.Prelude.{ℕ, zero, suc, ◌+◌, ◌-◌, ◌≤◌, ◌<◌, ◌≡◌, refl, true, false, List, [], ◌∷◌, ◌↔◌, ◌⊎◌, leb, ltb, length, drop}
 use Rattle.std.proofs.Common.{suc-le-suc, ⊎_elim, le_of_suc-le-suc, not-suc-le-zero, add-one, arith, le-leb, leb-true, lt-ltb, ltb-true, drop_of_length-le, drop-cons}
 use Rattle.std.proofs.lemmas.Bool.{lt-leb}
-use Rattle.laws.specs.Tests.{and-false, all_four}
+use Rattle.laws.specs.Tests.{and_false, all_four}
 use Rattle.sequence.specs.Runs.{Run, ◌to◌, run}
 use Rattle.sequence.specs.Apart.{Apart, none, next}
 use Rattle.sequence.specs.Gaps.{Gaps, most}
@@ -99,8 +99,8 @@ module _ (from : ℕ) (rs : List Run) (highest i : ℕ) (h : i < length rs) wher
   sound_stop w =
       rw (drop-cons rs i (0 to 0) h)
       (⊎_elim (λ (f : (run rs i).first < from). simp (lt-leb from (run rs i).first f))
-      (⊎_elim (λ (l : (run rs i).last < (run rs i).first). simp (lt-leb (run rs i).first (run rs i).last l, and-false))
-      (λ (u : highest < (run rs i).last). simp (lt-leb (run rs i).last highest u, and-false)))
+      (⊎_elim (λ (l : (run rs i).last < (run rs i).first). simp (lt-leb (run rs i).first (run rs i).last l, and_false))
+      (λ (u : highest < (run rs i).last). simp (lt-leb (run rs i).last highest u, and_false)))
       w)
 
 pub sound_end : (from : ℕ) (rs : List Run) (highest i : ℕ) → length rs ≤ i → sound_runs from (drop i rs) highest ≡ true

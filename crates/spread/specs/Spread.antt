@@ -9,7 +9,7 @@ use Rattle.spread.specs.declared.spread.SpreadQuote.{SpreadQuote}
 use Rattle.layout.specs.declared.cells.Held.{Held}
 use Rattle.layout.specs.declared.cells.Held.TheVariants.{Nothing, Units, Below}
 use Rattle.forms.specs.declared.forms.Form.{Form}
-use Rattle.forms.specs.Names.{Name, NamedRow, instrument, symbol, expiry, strike, option_type, second_instrument, second_symbol, second_expiry, second_strike, second_option_type, market_type, time_stamp, buy_price, buy_quantity, sell_price, sell_quantity, last_price, traded_quantity, status, opening_price, high_price, low_price, close_price, average_price, all_buyers, all_sellers, turnover as turnoverName}
+use Rattle.forms.specs.Names.{Name, NamedRow, instrument, symbol, expiry, strike, option_type, second_instrument, second_symbol, second_expiry, second_strike, second_option_type, market_type, time_stamp, buy_price, buy_quantity, sell_price, sell_quantity, last_price, traded_quantity, status, opening_price, high_price, low_price, close_price, average_price, all_buyers, all_sellers, turnover as turnover_name}
 use Rattle.forms.specs.Forms.{named_rows}
 use Rattle.layout.specs.Cells.{held_in, zeros_behind}
 use Rattle.layout.specs.Plain.{value_of}
@@ -91,7 +91,7 @@ spread_field_value quote close_price = 0
 spread_field_value quote average_price = 0
 spread_field_value quote all_buyers = value_of_quantity quote.buyers
 spread_field_value quote all_sellers = value_of_quantity quote.sellers
-spread_field_value quote turnoverName = 0
+spread_field_value quote turnover_name = 0
 
 -- M-100: the values that a pair's quote's message of that form is written from, with zeros behind them
 unfoldable pub spread_values_of : Form → SpreadQuote → List ℕ
@@ -101,8 +101,8 @@ spread_values_of form quote = zeros_behind (values_by (named_rows form) (spread_
 
 -- M-100: an order, where the form has its rows
 abbrev pub seen_spread_order : List NamedRow → Name → Name → SpreadOrder → SpreadOrder
-seen_spread_order rows priceName quantityName order =
-    record { price = where_named rows priceName (plain_zero order.price) difference.None; quantity = where_named rows quantityName order.quantity quantity.None }
+seen_spread_order rows price_name quantity_name order =
+    record { price = where_named rows price_name (plain_zero order.price) difference.None; quantity = where_named rows quantity_name order.quantity quantity.None }
 
 -- M-100: what rows hold of a pair's quote
 abbrev pub seen_spread_by : List NamedRow → SpreadQuote → SpreadQuote

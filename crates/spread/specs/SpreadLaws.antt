@@ -44,11 +44,11 @@ module _ (given : Name → ℕ) (rows : List NamedRow) (rest : List ℕ) (held :
   abbrev laid : List ℕ
   laid = values_by rows given ++ rest
 
-  spread_order_seen : (priceName quantityName : Name) (order : SpreadOrder) → given priceName ≡ value_of_difference order.price
-      → given quantityName ≡ value_of_quantity order.quantity
-      → spread_order_in (cell_named rows priceName laid) (cell_named rows quantityName laid) ≡ seen_spread_order rows priceName quantityName order
-  spread_order_seen priceName quantityName order p q =
-      λ i. record { price = number_seen given rows rest held difference_number priceName order.price p i; quantity = number_seen given rows rest held quantity_number quantityName order.quantity q i }
+  spread_order_seen : (price_name quantity_name : Name) (order : SpreadOrder) → given price_name ≡ value_of_difference order.price
+      → given quantity_name ≡ value_of_quantity order.quantity
+      → spread_order_in (cell_named rows price_name laid) (cell_named rows quantity_name laid) ≡ seen_spread_order rows price_name quantity_name order
+  spread_order_seen price_name quantity_name order p q =
+      λ i. record { price = number_seen given rows rest held difference_number price_name order.price p i; quantity = number_seen given rows rest held quantity_number quantity_name order.quantity q i }
 
   -- a pair's quote is read back from the values that its fields are given
   pub spread_back : (quote : SpreadQuote) → ((name : Name) → given name ≡ spread_field_value quote name) → spread_quote_by rows laid ≡ seen_spread_by rows quote

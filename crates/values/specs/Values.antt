@@ -6,7 +6,7 @@ use Rattle.std.proofs.Math.Option.{Option, none, some}
 use Rattle.forms.specs.declared.forms.Item.{Item}
 use Rattle.forms.specs.declared.forms.Item.TheVariants.{Contract, Pair}
 use Rattle.forms.specs.declared.rows.Level.{Level}
-use Rattle.forms.specs.Names.{Name, NamedRow, market_type, time_stamp, buy_price, buy_quantity, sell_price, sell_quantity, last_price, traded_quantity, status, opening_price, high_price, low_price, close_price, average_price, all_buyers, all_sellers, turnover as turnoverName}
+use Rattle.forms.specs.Names.{Name, NamedRow, market_type, time_stamp, buy_price, buy_quantity, sell_price, sell_quantity, last_price, traded_quantity, status, opening_price, high_price, low_price, close_price, average_price, all_buyers, all_sellers, turnover as turnover_name}
 use Rattle.forms.specs.Forms.{named_rows, key_rows_of, record_form}
 use Rattle.forms.specs.Sizes.{most_rows, key_row_count}
 use Rattle.layout.specs.Plain.{no_value, held_of, letter_of}
@@ -69,7 +69,7 @@ quote_from value =
       average = price_of (held_of false (value average_price));
       buyers = quantity_of (held_of false (value all_buyers));
       sellers = quantity_of (held_of false (value all_sellers));
-      turnover = turnover_of (held_of false (value turnoverName));
+      turnover = turnover_of (held_of false (value turnover_name));
     }
 
 -- the host's header: a pair's order is a price difference and a quantity, a value each

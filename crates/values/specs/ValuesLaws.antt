@@ -7,7 +7,7 @@ use Rattle.forms.specs.declared.forms.Item.{Item}
 use Rattle.forms.specs.declared.forms.Item.TheVariants.{Contract, Pair}
 use Rattle.forms.specs.declared.rows.Level.{Level}
 use Rattle.forms.specs.declared.rows.Level.TheVariants.{One, Two}
-use Rattle.forms.specs.Names.{Name, NamedRow, market_type, time_stamp, buy_price, buy_quantity, sell_price, sell_quantity, last_price, traded_quantity, status, opening_price, high_price, low_price, close_price, average_price, all_buyers, all_sellers, turnover as turnoverName}
+use Rattle.forms.specs.Names.{Name, NamedRow, market_type, time_stamp, buy_price, buy_quantity, sell_price, sell_quantity, last_price, traded_quantity, status, opening_price, high_price, low_price, close_price, average_price, all_buyers, all_sellers, turnover as turnover_name}
 use Rattle.forms.specs.SameName.{same_name}
 use Rattle.forms.specs.Forms.{key_rows, pair_key_rows, named_rows, rows_of, key_rows_of, record_form}
 use Rattle.forms.specs.FormsLaws.{fits}
@@ -118,7 +118,7 @@ module _ (rows : List NamedRow) (values rest : List ℕ) (long : length rows ≤
         average = price_of (held_of false (contract average_price refl i));
         buyers = quantity_of (held_of false (contract all_buyers refl i));
         sellers = quantity_of (held_of false (contract all_sellers refl i));
-        turnover = turnover_of (held_of false (contract turnoverName refl i));
+        turnover = turnover_of (held_of false (contract turnover_name refl i));
       }
 
   -- a pair's field, whose name no key row has

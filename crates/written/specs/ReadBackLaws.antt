@@ -113,7 +113,7 @@ market_updates Pair level form tells quote normal = refl
 -- ---- an update that was written, and the batch that holds just it
 
 module _ (item : Item) (code : Code) (level : Level) (number : ℕ) (key : List ℕ) (quote : QuoteFor item) (out out' : List ℕ) (n : ℕ) (form : Form)
-    (update : WritesUpdate item code level form) (few : number < 2 ^ 32) (key-long : length key ≡ key_bytes_of item)
+    (update : WritesUpdate item code level form) (few : number < 2 ^ 32) (key_long : length key ≡ key_bytes_of item)
     (wrote : WroteValues item code level number key (λ form. cells_for item form quote) out (Written.Message n) out')
   where
     abbrev letter : ℕ
@@ -169,10 +169,10 @@ module _ (item : Item) (code : Code) (level : Level) (number : ℕ) (key : List 
 
         acts : message_acts lent.lists letter (box_of lent letter) 0 message ≡ number_acts (box_of lent letter) 0 number changed
         unfolding message_acts
-        acts = rw (message_is item code level number key values out out' n form update.0 wrote (level, update.1) key-long few lent.lists acting place listed, update.1)
+        acts = rw (message_is item code level number key values out out' n form update.0 wrote (level, update.1) key_long few lent.lists acting place listed, update.1)
 
         keys_there_lem : message_compared lent.lists letter message ≡ keys
-        keys_there_lem = keys_are item code level number key values out out' n form update.0 wrote (level, update.1) key-long acting lent.lists
+        keys_there_lem = keys_are item code level number key values out out' n form update.0 wrote (level, update.1) key_long acting lent.lists
 
         counts : Counts letter number keys lent batch
         counts = counted item code level number key values out out' n form update.0 wrote lent state room changed acts keys keys_there_lem
@@ -245,10 +245,10 @@ module _ (item : Item) (code : Code) (level : Level) (number : ℕ) (key : List 
         passes : message_acts lent.lists letter (box_of lent letter) 0 message ≡ number_acts (box_of lent letter) 0 number (λ records. records)
         unfolding message_acts
         passes =
-            rw (passed_is item code level number key values out out' n form update.0 wrote (level, update.1) key-long few lent.lists other ((listed_exact lent.lists.contracts letter).1 listed))
+            rw (passed_is item code level number key values out out' n form update.0 wrote (level, update.1) key_long few lent.lists other ((listed_exact lent.lists.contracts letter).1 listed))
 
         none_there : message_compared lent.lists letter message ≡ 0
-        none_there = no_keys item code level number key values out out' n form update.0 wrote (level, update.1) key-long other lent.lists
+        none_there = no_keys item code level number key values out out' n form update.0 wrote (level, update.1) key_long other lent.lists
 
         pub passes_over : PassesOver letter number lent batch
         passes_over =
@@ -270,22 +270,22 @@ module _ (code : Code) (level : Level) (number : ℕ) (key out out' : List ℕ) 
     pub contract_back : (quote : Quote) → WroteMessage code level number key quote out (Written.Message n) out' → length key ≡ key_bytes_of Contract
         → WritesUpdate Contract code level form → quote.market_type ≡ 78 → (place : ℕ) → key_place Contract lent.lists (segment_letter code.0) key ≡ some place
         → ReadsBack Contract (segment_letter code.0) key level number (session_of form) (seen_quote form quote) lent (batch_of (take n out'))
-    contract_back quote wrote key-long update normal place listed =
-        reads_back Contract code level number key quote out out' n form update few key-long wrote lent state room normal place listed
+    contract_back quote wrote key_long update normal place listed =
+        reads_back Contract code level number key quote out out' n form update few key_long wrote lent state room normal place listed
 
     -- and a pair's, with every minus but that of zero
     pub pair_back : (quote : SpreadQuote) → WroteSpread code level number key quote out (Written.Message n) out' → length key ≡ key_bytes_of Pair
         → WritesUpdate Pair code level form → (place : ℕ) → key_place Pair lent.lists (segment_letter code.0) key ≡ some place
         → ReadsBack Pair (segment_letter code.0) key level number (session_of form) (seen_spread form quote) lent (batch_of (take n out'))
-    pair_back quote wrote key-long update place listed =
-        reads_back Pair code level number key quote out out' n form update few key-long wrote lent state room tt place listed
+    pair_back quote wrote key_long update place listed =
+        reads_back Pair code level number key quote out out' n form update few key_long wrote lent state room tt place listed
 
     -- M-104: a contract's quote in another market, whose key need not be listed
     pub contract_passed : (quote : Quote) → WroteMessage code level number key quote out (Written.Message n) out' → length key ≡ key_bytes_of Contract
         → WritesUpdate Contract code level form → (quote.market_type ≡ 78 → ⊥) → LetterListed lent.lists.contracts (segment_letter code.0)
         → PassesOver (segment_letter code.0) number lent (batch_of (take n out'))
-    contract_passed quote wrote key-long update other listed =
-        passes_over Contract code level number key quote out out' n form update few key-long wrote lent state room (rw ((market_row form level update.1).1 quote) (ne_eqb quote.market_type 78 other)) listed
+    contract_passed quote wrote key_long update other listed =
+        passes_over Contract code level number key quote out out' n form update few key_long wrote lent state room (rw ((market_row form level update.1).1 quote) (ne_eqb quote.market_type 78 other)) listed
 
 -- M-104: "D and T keep N alone": what has no time stamp is written in the normal market only
 pub normal_alone : (code : Code) (level : Level) (number : ℕ) (key : List ℕ) (quote : Quote) (out out' : List ℕ) (n : ℕ) (form : Form)

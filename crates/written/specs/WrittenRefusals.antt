@@ -21,7 +21,7 @@ use Rattle.layout.specs.Says.{IsMarketType, IsStatus, row_at}
 use Rattle.quote.specs.Shows.{no_order}
 use Rattle.spread.specs.Shows.{no_spread_order}
 use Rattle.forms.specs.Forms.{named_rows, rows_of}
-use Rattle.forms.specs.Names.{Name, named, instrument, symbol, expiry, strike, option_type, second_instrument, second_symbol, second_expiry, second_strike, second_option_type, market_type, time_stamp, buy_price, buy_quantity, sell_price, sell_quantity, last_price, traded_quantity, status, opening_price, high_price, low_price, close_price, average_price, all_buyers, all_sellers, turnover as turnoverName}
+use Rattle.forms.specs.Names.{Name, named, instrument, symbol, expiry, strike, option_type, second_instrument, second_symbol, second_expiry, second_strike, second_option_type, market_type, time_stamp, buy_price, buy_quantity, sell_price, sell_quantity, last_price, traded_quantity, status, opening_price, high_price, low_price, close_price, average_price, all_buyers, all_sellers, turnover as turnover_name}
 use Rattle.forms.specs.Rows.{total}
 
 -- 01 "The message", M-100: what a row is written from, its part of the key apart: a letter's byte, nothing, or so many units, with a
@@ -79,7 +79,7 @@ field_given quote close_price = price_given quote.close
 field_given quote average_price = price_given quote.average
 field_given quote all_buyers = quantity_given quote.buyers
 field_given quote all_sellers = quantity_given quote.sellers
-field_given quote turnoverName = turnover_given quote.turnover
+field_given quote turnover_name = turnover_given quote.turnover
 
 -- M-100: each field of a pair's quote; it has no market type, time stamp, status, close, average or turnover
 abbrev pub spread_field_given : SpreadQuote → Name → Value
@@ -109,7 +109,7 @@ spread_field_given quote close_price = nothing
 spread_field_given quote average_price = nothing
 spread_field_given quote all_buyers = quantity_given quote.buyers
 spread_field_given quote all_sellers = quantity_given quote.sellers
-spread_field_given quote turnoverName = nothing
+spread_field_given quote turnover_name = nothing
 
 -- a word of our own: a letter's byte
 abbrev pub byte_of : Value → ℕ

@@ -40,7 +40,7 @@ use Rattle.written.specs.WrittenRowsLaws.{Given, field_exact, range_exact, fine_
 
 -- ---- the verdict on the rows
 
-module _ (item : Item) (form : Form) (key values : List ℕ) (given : Name → Value) (from : Given item form given values) (key-long : length key ≡ key_bytes_of item) where
+module _ (item : Item) (form : Form) (key values : List ℕ) (given : Name → Value) (from : Given item form given values) (key_long : length key ≡ key_bytes_of item) where
   abbrev v : Verdict
   v = (write_rows 0 (rows_of form) key values).verdict
 
@@ -54,29 +54,29 @@ module _ (item : Item) (form : Form) (key values : List ℕ) (given : Name → V
       (λ f. let inside = f.within in record {
         within = f.within;
         bad = (exact k f.within).0 f.refused;
-        fine_before = λ j h. (fine_exact item form key values given from key-long j (omega arith)).0 (f.none_before j h);
+        fine_before = λ j h. (fine_exact item form key values given from key_long j (omega arith)).0 (f.none_before j h);
       }),
       (λ f. let inside = f.within in record {
         within = f.within;
         refused = (exact k f.within).1 f.bad;
-        none_before = λ j h. (fine_exact item form key values given from key-long j (omega arith)).1 (f.fine_before j h);
+        none_before = λ j h. (fine_exact item form key values given from key_long j (omega arith)).1 (f.fine_before j h);
       }),
     )
 
   verdict_field : (k : ℕ) → v ≡ verdict.Field k ↔ First form key given (MalformedAt form key given) k
   verdict_field k =
       Iff.trans (write_exactly (rows_of form) key values (verdict.Field k))
-      (first_exact 11 (MalformedAt form key given) (field_exact item form key values given from key-long) k)
+      (first_exact 11 (MalformedAt form key given) (field_exact item form key values given from key_long) k)
 
   verdict_range : (k : ℕ) → v ≡ verdict.Range k ↔ First form key given (OutOfRangeAt form given) k
   verdict_range k =
       Iff.trans (write_exactly (rows_of form) key values (verdict.Range k))
-      (first_exact 12 (OutOfRangeAt form given) (range_exact item form key values given from key-long) k)
+      (first_exact 12 (OutOfRangeAt form given) (range_exact item form key values given from key_long) k)
 
   verdict_good : v ≡ verdict.Good ↔ AllFine form key given
   verdict_good =
       Iff.trans (write_exactly (rows_of form) key values verdict.Good)
-      ((λ g k h. (fine_exact item form key values given from key-long k h).0 (g k h)), (λ f k h. (fine_exact item form key values given from key-long k h).1 (f k h)))
+      ((λ g k h. (fine_exact item form key values given from key_long k h).0 (g k h)), (λ f k h. (fine_exact item form key values given from key_long k h).1 (f k h)))
 
 -- ---- the first broken rule
 
@@ -172,7 +172,7 @@ module _ (item : Item) (code : Code) (level : Level) (number : ℕ) (key : List 
         (rw rules_are (number_why (length_written chose) (in_table chose) (numbered chose number) (data_written chose key handed).verdict fitting))
 
     -- a form whose code and number may be written
-    module _ (form : Form) (is-chosen : chose ≡ chosen.Form form) (takes : takes_number (is.Form form) number ≡ true) (key-long : length key ≡ key_bytes_of item)
+    module _ (form : Form) (is_chosen : chose ≡ chosen.Form form) (takes : takes_number (is.Form form) number ≡ true) (key_long : length key ≡ key_bytes_of item)
         (given : Name → Value) (from : Given item form given (values form))
       where
         abbrev wanted : ℕ
@@ -185,26 +185,26 @@ module _ (item : Item) (code : Code) (level : Level) (number : ℕ) (key : List 
         decided : broken ≡ first_of wanted true true own (leb wanted (length out))
         unfolding write_rules data_written length_written
         decided =
-            ap (λ (c : Chosen). first_broken (write_rules c number key (values_written c values) (length out))) is-chosen
+            ap (λ (c : Chosen). first_broken (write_rules c number key (values_written c values) (length out))) is_chosen
             ∙ ap (λ (t : Bool). first_of wanted true t own (leb wanted (length out))) takes
 
         by : {A : Type 0} (o : Option Refusal) → first_of wanted true true own (leb wanted (length out)) ≡ o ↔ A → broken ≡ o ↔ A
         by o exact = rw decided exact
 
         both_fine : {A B : Type 0} → A ↔ B → (own ≡ verdict.Good) × A ↔ AllFine form key given × B
-        both_fine same = let good = verdict_good item form key (values form) given from key-long in ((λ p. (good.0 p.0, same.0 p.1)), (λ p. (good.1 p.0, same.1 p.1)))
+        both_fine same = let good = verdict_good item form key (values form) given from key_long in ((λ p. (good.0 p.0, same.0 p.1)), (λ p. (good.1 p.0, same.1 p.1)))
 
         -- 11 at row k exactly where that row is malformed and every row before it is fine
         pub refuses_field : (k : ℕ) → answer ≡ Written.Refused (Field 0 k) ↔ First form key given (MalformedAt form key given) k
         refuses_field k =
             Iff.trans (answers_refusal (Field 0 k))
-            (by (some (Field 0 k)) (Iff.trans (field_why wanted own (leb wanted (length out)) k) (verdict_field item form key (values form) given from key-long k)))
+            (by (some (Field 0 k)) (Iff.trans (field_why wanted own (leb wanted (length out)) k) (verdict_field item form key (values form) given from key_long k)))
 
         -- 12 at row k exactly where that row is out of range and every row before it is fine
         pub refuses_range : (k : ℕ) → answer ≡ Written.Refused (Range 0 k) ↔ First form key given (OutOfRangeAt form given) k
         refuses_range k =
             Iff.trans (answers_refusal (Range 0 k))
-            (by (some (Range 0 k)) (Iff.trans (range_why wanted own (leb wanted (length out)) k) (verdict_range item form key (values form) given from key-long k)))
+            (by (some (Range 0 k)) (Iff.trans (range_why wanted own (leb wanted (length out)) k) (verdict_range item form key (values form) given from key_long k)))
 
         -- 15 exactly where every row is fine and `out` is shorter than the message
         pub refuses_memory : answer ≡ Written.Refused (Memory wanted) ↔ AllFine form key given × (length out < wanted)
@@ -216,7 +216,7 @@ module _ (item : Item) (code : Code) (level : Level) (number : ℕ) (key : List 
         pub accepts : answer ≡ Written.Message wanted ↔ AllFine form key given × (wanted ≤ length out)
         unfolding length_written
         accepts =
-            Iff.trans (rw (ap length_written is-chosen) at answers_length)
+            Iff.trans (rw (ap length_written is_chosen) at answers_length)
             (by none (Iff.trans (none_why wanted own (leb wanted (length out))) (both_fine (leb_is wanted (length out)))))
 
 -- a heartbeat has no rows, so that its level, key and quote aren't looked at

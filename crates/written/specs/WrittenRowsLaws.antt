@@ -5,7 +5,7 @@ use Rattle.std.proofs.lemmas.Bool.{false≢true, lt-leb, eqb-false}
 use Rattle.std.proofs.Math.Logic.Iff
 use Rattle.std.proofs.lemmas.List.{length-map}
 use Rattle.std.proofs.Math.ListN.{get_or-map, get_or-append}
-use Rattle.laws.specs.Tests.{and-false, conj, eqb_is, or_is}
+use Rattle.laws.specs.Tests.{and_false, conj, eqb_is, or_is}
 use Rattle.laws.specs.Order.{order, same}
 use Rattle.decimal.specs.declared.Kind.{Kind}
 use Rattle.decimal.specs.Kinds.{price, quantity, turnover, difference}
@@ -16,13 +16,13 @@ use Rattle.layout.specs.declared.cells.Held.{Held}
 use Rattle.layout.specs.declared.cells.Held.TheVariants.{Nothing, Units, Below}
 use Rattle.quote.specs.declared.quote.Quote.{Quote}
 use Rattle.quote.specs.declared.quote.PriceCell.{PriceCell}
-use Rattle.quote.specs.declared.quote.PriceCell.TheVariants as price-cell
+use Rattle.quote.specs.declared.quote.PriceCell.TheVariants as price_cell
 use Rattle.quote.specs.declared.quote.QuantityCell.{QuantityCell}
-use Rattle.quote.specs.declared.quote.QuantityCell.TheVariants as quantity-cell
+use Rattle.quote.specs.declared.quote.QuantityCell.TheVariants as quantity_cell
 use Rattle.quote.specs.declared.quote.TurnoverCell.{TurnoverCell}
-use Rattle.quote.specs.declared.quote.TurnoverCell.TheVariants as turnover-cell
+use Rattle.quote.specs.declared.quote.TurnoverCell.TheVariants as turnover_cell
 use Rattle.spread.specs.declared.spread.DifferenceCell.{DifferenceCell}
-use Rattle.spread.specs.declared.spread.DifferenceCell.TheVariants as difference-cell
+use Rattle.spread.specs.declared.spread.DifferenceCell.TheVariants as difference_cell
 use Rattle.spread.specs.declared.spread.SpreadQuote.{SpreadQuote}
 use Rattle.forms.specs.declared.rows.Level.{Level}
 use Rattle.forms.specs.declared.forms.Form.{Form}
@@ -37,7 +37,7 @@ use Rattle.forms.specs.declared.rows.Markets.TheVariants.{Normal, Any}
 use Rattle.forms.specs.declared.rows.Row.{Row}
 use Rattle.forms.specs.declared.rows.Row.TheVariants.{Key, MarketType, Status, Price, Quantity, Turnover, Difference}
 use Rattle.layout.specs.Cells.{minus, sided, key_used}
-use Rattle.layout.specs.Plain.{no_value, no_room, value_of, held_of as heldBy}
+use Rattle.layout.specs.Plain.{no_value, no_room, value_of, held_of as held_by}
 use Rattle.layout.specs.CellsLaws.{MayHold}
 use Rattle.layout.specs.PlainLaws.{held_back, has_value}
 use Rattle.compose.specs.FirstBad.{refusal_written}
@@ -96,20 +96,20 @@ plains_at form given values behind e k h =
     ∙ ap (λ (row : Row). plain_in row (value_at form given k)) (sym (get_or-map (λ (row : NamedRow). row.row) (named_rows form) k (named instrument (Key 0))))
 
 price_given_lem : (p : PriceCell) → value_of_price p ≡ value_of false (held_of (price_given p))
-price_given_lem price-cell.None = refl
-price_given_lem (price-cell.Amount units) = refl
+price_given_lem price_cell.None = refl
+price_given_lem (price_cell.Amount units) = refl
 
 quantity_given_lem : (q : QuantityCell) → value_of_quantity q ≡ value_of false (held_of (quantity_given q))
-quantity_given_lem quantity-cell.None = refl
-quantity_given_lem (quantity-cell.Amount units) = refl
+quantity_given_lem quantity_cell.None = refl
+quantity_given_lem (quantity_cell.Amount units) = refl
 
 turnover_given_lem : (t : TurnoverCell) → value_of_turnover t ≡ value_of false (held_of (turnover_given t))
-turnover_given_lem turnover-cell.None = refl
-turnover_given_lem (turnover-cell.Amount units) = refl
+turnover_given_lem turnover_cell.None = refl
+turnover_given_lem (turnover_cell.Amount units) = refl
 
 difference_given_lem : (d : DifferenceCell) → value_of_difference d ≡ value_of true (held_of (difference_given d))
-difference_given_lem difference-cell.None = refl
-difference_given_lem (difference-cell.Amount units) = refl
+difference_given_lem difference_cell.None = refl
+difference_given_lem (difference_cell.Amount units) = refl
 
 contract_plain : (form : Form) (level : Level) → is_asked (subject_of form) Contract level ≡ true → (quote : Quote)
     → (total key_used (rows_of form) ≤ key_bytes_of Contract) × (values_by (named_rows form) (field_value quote) ≡ plain_given form (field_given quote))
@@ -177,7 +177,7 @@ module _ (code : Code) (level : Level) (form : Form) where
 
 out_bad : (byte : ℕ) → Outside byte → printable byte ≡ false
 out_bad byte (inl h) = simp (lt-leb 32 byte h)
-out_bad byte (inr h) = simp (lt-leb byte 126 h) (and-false (leb 32 byte))
+out_bad byte (inr h) = simp (lt-leb byte 126 h) (and_false (leb 32 byte))
 
 byte_either : (byte : ℕ) → (printable byte ≡ true) ⊎ Outside byte
 byte_either byte =
@@ -203,7 +203,7 @@ bad_there (c ∷ l) e = go (byte_either c) (bad_there l)
 bad_found : (l : List ℕ) (b : ℕ) → b < length l → Outside (get_or l b 0) → all_printable l ≡ false
 bad_found [] b h o = absurd (omega arith)
 bad_found (c ∷ l) zero h o = ap (λ (t : Bool). t && all_printable l) (out_bad c o)
-bad_found (c ∷ l) (suc b) h o = ap (λ (t : Bool). printable c && t) (bad_found l b (omega arith) o) ∙ and-false (printable c)
+bad_found (c ∷ l) (suc b) h o = ap (λ (t : Bool). printable c && t) (bad_found l b (omega arith) o) ∙ and_false (printable c)
 
 -- ---- what is refused, and with which number
 
@@ -254,13 +254,13 @@ module _ (kind : Kind) (width : ℕ) where
 
   module _ (small : kind.most < minus - 2) where
     -- the value of an amount that has none of its own is as far out of range as the amount
-    pub far : (signed : Bool) → Refuses kind width (heldBy signed no_room)
+    pub far : (signed : Bool) → Refuses kind width (held_by signed no_room)
     far true = inl (omega arith)
     far false = inl (omega arith)
 
     -- a number that has a value is the one that its value stands for
     held_kept : (signed : Bool) (held : Held) (n : ℕ) → MayHold signed held → (n < minus - 2 → value_of signed held ≡ no_room → ⊥) → (kind.most < n → Refuses kind width held)
-        → Refuses kind width (heldBy signed (value_of signed held)) ↔ Refuses kind width held
+        → Refuses kind width (held_by signed (value_of signed held)) ↔ Refuses kind width held
     held_kept signed held n may has over =
         ⊎_elim (λ (e : value_of signed held ≡ no_room).
         let out : Refuses kind width held = ⊎_elim (λ (l : minus - 2 ≤ n). over (omega arith)) (λ (l : n < minus - 2). absurd (has l e)) (order (minus - 2) n) in
@@ -268,37 +268,37 @@ module _ (kind : Kind) (width : ℕ) where
         (λ (e : value_of signed held ≡ no_room → ⊥). rw (held_back signed held may e) ((λ u. u), (λ u. u)))
         (same (value_of signed held) no_room)
 
-    units_kept : (signed : Bool) (n : ℕ) → Refuses kind width (heldBy signed (value_of signed (Units n))) ↔ Refuses kind width (Units n)
+    units_kept : (signed : Bool) (n : ℕ) → Refuses kind width (held_by signed (value_of signed (Units n))) ↔ Refuses kind width (Units n)
     units_kept signed n = held_kept signed (Units n) n tt (λ l e. omega (arith, has_value signed (Units n) l)) (λ l. inl l)
 
-    below_kept : (n : ℕ) → 0 < n → Refuses kind width (heldBy true (value_of true (Below n))) ↔ Refuses kind width (Below n)
+    below_kept : (n : ℕ) → 0 < n → Refuses kind width (held_by true (value_of true (Below n))) ↔ Refuses kind width (Below n)
     below_kept n some = held_kept true (Below n) n (refl, some) (λ l e. omega (arith, has_value true (Below n) l)) (λ l. inl l)
 
     -- where a kind has no sign, what is below zero is refused
-    pub unsigned : (n : ℕ) → Refuses kind width (heldBy false (value_of false (Below n)))
+    pub unsigned : (n : ℕ) → Refuses kind width (held_by false (value_of false (Below n)))
     unsigned n =
         ⊎_elim (λ (l : minus - 1 ≤ n). simp (le-ltb n (minus - 1) l) (far false))
         (λ (l : n < minus - 1). simp (lt-ltb n (minus - 1) l, ne_eqb (minus + n) no_value (λ e. omega arith)) (inl (omega arith)))
         (order (minus - 1) n)
 
     amount_exact : (signed : Bool) → kind.signed ≡ signed → (given : Bool) (n : ℕ)
-        → Refuses kind width (heldBy signed (value_of signed (sided given n))) ↔ Unwritable kind width (amount given n)
+        → Refuses kind width (held_by signed (value_of signed (sided given n))) ↔ Unwritable kind width (amount given n)
     amount_exact signed is false n = units_kept signed n
     amount_exact signed is true n = go signed is (eqb n 0) refl
       where
         go : (signed : Bool) → kind.signed ≡ signed → (zero : Bool) → eqb n 0 ≡ zero
-            → Refuses kind width (heldBy signed (value_of signed (sided true n))) ↔ Unwritable kind width (amount true n)
+            → Refuses kind width (held_by signed (value_of signed (sided true n))) ↔ Unwritable kind width (amount true n)
         go signed is true z = rw z (units_kept signed n)
         go true is false z = rw z (rw z at (below_kept n (omega (arith, eqb-false n 0 z))))
         go false is false z =
             let out : Unwritable kind width (amount true n) = (refuses kind width true n).0 (sideless kind width true n (rw (z, is))) in
-            let held_out : Refuses kind width (heldBy false (value_of false (sided true n))) = rw z (unsigned n) in
+            let held_out : Refuses kind width (held_by false (value_of false (sided true n))) = rw z (unsigned n) in
             ((λ u. out), (λ u. held_out))
 
-    value_exact : (value : Value) → write_refusal (held_text kind width (heldBy kind.signed (value_of kind.signed (held_of value)))) ≡ 12 ↔ Unwritable kind width value
-    value_exact value = Iff.trans (held_exact (heldBy kind.signed (value_of kind.signed (held_of value)))) (by value)
+    value_exact : (value : Value) → write_refusal (held_text kind width (held_by kind.signed (value_of kind.signed (held_of value)))) ≡ 12 ↔ Unwritable kind width value
+    value_exact value = Iff.trans (held_exact (held_by kind.signed (value_of kind.signed (held_of value)))) (by value)
       where
-        by : (value : Value) → Refuses kind width (heldBy kind.signed (value_of kind.signed (held_of value))) ↔ Unwritable kind width value
+        by : (value : Value) → Refuses kind width (held_by kind.signed (value_of kind.signed (held_of value))) ↔ Unwritable kind width value
         by (letter byte) = ((λ u. u), (λ u. u))
         by nothing = ((λ u. u), (λ u. u))
         by (amount given n) = amount_exact kind.signed refl given n
@@ -330,16 +330,16 @@ row_field (Key width) part value has =
           let near = m.1 in
           ap (λ (t : Bool). leb width (length part) && t)
           (bad_found (take width part) m.0 (omega arith) (rw (get_or-take width part m.0 0 near) m.2))
-          ∙ and-false (leb width (length part))),
+          ∙ and_false (leb width (length part))),
     )
 row_field (MarketType markets) part value has =
     Iff.trans (tested (byte_of value ∷ []) (is_market_type markets (byte_of value))) (fails (market_is markets (byte_of value)))
 row_field Status part value has =
     Iff.trans (tested (byte_of value ∷ []) (is_status (byte_of value))) (fails (or_is (eqb_is (byte_of value) 83) (eqb_is (byte_of value) 32)))
-row_field (Price width) part value has = (held_formed price width (heldBy false (value_of false (held_of value))), (λ e. absurd e))
-row_field (Quantity width) part value has = (held_formed quantity width (heldBy false (value_of false (held_of value))), (λ e. absurd e))
-row_field (Turnover width) part value has = (held_formed turnover width (heldBy false (value_of false (held_of value))), (λ e. absurd e))
-row_field (Difference width) part value has = (held_formed difference width (heldBy true (value_of true (held_of value))), (λ e. absurd e))
+row_field (Price width) part value has = (held_formed price width (held_by false (value_of false (held_of value))), (λ e. absurd e))
+row_field (Quantity width) part value has = (held_formed quantity width (held_by false (value_of false (held_of value))), (λ e. absurd e))
+row_field (Turnover width) part value has = (held_formed turnover width (held_by false (value_of false (held_of value))), (λ e. absurd e))
+row_field (Difference width) part value has = (held_formed difference width (held_by true (value_of true (held_of value))), (λ e. absurd e))
 
 -- ---- a row of a form
 
@@ -349,7 +349,7 @@ used_before [] k h = absurd (omega arith)
 used_before (row ∷ rows) zero h = omega arith
 used_before (row ∷ rows) (suc k) h = omega (arith, used_before rows k (omega arith))
 
-module _ (item : Item) (form : Form) (key values : List ℕ) (given : Name → Value) (from : Given item form given values) (key-long : length key ≡ key_bytes_of item) (k : ℕ)
+module _ (item : Item) (form : Form) (key values : List ℕ) (given : Name → Value) (from : Given item form given values) (key_long : length key ≡ key_bytes_of item) (k : ℕ)
     (inside : k < length (rows_of form))
   where
     abbrev row : Row

@@ -16,12 +16,12 @@ use Rattle.forms.specs.declared.rows.Row.{Row}
 use Rattle.forms.specs.declared.rows.Row.TheVariants.{Key, MarketType, Status, Price, Quantity, Turnover, Difference}
 use Rattle.layout.specs.declared.cells.Held.{Held}
 use Rattle.layout.specs.Cells.{minus, sided}
-use Rattle.layout.specs.Plain.{no_room, value_of, held_of as heldBy}
+use Rattle.layout.specs.Plain.{no_room, value_of, held_of as held_by}
 use Rattle.layout.specs.CellsLaws.{MayHold, sided_so}
 use Rattle.layout.specs.PlainLaws.{held_back}
 use Rattle.layout.specs.Says.{row_at, field_at}
 use Rattle.forms.specs.Forms.{rows_of}
-use Rattle.compose.specs.RowTextLaws.{filled_is as text-filled}
+use Rattle.compose.specs.RowTextLaws.{filled_is as text_filled}
 use Rattle.compose.specs.Write.{text, of_written, row_text, held_text, write_refusal}
 use Rattle.forms.specs.Names.{Name}
 use Rattle.head.specs.Fields.{data_of}
@@ -85,11 +85,11 @@ module _ (kind : Kind) (width : ℕ) (field : List ℕ) where
   value_field nothing e =
       let same : field ≡ blank_text width = cc in
       rw same (none_spaces width)
-  value_field (amount given n) e = filled_shortest kind width given n field (text-filled (written_as kind width given n) (sym (sided_text given n) ∙ e))
+  value_field (amount given n) e = filled_shortest kind width given n field (text_filled (written_as kind width given n) (sym (sided_text given n) ∙ e))
 
   module _ (small : kind.most < minus - 2) where
     -- a number that has a text is one that its row may hold
-    may_hold : (signed : Bool) (given : Bool) (n : ℕ) → (Refuses kind width (heldBy signed (value_of signed (sided given n))) → ⊥) → MayHold signed (sided given n)
+    may_hold : (signed : Bool) (given : Bool) (n : ℕ) → (Refuses kind width (held_by signed (value_of signed (sided given n))) → ⊥) → MayHold signed (sided given n)
     may_hold true given n fine = sided_so given n
     may_hold false false n fine = tt
     may_hold false true n fine = go (eqb n 0) refl
@@ -99,16 +99,16 @@ module _ (kind : Kind) (width : ℕ) (field : List ℕ) where
         go false z = absurd (fine (rw z (unsigned kind width small n)))
 
     -- and the one that its value stands for
-    held_there : (signed : Bool) (value : Value) → held_text kind width (heldBy signed (value_of signed (held_of value))) ≡ text field
+    held_there : (signed : Bool) (value : Value) → held_text kind width (held_by signed (value_of signed (held_of value))) ≡ text field
         → held_text kind width (held_of value) ≡ text field
     held_there signed (letter byte) e = e
     held_there signed nothing e = e
     held_there signed (amount given n) e =
-        let fine = unrefused (heldBy signed (value_of signed (sided given n))) e in
+        let fine = unrefused (held_by signed (value_of signed (sided given n))) e in
         let has : value_of signed (sided given n) ≡ no_room → ⊥ = λ no. fine (rw no (far kind width small signed)) in
         rw (held_back signed (sided given n) (may_hold signed given n fine) has) at e
 
-    number_field : (signed : Bool) (value : Value) → held_text kind width (heldBy signed (value_of signed (held_of value))) ≡ text field → FieldOf kind value field
+    number_field : (signed : Bool) (value : Value) → held_text kind width (held_by signed (value_of signed (held_of value))) ≡ text field → FieldOf kind value field
     number_field signed value e = value_field value (held_there signed value e)
 
 row_number : (row : Row) (part : List ℕ) (value : Value) (field : List ℕ) → row_text row part (plain_in row value) ≡ text field → NumberField row value field

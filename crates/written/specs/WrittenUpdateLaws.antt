@@ -159,7 +159,7 @@ module _ (item : Item) (code : Code) (level : Level) (number : ℕ) (key : List 
         (is.0, ap market_in data_is ∙ omega (arith, ap (λ (n : ℕ). get_or rows.bytes n 0) behind, first))
 
     -- an update
-    module _ (tells : TellsOf item form) (key-long : length key ≡ key_bytes_of item) where
+    module _ (tells : TellsOf item form) (key_long : length key ≡ key_bytes_of item) where
       pub key_is : message_key item written ≡ key
       unfolding message_key
       key_is =

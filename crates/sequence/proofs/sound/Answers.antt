@@ -1,7 +1,7 @@
 -- `sequence::sound` meets its contract: the tests are those behind 18, in turn.
 use Rattle.std.proofs.Common.{◌-◌, ◌≡◌, arith, eq-eqb, ne_eqb, le-leb, lt-ltb, le-ltb, length, get_or}
 use borrow.Author.Tests.{lt-leb}
-use Rattle.laws.specs.Tests.{and-false}
+use Rattle.laws.specs.Tests.{and_false}
 use Rattle.sequence.specs.Gaps.{most}
 use Rattle.sequence.specs.Row.{cells, gaps_of, runs_of}
 use Rattle.sequence.specs.RowLaid.{sound_gap_row}
@@ -28,7 +28,7 @@ pub returns-then-row-start : goal.returns-then-row-start
 unfolding sound_gap_row gaps_of
 returns-then-row-start c =
     let row = c.args.row.now in
-    simp (eq-eqb (length row) cells (omega arith), le-leb (get_or row 2 0) most (omega arith), lt-leb (get_or row 0 0 - 1) (get_or row 1 0) (omega arith), and-false)
+    simp (eq-eqb (length row) cells (omega arith), le-leb (get_or row 2 0) most (omega arith), lt-leb (get_or row 0 0 - 1) (get_or row 1 0) (omega arith), and_false)
 
 pub returns : goal.returns
 unfolding sound_gap_row gaps_of

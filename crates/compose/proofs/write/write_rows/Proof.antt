@@ -76,8 +76,8 @@ module _ (c : tie.After-bytes2 invariant-loop decreases-loop) where
   abbrev bytes' : List ℕ
   bytes' = put_mid (at d) (at d + width - at d) (bytes d) part
 
-  is-width : width ≡ width_of (get_or (rows d) (i d) (Key 0))
-  is-width = rw (same_row d) c.before.before.before.before.before.width_of_lem.ensures
+  is_width : width ≡ width_of (get_or (rows d) (i d) (Key 0))
+  is_width = rw (same_row d) c.before.before.before.before.before.width_of_lem.ensures
 
   fits : at d + width ≤ length (bytes d)
   fits = omega (arith, has_room d, (writing d).1)
@@ -186,7 +186,7 @@ loop-again c =
     let d = b.before.before.before.before.before.before.before in
     let is_taken_lem : c.least.result ≡ min (key_used (get_or (rows d) (i d) (Key 0))) (length (key d) - used d) =
     rw (same_row d, ← c.before.key-used.ensures) c.least.ensures in
-    (omega arith, goes_on (rows d) (key d) (values d) (bytes d) (at d) (used d) (i d) (more d) (writing d) (bytes' b) (width b) c.least.result (is-width b) is_taken_lem (fits_text _ (row_put b) c.before.before.enum_told.given.1) (whole b) (in_front b))
+    (omega arith, goes_on (rows d) (key d) (values d) (bytes d) (at d) (used d) (i d) (more d) (writing d) (bytes' b) (width b) c.least.result (is_width b) is_taken_lem (fits_text _ (row_put b) c.before.before.enum_told.given.1) (whole b) (in_front b))
 
 returns-3 : tie.Need-returns-3 invariant-loop decreases-loop
 returns-3 c =

@@ -5,9 +5,9 @@ use Rattle.files.specs.KeysLaws.{ByWord, by_word}
 use Rattle.files.proofs.key.order_of.Goals as goal
 
 word : (a b : List ℕ) (i : ℕ) → ((j : ℕ) → get_or a j 0 < 256) → ((j : ℕ) → get_or b j 0 < 256) → leb (i + 8) (length a) && leb (i + 8) (length b) ≡ true → ByWord a b 8 i
-word a b i byte-a byte-b e =
+word a b i byte_a byte_b e =
     let h = both (leb (i + 8) (length a)) (leb (i + 8) (length b)) e in
-    by_word a b byte-a byte-b 8 i (leb-true (i + 8) (length a) h.0) (leb-true (i + 8) (length b) h.1)
+    by_word a b byte_a byte_b 8 i (leb-true (i + 8) (length a) h.0) (leb-true (i + 8) (length b) h.1)
 
 pub returns-then-x-y : goal.returns-then-x-y
 returns-then-x-y c =

@@ -46,8 +46,8 @@ module _ (c : After-read_row) where
   same_row : get_or (take count rows) i (Key 0) ≡ get_or rows i (Key 0)
   same_row = get_or-take count rows i (Key 0) c.loop-i-test.true
 
-  is-width : width ≡ min (width_of (get_or (take count rows) i (Key 0))) (length bytes - at)
-  is-width = rw (same_row, ← c.width_of.ensures) c.least.ensures
+  is_width : width ≡ min (width_of (get_or (take count rows) i (Key 0))) (length bytes - at)
+  is_width = rw (same_row, ← c.width_of.ensures) c.least.ensures
 
   row_read : read_row (get_or (take count rows) i (Key 0)) (take width (drop at bytes)) ≡ c.read_row.result
   row_read =
@@ -59,7 +59,7 @@ module _ (c : After-read_row) where
       → ReadsRows (take count rows) bytes lent verdict cells
   ended verdict e none =
       stands (take count rows) bytes lent cells at i verdict going
-      (this_row (take count rows) bytes lent cells at i width more is-width going (row_read ∙ e) ∙ ap (behind going.front) (none _))
+      (this_row (take count rows) bytes lent cells at i width more is_width going (row_read ∙ e) ∙ ap (behind going.front) (none _))
 
 pub returns-in-Field : goal.returns-in-Field
 returns-in-Field c = ended (goal.at.returns-in-Field c).After-read_row (Field _) c.in-Field.is (λ rest. refl)
@@ -70,4 +70,4 @@ returns-in-Range c = ended (goal.at.returns-in-Range c).After-read_row (Range _)
 pub loop-i-preserved : goal.loop-i-preserved
 loop-i-preserved c =
     let d = (goal.at.loop-i-preserved c).After-read_row in
-    (omega arith, goes_on (take (count d) (rows d)) (bytes d) (lent d) (cells d) (at d) (i d) (width d) (more d) (is-width d) (going d) (row_read d ∙ c.in-Cell.is))
+    (omega arith, goes_on (take (count d) (rows d)) (bytes d) (lent d) (cells d) (at d) (i d) (width d) (more d) (is_width d) (going d) (row_read d ∙ c.in-Cell.is))

@@ -167,10 +167,54 @@ for fn,(pre,uses,decls) in parsed.items():
             continue
         if 'tie.close' in txt: continue
         helpers.append(convert_paths(txt,inf))
-    cands[fn]=(pre,uses,helpers,ans)
+    # a helper over a context that had a name in the old kit: written as a `let` in each answer that cites it
+    lets=[];keep=[]
+    for h in helpers:
+        m=re.match(r'^(?:abbrev )?(?:pub )?('+TOK+r'+) : \((\w+) : tie\.[^()]*\)\s*→\s*(.*?)\n(unfolding [^\n]*\n)?\1 (\w+)((?: '+TOK+r'+)*) =(.*)$',h,re.S)
+        if m and not m.group(4):
+            n,b0,ty,_,b1,args,body=m.groups()
+            if b0!='c': ty=re.sub(r"(?<![\w.'-])"+b0+r"(?=\.)",'c',ty)
+            if b1!='c': body=re.sub(r"(?<![\w.'-])"+b1+r"(?=[. ])",'c',body)
+            if args.strip(): body=' λ'+args+'. '+body.strip()
+            lets.append((n,ty,body))
+        else: keep.append(h)
+    if lets:
+        al=r'(?:'+'|'.join(sorted({'c'}|{x for a in list(ans.values())+[b for _,_,b in lets] for x in re.findall(r'let (\w+) = c in',a)}))+')'
+        def cites(n,t): return re.search(r"(?<![\w.'-])"+re.escape(n)+r' '+al+r"(?![\w.'-])",t)
+        def plain(n,t):
+            t=re.sub(r"\("+re.escape(n)+r' '+al+r"\)",n,t)
+            return re.sub(r"(?<![\w.'-])"+re.escape(n)+r' '+al+r"(?![\w.'-])",n,t)
+        for g in ans:
+            need=[]; t=ans[g]
+            todo=[n for n,_,_ in lets if cites(n,t)]
+            while todo:
+                n=todo.pop()
+                if n in need: continue
+                need.append(n)
+                ty,bd=[(a,b) for m_,a,b in lets if m_==n][0]
+                todo+=[m_ for m_,_,_ in lets if m_!=n and cites(m_,ty+bd)]
+            if not need: continue
+            pref=''
+            for n,ty,bd in lets:
+                if n in need:
+                    for m_,_,_ in lets: ty=plain(m_,ty); bd=plain(m_,bd)
+                    pref+='    let %s : %s =%s in\n'%(n,' '.join(ty.split()),bd if '\n' in bd else bd)
+            for m_,_,_ in lets: t=plain(m_,t)
+            mm=re.match(r'^(.*?\n'+re.escape(g)+r' c =)(.*)$',t,re.S)
+            if mm: ans[g]=mm.group(1)+'\n'+pref+'    '+mm.group(2).lstrip()
+    helpers=keep
+    for g in ans:
+        ans[g]=re.sub(r'((?:loop_stops|loop_goes_on) [^\n]*) (c\.if-not-[\w-]+\.(?:true|false))',r'\1 (ap not \2)',ans[g])
+        ans[g]=re.sub(r', c\.struct_known(?:-\d+)?\.given|, c\.enum_told[\w-]*(?:\.\w+)*','',ans[g])
+    cands[fn]=(pre,uses+['use Rattle.std.proofs.Common.{ap, not}'],helpers,ans)
     os.makedirs(fdir,exist_ok=True)
     if inv:
-        body='\n\n'.join(inv)
+        ibody='\n\n'.join(inv)
+        hs=[]
+        for h in reversed(helpers):
+            m=re.match(r'^(?:abbrev )?(?:pub )?('+TOK+r'+) :',h)
+            if m and 'tie.' not in h and re.search(r"(?<!"+TOK+")"+re.escape(m.group(1))+r"(?!"+TOK+")",'\n'.join(hs)+ibody): hs.insert(0,h)
+        body='\n\n'.join(hs+inv)
         us=usefilter(uses,body)
         q='.'.join(fn.split('/'))
         ip=os.path.join(fdir,'Invariants.antt')

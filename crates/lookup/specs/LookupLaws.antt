@@ -1,18 +1,14 @@
--- Laws of the lookups: what is found is what is listed, and 6 and 13 are given exactly when it isn't.
-use Rattle.std.specs.Prelude.{ℕ, ◌≤◌, ◌<◌, ◌≡◌, refl, ◌↔◌, List, [], ◌∷◌}
+-- Laws of the lookups: what is found is what is listed.
+use Rattle.std.specs.Prelude.{ℕ, ◌≤◌, ◌<◌, ◌≡◌, refl, ◌↔◌, List}
 use Rattle.std.proofs.Math.Path.{sym, ap}
-use Rattle.std.proofs.Common.{◌∙◌, arith}
+use Rattle.std.proofs.Common.{◌∙◌}
 use Rattle.std.proofs.Math.Option.{Option, none, some}
 use borrow.Author.Tests.{eqb-true, eqb-false}
 use Rattle.std.proofs.Math.Dec.{eqb}
-use Rattle.laws.specs.Choice.{never}
-use Rattle.laws.specs.Refused.{code_no, contract_no}
+use Rattle.laws.specs.Refused.{contract_no}
 use Rattle.files.specs.declared.habit.Habit.{Habit}
-use Rattle.lookup.specs.declared.lookup.Found.{Found}
-use Rattle.lookup.specs.declared.lookup.Found.TheVariants.{At, Nowhere}
 use Rattle.lookup.specs.declared.lookup.Sought.{Sought}
 use Rattle.lookup.specs.Answers.{found_numbers, looked_up, Reports}
-use Rattle.lookup.specs.AnswersLaws.{found_told}
 use Rattle.files.specs.BelowLaws.{first_passes, none_passes}
 use Rattle.files.specs.File.{segments_of, letter_at, count_at, key_by}
 use Rattle.lookup.specs.Halving.{Halved, halved, digits}
@@ -23,22 +19,6 @@ use Rattle.files.specs.KeysLaws.{between, same_key, key_same}
 use Rattle.lookup.specs.Lookup.{segment_of, stands_to, lookup}
 use Rattle.contracts.specs.Sound.{HeaderBy, SoundBy}
 use Rattle.contracts.specs.SoundLaws.{keys_climb}
-
--- a lookup that answers a place exactly where something is listed answers none exactly where nothing is
-module _ (answer : Option ℕ) (Is : ℕ → Type 0) (exact : (i : ℕ) → answer ≡ some i ↔ Is i) where
-  none_exact : answer ≡ none ↔ ((i : ℕ) → Is i → ⊥)
-  none_exact = ((λ e i h. never (sym e ∙ (exact i).1 h)), (λ nothing. go answer refl nothing))
-    where
-      go : (a : Option ℕ) → answer ≡ a → ((i : ℕ) → Is i → ⊥) → answer ≡ none
-      go none e nothing = e
-      go (some i) e nothing = absurd (nothing i ((exact i).0 e))
-
-  -- and then its number is the refusal's
-  refused_exact : (refusal : ℕ) (r : Found) → found_numbers refusal r ≡ looked_up refusal answer
-      → found_numbers refusal r ≡ refusal ∷ [] ↔ ((i : ℕ) → Is i → ⊥)
-  refused_exact refusal (At i) e =
-      ((λ n. let z : ◌≡◌ {A = ℕ} 0 1 = cc in absurd (omega arith)), (λ nothing. absurd (never (sym (none_exact.1 nothing) ∙ sym (found_told refusal (At i) answer e)))))
-  refused_exact refusal Nowhere e = ((λ n. none_exact.0 (sym (found_told refusal Nowhere answer e))), (λ nothing. refl))
 
 module _ (list : List ℕ) where
   -- a segment that is found has the letter, whatever the list is
@@ -59,13 +39,6 @@ module _ (list : List ℕ) where
       go l (some j) e =
           let k = segment_has letter j e in
           e ∙ ap some (letters_apart list h j i k.0 l.0 (k.1 ∙ sym l.1))
-
-  -- 6 is given exactly when no segment has the letter
-  pub letter_refused : {habit : Habit} → HeaderBy habit list → (letter : ℕ) (r : Found) → found_numbers code_no r ≡ looked_up code_no (segment_of list letter)
-      → found_numbers code_no r ≡ code_no ∷ [] ↔ ((i : ℕ) → (i < segments_of list) × (letter_at list i ≡ letter) → ⊥)
-  letter_refused h letter r e =
-      refused_exact (segment_of list letter) (λ i. (i < segments_of list) × (letter_at list i ≡ letter)) (segment_exact h letter)
-      code_no r e
 
 module _ (habit : Habit) (list : List ℕ) (i : ℕ) (key : List ℕ) where
   -- M-102: at most the binary digits of the segment's count
@@ -103,10 +76,3 @@ module _ {habit : Habit} (list : List ℕ) (i : ℕ) (key : List ℕ) where
         (λ a b m n. between key (key_by habit list i a) (key_by habit list i b) (keys_climb list s i a b l m n))
         h.0 (ap (order_of key) h.1 ∙ key_same key)),
   )
-
-  -- 13 is given exactly when the key isn't listed
-  pub key_refused : SoundBy habit list → i < segments_of list → (r : Found) → found_numbers contract_no r ≡ looked_up contract_no (lookup habit list i key).place
-      → found_numbers contract_no r ≡ contract_no ∷ [] ↔ ((k : ℕ) → (k < count_at list i) × (key_by habit list i k ≡ key) → ⊥)
-  key_refused s l r e =
-      refused_exact (lookup habit list i key).place (λ k. (k < count_at list i) × (key_by habit list i k ≡ key)) (key_exact s l)
-      contract_no r e

@@ -105,6 +105,8 @@ def convert_paths(t,inf,place=None):
         b,x=m.group(1),m.group(2); n=norm(x)
         if n in typed and t[m.end():m.end()+6]=='.given': return b+'.type_inv.'+typed[n]
         if n in steps: return b+'.'+steps[n]
+        n2=re.sub(r'-(lem|shown)$','',n)
+        if n2 in steps: return b+'.'+steps[n2]
         return m.group(0)
     bases={'c'}|set(re.findall(r"let (\w+) = c in",t))|set(re.findall(r"module _ \((\w+) :",t))
     for _ in range(3):
@@ -206,6 +208,29 @@ for fn,(pre,uses,decls) in parsed.items():
     for g in ans:
         ans[g]=re.sub(r'((?:loop_stops|loop_goes_on) [^\n]*) (c\.if-not-[\w-]+\.(?:true|false))',r'\1 (ap not \2)',ans[g])
         ans[g]=re.sub(r', c\.struct_known(?:-\d+)?\.given|, c\.enum_told[\w-]*(?:\.\w+)*','',ans[g])
+    # a lemma over the record of what paths share: `After-f`, passed by `goal.at.GOAL c`
+    stepnames={}
+    for p_ in inf['places']:
+        if p_[2][0]: stepnames[norm(p_[2][0])]=p_[2][1]
+    after=set(); takes={}
+    def aft(m):
+        n=norm(m.group(1)); a='After-'+stepnames.get(n,m.group(1)); after.add(a); return a
+    for i,h in enumerate(helpers):
+        h2=re.sub(r'tie\.After-('+TOK+r'+)(?: (?:invariant|decreases)-'+TOK+'+)*',aft,h)
+        m=re.search(r'\((c) : (After-'+TOK+r'+)\)',h2)
+        if m:
+            if h2.startswith('module'):
+                for x in re.findall(r'^ {2,}(?:abbrev )?(?:pub )?('+TOK+r'+)(?: \{[^}]*\})* :',h2,re.M): takes[x]=m.group(2)
+            else: takes[re.match(r'^(?:abbrev )?(?:pub )?('+TOK+'+)',h2).group(1)]=m.group(2)
+        helpers[i]=h2
+    for g,t in ans.items():
+        a=sorted(set(takes[x] for x in takes if re.search(r'(?<!'+TOK+')'+re.escape(x)+r'(?!'+TOK+')',t)))
+        if not a: continue
+        at='(goal.at.%s c).'%g
+        t=re.sub(r'let (\w+) = c in',lambda m:'let %s = %s%s in'%(m.group(1),at,a[0]),t)
+        for x in takes: t=re.sub(r'(?<!'+TOK+r')(?<!\.)'+re.escape(x)+r' c(?!'+TOK+r')(?!\.)',lambda m:'%s %s%s'%(x,at,takes[x]),t)
+        ans[g]=t
+    if after: uses=uses+['use Rattle.%s.proofs.%s.Goals.{%s}'%(crate,'.'.join(fn.split('/')),', '.join(sorted(after)))]
     cands[fn]=(pre,uses+['use Rattle.std.proofs.Common.{ap, not}'],helpers,ans)
     os.makedirs(fdir,exist_ok=True)
     if inv:

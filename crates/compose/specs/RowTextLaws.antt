@@ -3,7 +3,6 @@ use Rattle.std.specs.Prelude.{ℕ, ◌-◌, ◌≤◌, ◌<◌, ◌≡◌, refl,
 use Rattle.std.proofs.Common.{ap, ◌∙◌, arith, leb-true, eqb-true, length-take-le, ⊎_elim}
 use Rattle.std.proofs.Math.Bool.{and-eq-true_iff}
 use Rattle.std.proofs.lemmas.List.{length-replicate}
-use Rattle.laws.specs.Order.{same}
 use Rattle.laws.specs.Tests.{eqb_is, or_is}
 use Rattle.decimal.specs.Denotes.{space}
 use Rattle.print.specs.Write.{Written, filled, refused, blank_text}

@@ -62,8 +62,8 @@ module _ (c : After-put_row) where
   abbrev bytes' : List ℕ
   bytes' = put_mid (at d) (at d + width - at d) (bytes d) part
 
-  is-width : width ≡ width_of (get_or (rows d) (i d) (Key 0))
-  is-width = rw (same_row d) c.width_of.ensures
+  is_width : width ≡ width_of (get_or (rows d) (i d) (Key 0))
+  is_width = rw (same_row d) c.width_of.ensures
 
   fits : at d + width ≤ length (bytes d)
   fits = omega (arith, has_room d, (writing d).1)
@@ -114,4 +114,4 @@ loop-i-preserved c =
     let d = (goal.at.loop-i-preserved c).After-width_of in
     let is_taken_lem : c.least-used.result ≡ min (key_used (get_or (rows d) (i d) (Key 0))) (length (key d) - used d) =
     rw (same_row d, ← c.key_used.ensures) c.least-used.ensures in
-    (omega arith, goes_on (rows d) (key d) (values d) (bytes d) (at d) (used d) (i d) (more d) (writing d) (bytes' b) (width b) c.least-used.result (is-width b) is_taken_lem (fits_text _ (row_put b) c.in-Fits.is) (whole b) (in_front b))
+    (omega arith, goes_on (rows d) (key d) (values d) (bytes d) (at d) (used d) (i d) (more d) (writing d) (bytes' b) (width b) c.least-used.result (is_width b) is_taken_lem (fits_text _ (row_put b) c.in-Fits.is) (whole b) (in_front b))

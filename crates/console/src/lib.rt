@@ -10,7 +10,7 @@ mod runs;
 mod turns;
 
 pub use file::{FILE_ROOM, MOST_LIST, read_contracts};
-pub use input::{Desk, fill};
+pub use input::{Desk, fill, read_all};
 pub use memory::RUN_CELLS;
 pub use numbers::{bytes_at, least, u32s_at, u64s_at};
 pub use output::{copy, flush, put, put_line, put_numbers, put_said, put_with};

@@ -1,15 +1,16 @@
-// Standard output in large pieces: what is said is put on a lent page, of which so many bytes are used and not yet written.
-ghost use Rattle.std.specs.Prelude.{◌≡◌, ◌+◌, ◌≤◌, length};
+// Standard output in large pieces: what is said is put on a lent page, of which so many bytes are used and not yet written. Where
+// writing fails, the answer is that error: a part of what was said may be written, and the page may hold a part of what was put.
+ghost use Rattle.std.specs.Prelude.{◌≡◌, ◌+◌, ◌≤◌, IfOk, OnErr, length};
 ghost use Rattle.std.proofs.lemmas.List.Edits.{sets};
 ghost use Rattle.console.specs.Desk.{Put};
 
-use libc::STDOUT_FILENO;
+use std::io::Result;
 
 // Writes out what is on the page.
-pub fn flush(page: &[u8], used: usize)
+pub fn flush(rt: &impl Print, page: &[u8], used: usize) -> Result<()>
     requires { used ≤ length page.now }
 {
-    io::write_all(STDOUT_FILENO, &page[0..used]);
+    rt.write_all(&page[0..used])
 }
 
 pub fn copy(text: &[u8], page: &mut [u8], to: usize)
@@ -23,67 +24,89 @@ pub fn copy(text: &[u8], page: &mut [u8], to: usize)
     }
 }
 
-// Answers how much of the page is used with the text behind what it has; where the page has no room, both are written out.
-pub fn put(page: &mut [u8], used: usize, text: &[u8]) -> usize
+// Answers how much of the page is used with the text behind what it has; where the page has no room, both are written out. Where
+// that fails, the page is as it was.
+pub fn put(rt: &impl Print, page: &mut [u8], used: usize, text: &[u8]) -> Result<usize>
     requires { used ≤ length page.old }
-    ensures { Put page.old used text.now result page.new }
+    ensures puts { IfOk result (λ answer. Put page.old used text.now answer page.new) }
+    ensures failed { OnErr result (page.new ≡ page.old) }
 {
     if text.len() <= page.len() - used {
         copy(text, page, used);
-        return used + text.len();
+        return Ok(used + text.len());
     }
-    flush(page, used);
-    io::write_all(STDOUT_FILENO, text);
-    0
+    flush(rt, page, used)?;
+    rt.write_all(text)?;
+    Ok(0)
 }
 
-fn put_number(page: &mut [u8], used: usize, number: u64) -> usize
+fn put_number(rt: &impl Print, page: &mut [u8], used: usize, number: u64) -> Result<usize>
     requires { used ≤ length page.old }
-    ensures { result ≤ length page.old }
+    ensures { IfOk result (λ answer. answer ≤ length page.old) }
 {
     let mut digits = [0u8; 20];
     let count = io::decimal(number, &mut digits);
-    put(page, used, &digits[..count])
+    put(rt, page, used, &digits[..count])
 }
 
 // A text, and a number behind it.
-pub fn put_with(page: &mut [u8], used: usize, text: &[u8], number: u64) -> usize
+pub fn put_with(
+    rt: &impl Print,
+    page: &mut [u8],
+    used: usize,
+    text: &[u8],
+    number: u64,
+) -> Result<usize>
     requires { used ≤ length page.old }
-    ensures { result ≤ length page.old }
+    ensures { IfOk result (λ answer. answer ≤ length page.old) }
 {
-    let more = put(page, used, text);
-    put_number(page, more, number)
+    let more = put(rt, page, used, text)?;
+    put_number(rt, page, more, number)
 }
 
 // Each number behind a space.
-pub fn put_numbers(page: &mut [u8], used: usize, numbers: &[u64]) -> usize
+pub fn put_numbers(rt: &impl Print, page: &mut [u8], used: usize, numbers: &[u64]) -> Result<usize>
     requires { used ≤ length page.old }
-    ensures { result ≤ length page.old }
+    ensures { IfOk result (λ answer. answer ≤ length page.old) }
 {
     let mut more = used;
     let mut i = 0;
     while i < numbers.len() {
-        more = put_with(page, more, b" ", numbers[i]);
+        more = put_with(rt, page, more, b" ", numbers[i])?;
         i += 1;
     }
-    more
+    Ok(more)
 }
 
 // A name, what is said of it, and numbers.
-pub fn put_said(page: &mut [u8], used: usize, name: &[u8], said: &[u8], numbers: &[u64]) -> usize
+pub fn put_said(
+    rt: &impl Print,
+    page: &mut [u8],
+    used: usize,
+    name: &[u8],
+    said: &[u8],
+    numbers: &[u64],
+) -> Result<usize>
     requires { used ≤ length page.old }
-    ensures { result ≤ length page.old }
+    ensures { IfOk result (λ answer. answer ≤ length page.old) }
 {
-    let used = put(page, used, name);
-    let used = put(page, used, said);
-    put_numbers(page, used, numbers)
+    let used = put(rt, page, used, name)?;
+    let used = put(rt, page, used, said)?;
+    put_numbers(rt, page, used, numbers)
 }
 
 // The same, as a line.
-pub fn put_line(page: &mut [u8], used: usize, name: &[u8], said: &[u8], numbers: &[u64]) -> usize
+pub fn put_line(
+    rt: &impl Print,
+    page: &mut [u8],
+    used: usize,
+    name: &[u8],
+    said: &[u8],
+    numbers: &[u64],
+) -> Result<usize>
     requires { used ≤ length page.old }
-    ensures { result ≤ length page.old }
+    ensures { IfOk result (λ answer. answer ≤ length page.old) }
 {
-    let used = put_said(page, used, name, said, numbers);
-    put(page, used, b"\n")
+    let used = put_said(rt, page, used, name, said, numbers)?;
+    put(rt, page, used, b"\n")
 }

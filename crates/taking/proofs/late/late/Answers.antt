@@ -1,0 +1,13 @@
+-- `sequence::late::late` meets its contract: a number that a run names is taken, any other is old.
+use Rattle.taking.proofs.Taking.{old_took, is_missed}
+use Rattle.taking.proofs.late.late.Goals as goal
+
+pub fill-requires : goal.fill-requires
+fill-requires c =
+    let a = c.args in
+    is_missed a.row.now a.number c.in-At.i c.requires.0 (rw c.in-At.is at c.find.ensures)
+
+pub returns-in-Nowhere : goal.returns-in-Nowhere
+returns-in-Nowhere c =
+    let a = c.args in
+    old_took a.row.now a.number c.requires.0 c.requires.1 (rw c.in-Nowhere.is at c.find.ensures)

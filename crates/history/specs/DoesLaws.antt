@@ -18,10 +18,10 @@ use Rattle.forms.specs.Forms.{named_rows, rows_of, subject_of}
 use Rattle.layout.specs.Read.{read_rows}
 use Rattle.forms.specs.Rows.{message_length}
 use Rattle.quote.specs.Quote.{of_pair}
-use Rattle.quote.specs.QuoteTrip.{read_kept}
+use Rattle.quote.proofs.QuoteTrip.{read_kept}
 use Rattle.spread.specs.SpreadTrip.{spread_read_kept}
 use Rattle.quote.specs.Shows.{field_named}
-use Rattle.quote.specs.ShowsLaws.{shows_fields}
+use Rattle.quote.proofs.ShowsLaws.{shows_fields}
 use Rattle.spread.specs.ShowsLaws.{shows_spread_fields}
 use Rattle.layout.specs.declared.read.Verdict.TheVariants as verdict
 use Rattle.pairs.specs.Items.{habit_of, file_of}

@@ -1,9 +1,4 @@
 pub mod Quote
 pub mod Inner
 pub mod NumberLaws
-pub mod RowsLaws
-pub mod QuoteLaws
-pub mod QuoteTrip
-pub mod PlacesLaws
 pub mod Shows
-pub mod ShowsLaws

@@ -5,7 +5,7 @@ use Rattle.forms.specs.declared.forms.Form.TheVariants.{Heartbeat, LevelOne, Lev
 use Rattle.forms.specs.Forms.{named_rows}
 use Rattle.quote.specs.declared.quote.Places.{Places}
 use Rattle.quote.specs.Inner.{places_of}
-use Rattle.quote.specs.PlacesLaws.{sides_laid}
+use Rattle.quote.proofs.PlacesLaws.{sides_laid}
 use Rattle.spread.specs.declared.spread.SpreadQuote.{SpreadQuote}
 use Rattle.spread.specs.Shows.{no_spread_order}
 use Rattle.spread.specs.Inner.{spread_quote_at, spread_order_values, put_differences}

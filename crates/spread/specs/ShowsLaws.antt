@@ -10,8 +10,8 @@ use Rattle.layout.specs.Cells.{zeros_behind}
 use Rattle.layout.specs.Read.{read_rows}
 use Rattle.quote.specs.Quote.{quantity_in, of_pair}
 use Rattle.quote.specs.Shows.{held_quantity, field_named, Shows}
-use Rattle.quote.specs.ShowsLaws.{kind_named, Kinded, plain, cell, shown, quantity_shown, order_by, form_kinded}
-use Rattle.quote.specs.RowsLaws.{at_level_lem}
+use Rattle.quote.proofs.ShowsLaws.{kind_named, Kinded, plain, cell, shown, quantity_shown, order_by, form_kinded}
+use Rattle.quote.proofs.RowsLaws.{at_level_lem}
 use Rattle.spread.specs.declared.spread.SpreadOrder.{SpreadOrder}
 use Rattle.spread.specs.Spread.{difference_in, spread_order_in, spread_quote_by, spread_quote_of}
 use Rattle.spread.specs.Shows.{held_difference, no_spread_order, ShowsSpreadFields}

@@ -10,8 +10,8 @@ use Rattle.layout.specs.Cells.{held_in, zeros_behind}
 use Rattle.layout.specs.Plain.{value_of, seen_values}
 use Rattle.quote.specs.Quote.{value_of_quantity, cell_named, of_pair, values_by}
 use Rattle.quote.specs.NumberLaws.{cell_held, quantity_number}
-use Rattle.quote.specs.QuoteLaws.{quantity_kept}
-use Rattle.quote.specs.RowsLaws.{AllHeld, seen_from, seen_from_lem, side_seen, number_seen}
+use Rattle.quote.proofs.QuoteLaws.{quantity_kept}
+use Rattle.quote.proofs.RowsLaws.{AllHeld, seen_from, seen_from_lem, side_seen, number_seen}
 use Rattle.spread.specs.declared.spread.SpreadOrder.{SpreadOrder}
 use Rattle.spread.specs.declared.spread.SpreadQuote.{SpreadQuote}
 use Rattle.spread.specs.Spread.{difference_in, value_of_difference, spread_order_in, spread_quote_by, spread_quote_of, spread_field_value, spread_values_of, seen_spread_order, seen_spread_by}

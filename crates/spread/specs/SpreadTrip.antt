@@ -15,7 +15,7 @@ use Rattle.layout.specs.Read.{read_rows}
 use Rattle.compose.specs.Write.{write_rows}
 use Rattle.quote.specs.Quote.{of_pair, values_by}
 use Rattle.quote.specs.NumberLaws.{value_again}
-use Rattle.quote.specs.QuoteTrip.{read, as_read, read_again, all_held, cells_again}
+use Rattle.quote.proofs.QuoteTrip.{read, as_read, read_again, all_held, cells_again}
 use Rattle.spread.specs.declared.spread.DifferenceCell.{DifferenceCell}
 use Rattle.spread.specs.declared.spread.SpreadQuote.{SpreadQuote}
 use Rattle.spread.specs.Spread.{value_of_difference, spread_quote_of, spread_field_value, spread_values_of, seen_spread}

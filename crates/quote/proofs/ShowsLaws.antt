@@ -29,7 +29,7 @@ use Rattle.layout.proofs.SaysLaws.{row_exactly}
 use Rattle.quote.specs.Quote.{price_in, quantity_in, turnover_in, next, row_named, cell_at, cell_named, order_in, of_pair, quote_by, quote_of}
 use Rattle.quote.specs.Shows.{held_price, held_quantity, held_turnover, no_order, field_named, Shows, ShowsLetter, ShowsFields}
 use Rattle.quote.specs.NumberLaws.{IsNumber, cell_held, price_number, quantity_number, turnover_number, says_held}
-use Rattle.quote.specs.RowsLaws.{at_level_lem}
+use Rattle.quote.proofs.RowsLaws.{at_level_lem}
 
 -- ---- one field
 

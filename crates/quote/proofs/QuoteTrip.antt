@@ -35,8 +35,8 @@ use Rattle.compose.specs.FirstBad.{refusal_written}
 use Rattle.compose.specs.FirstBadLaws.{write_first}
 use Rattle.quote.specs.Quote.{row_named, of_pair, quote_of, field_value, values_by, values_of, seen_quote}
 use Rattle.quote.specs.NumberLaws.{says_held, says_small}
-use Rattle.quote.specs.RowsLaws.{AllHeld}
-use Rattle.quote.specs.QuoteLaws.{cells_back, quote_back}
+use Rattle.quote.proofs.RowsLaws.{AllHeld}
+use Rattle.quote.proofs.QuoteLaws.{cells_back, quote_back}
 
 -- ---- what was read
 

@@ -15,7 +15,7 @@ use Rattle.quote.specs.declared.quote.Quote.{Quote}
 use Rattle.quote.specs.Quote.{price_in, value_of_price, quantity_in, value_of_quantity, turnover_in, value_of_turnover, row_named, cell_named, order_in, of_pair, quote_by, quote_of, field_value, values_by, values_of, seen_order, seen_by, seen_quote}
 use Rattle.quote.specs.Shows.{no_order, most_orders}
 use Rattle.quote.specs.NumberLaws.{cell_held, price_number, quantity_number, turnover_number}
-use Rattle.quote.specs.RowsLaws.{AllHeld, seen_from, seen_from_lem, letter_seen, side_seen, number_seen, all_orders}
+use Rattle.quote.proofs.RowsLaws.{AllHeld, seen_from, seen_from_lem, letter_seen, side_seen, number_seen, all_orders}
 
 -- ---- from cells to the quote, and to its values
 

@@ -13,7 +13,6 @@ use Rattle.forms.specs.Forms.{subject_of}
 use Rattle.head.specs.Fields.{data_at, letter_of, pre_open_letter, segment_letter_of, second_of, length_of, sum_sent, end_byte, sum_in, right_sum, zero_sum}
 use Rattle.layout.specs.declared.read.RowRead.{RowRead}
 use Rattle.layout.specs.declared.read.RowRead.TheVariants as read
-use Rattle.head.specs.declared.head.Fault.TheVariants.{Field, Range}
 
 -- 01, the table's row 5: at least 8 bytes left, a length of at least 11 and not over what is left
 unfoldable pub framed : List ℕ → Bool

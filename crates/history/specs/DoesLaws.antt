@@ -19,10 +19,10 @@ use Rattle.layout.specs.Read.{read_rows}
 use Rattle.forms.specs.Rows.{message_length}
 use Rattle.quote.specs.Quote.{of_pair}
 use Rattle.quote.proofs.QuoteTrip.{read_kept}
-use Rattle.spread.specs.SpreadTrip.{spread_read_kept}
+use Rattle.spread.proofs.SpreadTrip.{spread_read_kept}
 use Rattle.quote.specs.Shows.{field_named}
 use Rattle.quote.proofs.ShowsLaws.{shows_fields}
-use Rattle.spread.specs.ShowsLaws.{shows_spread_fields}
+use Rattle.spread.proofs.ShowsLaws.{shows_spread_fields}
 use Rattle.layout.specs.declared.read.Verdict.TheVariants as verdict
 use Rattle.pairs.specs.Items.{habit_of, file_of}
 use Rattle.message.specs.declared.body.What.{What}

@@ -27,7 +27,7 @@ use Rattle.spread.specs.Spread.{difference_of, plain_zero, seen_spread}
 use Rattle.quote.specs.Shows.{held_price, held_quantity, held_turnover}
 use Rattle.spread.specs.Shows.{held_difference}
 use Rattle.quote.specs.NumberLaws.{price_number, quantity_number, turnover_number, cell_held}
-use Rattle.spread.specs.NumberLaws.{difference_number}
+use Rattle.spread.proofs.NumberLaws.{difference_number}
 use Rattle.layout.specs.Plain.{no_value, minus_value, value_of, held_of, letter_of}
 use Rattle.layout.specs.PlainLaws.{value_back_lem}
 use Rattle.values.specs.Values.{first, value_rows, row_values, quote_in, spread_values, spread_in}

@@ -1,8 +1,3 @@
 pub mod Shows
 pub mod Spread
 pub mod Inner
-pub mod NumberLaws
-pub mod PlacesLaws
-pub mod SpreadLaws
-pub mod SpreadTrip
-pub mod ShowsLaws

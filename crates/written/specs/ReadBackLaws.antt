@@ -18,7 +18,7 @@ use Rattle.layout.specs.Read.{Outcome}
 use Rattle.quote.specs.Quote.{of_pair, quote_of, values_of, seen_quote}
 use Rattle.spread.specs.Spread.{spread_quote_of, spread_values_of, seen_spread}
 use Rattle.quote.proofs.QuoteTrip.{read_kept, written_back}
-use Rattle.spread.specs.SpreadTrip.{spread_read_kept, spread_written_back}
+use Rattle.spread.proofs.SpreadTrip.{spread_read_kept, spread_written_back}
 use Rattle.compose.specs.RoundTrip.{rows_back}
 use Rattle.compose.specs.Write.{write_rows}
 use Rattle.forms.specs.declared.forms.Form.{Form}

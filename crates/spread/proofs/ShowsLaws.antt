@@ -15,7 +15,7 @@ use Rattle.quote.proofs.RowsLaws.{at_level_lem}
 use Rattle.spread.specs.declared.spread.SpreadOrder.{SpreadOrder}
 use Rattle.spread.specs.Spread.{difference_in, spread_order_in, spread_quote_by, spread_quote_of}
 use Rattle.spread.specs.Shows.{held_difference, no_spread_order, ShowsSpreadFields}
-use Rattle.spread.specs.NumberLaws.{difference_number}
+use Rattle.spread.proofs.NumberLaws.{difference_number}
 
 module _ (rows : List NamedRow) (kinded : Kinded (Difference 0) rows) (bytes : List ℕ) (good : (read_rows 0 (plain rows) bytes).verdict ≡ Good) where
   abbrev held : Name → ℕ

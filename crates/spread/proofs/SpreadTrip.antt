@@ -19,8 +19,8 @@ use Rattle.quote.proofs.QuoteTrip.{read, as_read, read_again, all_held, cells_ag
 use Rattle.spread.specs.declared.spread.DifferenceCell.{DifferenceCell}
 use Rattle.spread.specs.declared.spread.SpreadQuote.{SpreadQuote}
 use Rattle.spread.specs.Spread.{value_of_difference, spread_quote_of, spread_field_value, spread_values_of, seen_spread}
-use Rattle.spread.specs.NumberLaws.{difference_number}
-use Rattle.spread.specs.SpreadLaws.{spread_cells_back, spread_back}
+use Rattle.spread.proofs.NumberLaws.{difference_number}
+use Rattle.spread.proofs.SpreadLaws.{spread_cells_back, spread_back}
 
 -- ---- what was read
 

@@ -16,7 +16,7 @@ use Rattle.spread.specs.declared.spread.SpreadOrder.{SpreadOrder}
 use Rattle.spread.specs.declared.spread.SpreadQuote.{SpreadQuote}
 use Rattle.spread.specs.Spread.{difference_in, value_of_difference, spread_order_in, spread_quote_by, spread_quote_of, spread_field_value, spread_values_of, seen_spread_order, seen_spread_by}
 use Rattle.spread.specs.Shows.{no_spread_order}
-use Rattle.spread.specs.NumberLaws.{difference_number}
+use Rattle.spread.proofs.NumberLaws.{difference_number}
 
 -- ---- from cells to the quote, and to its values
 

@@ -49,6 +49,7 @@ module _ (item : Item) (level : Level) where
       go false t e later = let f = later e in (f.0, Memᴰ.tail f.1, f.2)
 
   among_found : (forms : List Form) (form : Form) → Memᴰ form forms → is_asked (subject_of form) item level ≡ true → in_table (written_by forms item level) ≡ true
+  among_found [] form m t = elim m [ ]
   among_found (first ∷ rest) form (Memᴰ.head same) t = let own : is_asked (subject_of first) item level ≡ true = rw same at t in rw own
   among_found (first ∷ rest) form (Memᴰ.tail m) t = go (is_asked (subject_of first) item level) (among_found rest form m t)
     where
@@ -68,6 +69,7 @@ pub record HasLine (lines : List Line) (letter second : ℕ) (form : Form) : Typ
 
 -- a form of a code stands with it in the table
 line_there : (lines : List Line) (letter second : ℕ) (form : Form) → Memᴰ form (meaning_in lines letter second).forms → HasLine lines letter second form
+line_there [] letter second form m = elim m [ ]
 line_there (line ∷ lines) letter second form m = go (eqb letter line.letter && eqb second line.second) refl m (line_there lines letter second form)
   where
     go : (t : Bool) → eqb letter line.letter && eqb second line.second ≡ t → Memᴰ form (cond t line.meaning (meaning_in lines letter second)).forms
@@ -85,6 +87,7 @@ line_there (line ∷ lines) letter second form m = go (eqb letter line.letter &&
 
 -- what two words say alike of every line, they say alike of one
 alike : {A B : Type 0} (f g : A → B) (lines : List A) {line : A} → map f lines ≡ map g lines → Memᴰ line lines → f line ≡ g line
+alike f g [] e m = elim m [ ]
 alike f g (first ∷ lines) e (Memᴰ.head same) = let here : f first ≡ g first = cc in rw same here
 alike f g (first ∷ lines) e (Memᴰ.tail m) = alike f g lines (cc) m
 

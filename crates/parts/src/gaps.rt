@@ -1,54 +1,56 @@
 // A gap row that numbers come to.
 use crate::say::{say, say_bool, say_runs, say_with};
 use sequence::{CELLS, GapsListed, WriteOff};
+use std::io::Result;
 use taking::Taken;
 
-pub fn say_start(row: &mut [u32; CELLS], number: u32) {
+pub fn say_start(rt: &impl Print, row: &mut [u32; CELLS], number: u32) -> Result<()> {
     sequence::start(row, number);
-    say(b"started");
+    say(rt, b"started")
 }
 
-fn say_answer(answer: Taken) {
+fn say_answer(rt: &impl Print, answer: Taken) -> Result<()> {
     match answer {
-        Taken::Taken => say(b"taken"),
-        Taken::Old => say(b"old"),
-        Taken::Full => say(b"full"),
+        Taken::Taken => say(rt, b"taken"),
+        Taken::Old => say(rt, b"old"),
+        Taken::Full => say(rt, b"full"),
     }
 }
 
-pub fn say_taken(row: &mut [u32; CELLS], number: u32) {
+pub fn say_taken(rt: &impl Print, row: &mut [u32; CELLS], number: u32) -> Result<()> {
     if sequence::sound(row) {
-        say_answer(taking::take(row, number));
+        say_answer(rt, taking::take(row, number))?;
     }
+    Ok(())
 }
 
-pub fn say_off(row: &mut [u32; CELLS]) {
+pub fn say_off(rt: &impl Print, row: &mut [u32; CELLS]) -> Result<()> {
     match sequence::write_off(row) {
         WriteOff::Removed(first, last) => {
-            say_with(b"off ", first as u64);
-            say_with(b" ", last as u64);
+            say_with(rt, b"off ", first as u64)?;
+            say_with(rt, b" ", last as u64)
         }
-        WriteOff::NoGap => say(b"no gap"),
+        WriteOff::NoGap => say(rt, b"no gap"),
     }
 }
 
-fn say_found(highest: u32, runs: usize, cells: &[u32]) {
-    say_with(b" highest ", highest as u64);
-    say_with(b" runs ", runs as u64);
-    say_runs(console::runs_in(cells, runs));
+fn say_found(rt: &impl Print, highest: u32, runs: usize, cells: &[u32]) -> Result<()> {
+    say_with(rt, b" highest ", highest as u64)?;
+    say_with(rt, b" runs ", runs as u64)?;
+    say_runs(rt, console::runs_in(cells, runs))
 }
 
-fn say_listed(row: &[u32; CELLS], cells: &mut [u32]) {
+fn say_listed(rt: &impl Print, row: &[u32; CELLS], cells: &mut [u32]) -> Result<()> {
     match sequence::list(row, cells) {
-        GapsListed::Runs(highest, runs) => say_found(highest, runs, cells),
-        GapsListed::Short(_) => say(b" short"),
+        GapsListed::Runs(highest, runs) => say_found(rt, highest, runs, cells),
+        GapsListed::Short(_) => say(rt, b" short"),
     }
 }
 
-pub fn say_gaps(row: &[u32; CELLS]) {
+pub fn say_gaps(rt: &impl Print, row: &[u32; CELLS]) -> Result<()> {
     let mut cells = [0u32; console::RUN_CELLS];
-    say_bool(b"sound ", sequence::sound(row));
-    say_listed(row, &mut cells);
+    say_bool(rt, b"sound ", sequence::sound(row))?;
+    say_listed(rt, row, &mut cells)
 }
 
 fn row_back(asked: &[u8]) -> [u32; CELLS] {
@@ -58,7 +60,7 @@ fn row_back(asked: &[u8]) -> [u32; CELLS] {
 }
 
 // A row handed back, big endian.
-pub fn say_back(asked: &[u8]) {
+pub fn say_back(rt: &impl Print, asked: &[u8]) -> Result<()> {
     let row = row_back(asked);
-    say_bool(b"sound ", sequence::sound(&row));
+    say_bool(rt, b"sound ", sequence::sound(&row))
 }

@@ -3,60 +3,63 @@ use crate::leaves;
 use crate::say::{say, say_bool, say_with};
 use files::{CONTRACTS, Habit};
 use lookup::Found;
+use std::io::Result;
 
-pub fn say_list(list: &[u8]) {
-    say_bool(b"sound ", contracts::sound(list, CONTRACTS));
-    say_bool(b" header ", contracts::header_sound(list, CONTRACTS));
+pub fn say_list(rt: &impl Print, list: &[u8]) -> Result<()> {
+    say_bool(rt, b"sound ", contracts::sound(list, CONTRACTS))?;
+    say_bool(rt, b" header ", contracts::header_sound(list, CONTRACTS))
 }
 
-fn say_beside(list: &[u8], spreads: &[u8]) {
-    say_bool(b"sound ", pairs::spreads_sound(list, spreads));
-    say_bool(b" header ", pairs::spread_header_sound(list, spreads));
+fn say_beside(rt: &impl Print, list: &[u8], spreads: &[u8]) -> Result<()> {
+    say_bool(rt, b"sound ", pairs::spreads_sound(list, spreads))?;
+    say_bool(rt, b" header ", pairs::spread_header_sound(list, spreads))
 }
 
 // What is asked has two bytes for the size of the contract list, that list and the spread list.
-pub fn say_spreads(asked: &[u8]) {
+pub fn say_spreads(rt: &impl Print, asked: &[u8]) -> Result<()> {
     if asked.len() < 2 {
-        return;
+        return Ok(());
     }
     let size = wire::u16_at(asked, 0) as usize;
     let lists = &asked[2..];
     if size <= lists.len() {
-        say_beside(&lists[0..size], &lists[size..]);
+        say_beside(rt, &lists[0..size], &lists[size..])?;
     }
+    Ok(())
 }
 
 // The size of the spread list without pairs, and its sum.
-pub fn say_no_spreads(list: &[u8], room: &mut [u8]) {
+pub fn say_no_spreads(rt: &impl Print, list: &[u8], room: &mut [u8]) -> Result<()> {
     let size = pairs::no_spreads_size(list);
     pairs::put_no_spreads(list, room);
     if size <= room.len() {
-        say_with(b"size ", size as u64);
-        say(b" sum ");
-        leaves::say_sum(&room[0..size]);
+        say_with(rt, b"size ", size as u64)?;
+        say(rt, b" sum ")?;
+        leaves::say_sum(rt, &room[0..size])?;
     }
+    Ok(())
 }
 
-fn say_place(list: &[u8], habit: Habit, segment: usize, key: &[u8]) {
+fn say_place(rt: &impl Print, list: &[u8], habit: Habit, segment: usize, key: &[u8]) -> Result<()> {
     let sought = lookup::place_of(list, habit, segment, key);
     let found = sought.found;
-    say_with(b"segment ", segment as u64);
+    say_with(rt, b"segment ", segment as u64)?;
     match found {
-        Found::Nowhere => say(b" nowhere"),
-        Found::At(place) => say_with(b" place ", place as u64),
-    }
-    say_with(b" compared ", sought.compared as u64);
+        Found::Nowhere => say(rt, b" nowhere"),
+        Found::At(place) => say_with(rt, b" place ", place as u64),
+    }?;
+    say_with(rt, b" compared ", sought.compared as u64)
 }
 
 // What is asked has a letter, a key of the habit's size and the list.
-pub fn say_key(asked: &[u8], habit: Habit) {
+pub fn say_key(rt: &impl Print, asked: &[u8], habit: Habit) -> Result<()> {
     let end = 1 + habit.key as usize;
     if asked.len() < end {
-        return;
+        return Ok(());
     }
     let list = &asked[end..];
     match lookup::segment_of(list, asked[0]) {
-        Found::Nowhere => say(b"nowhere"),
-        Found::At(segment) => say_place(list, habit, segment, &asked[1..end]),
+        Found::Nowhere => say(rt, b"nowhere"),
+        Found::At(segment) => say_place(rt, list, habit, segment, &asked[1..end]),
     }
 }

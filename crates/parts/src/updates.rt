@@ -1,6 +1,7 @@
 // The rows of an update, read and written.
 use crate::say::{say, say_bytes, say_numbers, say_with};
 use layout::{Form, MOST_ROWS, Verdict};
+use std::io::Result;
 
 // The form of a contract that a byte stands for: of D's and of F's one of each level.
 fn form_of(byte: u8) -> Form {
@@ -12,24 +13,24 @@ fn form_of(byte: u8) -> Form {
     }
 }
 
-fn say_cells(cells: &[u64; MOST_ROWS], count: usize) {
-    say_numbers(cells, count);
+fn say_cells(rt: &impl Print, cells: &[u64; MOST_ROWS], count: usize) -> Result<()> {
+    say_numbers(rt, cells, count)
 }
 
 // A form's byte, and the data.
-pub fn say_read(asked: &[u8]) {
+pub fn say_read(rt: &impl Print, asked: &[u8]) -> Result<()> {
     let form = form_of(wire::u8_at(asked, 0));
     if asked.len() == 0 {
-        return;
+        return Ok(());
     }
     let mut cells = [0u64; MOST_ROWS];
     match layout::read_update(form, &asked[1..], &mut cells) {
         Verdict::Good => {
-            say(b"good");
-            say_cells(&cells, rows::count_of(form));
+            say(rt, b"good")?;
+            say_cells(rt, &cells, rows::count_of(form))
         }
-        Verdict::Field(row) => say_with(b"field ", row as u64),
-        Verdict::Range(row) => say_with(b"range ", row as u64),
+        Verdict::Field(row) => say_with(rt, b"field ", row as u64),
+        Verdict::Range(row) => say_with(rt, b"range ", row as u64),
     }
 }
 
@@ -39,23 +40,30 @@ fn values_in(asked: &[u8]) -> [u64; MOST_ROWS] {
     values
 }
 
-fn say_data(form: Form, key: &[u8], values: &[u64; MOST_ROWS], data: &mut [u8]) {
+fn say_data(
+    rt: &impl Print,
+    form: Form,
+    key: &[u8],
+    values: &[u64; MOST_ROWS],
+    data: &mut [u8],
+) -> Result<()> {
     match compose::write_update(form, key, values, data) {
-        Verdict::Good => say_bytes(data),
-        Verdict::Field(row) => say_with(b"field ", row as u64),
-        Verdict::Range(row) => say_with(b"range ", row as u64),
+        Verdict::Good => say_bytes(rt, data),
+        Verdict::Field(row) => say_with(rt, b"field ", row as u64),
+        Verdict::Range(row) => say_with(rt, b"range ", row as u64),
     }
 }
 
 // A form's byte, a key of 39 bytes, and a value of eight for each row.
-pub fn say_written(asked: &[u8], data: &mut [u8]) {
+pub fn say_written(rt: &impl Print, asked: &[u8], data: &mut [u8]) -> Result<()> {
     if asked.len() < 40 {
-        return;
+        return Ok(());
     }
     let form = form_of(asked[0]);
     let size = layout::data_length(form);
     let values = values_in(asked);
     if size <= data.len() {
-        say_data(form, &asked[1..40], &values, &mut data[0..size]);
+        say_data(rt, form, &asked[1..40], &values, &mut data[0..size])?;
     }
+    Ok(())
 }

@@ -11,9 +11,12 @@ root=os.getcwd(); cdir=os.path.join(root,'crates',crate)
 def sh(*a,**k): return subprocess.run(a,capture_output=True,text=True,**k)
 files=[f for f in sh('git','ls-tree','-r','--name-only',base,'crates/'+crate+'/proofs').stdout.split('\n') if f.endswith('/Proof.antt')]
 olds={}
+# theorems that stand in proofs/ now
+MOVED=[('Rattle.head.specs.FaultsLaws.{head_told}','Rattle.head.proofs.FaultsTold.{head_told}')]
 for f in files:
     fn=f[len('crates/'+crate+'/proofs/'):-len('/Proof.antt')]
     olds[fn]=sh('git','show',base+':'+f).stdout
+    for a,b in MOVED: olds[fn]=olds[fn].replace(a,b)
 TOK=r"[^\s(){}\[\].,;:«»\"`]"
 def parse(text):
     uses=[];decls=[];cur=None;pre=[]
@@ -206,6 +209,7 @@ for fn,(pre,uses,decls) in parsed.items():
             if mm: ans[g]=mm.group(1)+'\n'+pref+'    '+mm.group(2).lstrip()
     helpers=keep
     for g in ans:
+        ans[g]=re.sub(r'(?:not-true|not-false) _ ((?:\w+)\.if-not-[\w-]+\.(?:true|false))',r'\1',ans[g])
         ans[g]=re.sub(r'((?:loop_stops|loop_goes_on) [^\n]*) (c\.if-not-[\w-]+\.(?:true|false))',r'\1 (ap not \2)',ans[g])
         ans[g]=re.sub(r', c\.struct_known(?:-\d+)?\.given|, c\.enum_told[\w-]*(?:\.\w+)*','',ans[g])
     # a lemma over the record of what paths share: `After-f`, passed by `goal.at.GOAL c`

@@ -25,7 +25,7 @@ use Rattle.head.specs.declared.head.Head.{Head}
 use Rattle.head.specs.declared.head.Head.TheVariants as head
 use Rattle.head.specs.Fields.{form_in, length_of, number_of, data_of}
 use Rattle.head.specs.Faults.{head_numbers}
-use Rattle.head.specs.FaultsLaws.{head_told}
+use Rattle.head.proofs.FaultsTold.{head_told}
 use Rattle.head.specs.Head.{form_rules}
 use Rattle.head.specs.Rules.{head_of, first_fault}
 use Rattle.message.specs.NumbersLaws.{what_told}

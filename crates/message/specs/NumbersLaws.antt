@@ -6,7 +6,8 @@ use Rattle.forms.specs.AnswersLaws.{told_with_form}
 use Rattle.message.specs.declared.body.What.{What}
 use Rattle.message.specs.declared.body.What.TheVariants.{Heartbeat, PassedOver, Update, Bad}
 use Rattle.message.specs.Numbers.{what_numbers, form_told, TellsWhat}
-use Rattle.head.specs.FaultsLaws.{fault_of, good, fault_back}
+use Rattle.head.proofs.FaultsTold.{fault_back}
+use Rattle.head.specs.FaultsLaws.{fault_of, good}
 
 abbrev what_by : Option Form → List ℕ → What
 what_by (some form) ns = Update (get_or ns 1 0) form (get_or ns 3 0)

@@ -48,6 +48,7 @@ def modern(uses):
         m=re.match(r'^use ([^\s{]+?)\.\{([^}]*)\}$',u)
         if not m or re.match(r'^Rattle\.(?!std\.)',m.group(1)): rest.append(u); continue
         names=[x.strip() for x in m.group(2).split(',')]
+        if m.group(1)=='mathlib.Core.Option': rest.append('use Rattle.std.proofs.Math.Option.{%s}'%', '.join(names)); continue
         common+=[n for n in names if n in COMMON and n not in common]
         left=[n for n in names if n not in COMMON]
         if left: rest.append('use %s.{%s}'%(m.group(1),', '.join(left)))

@@ -1,5 +1,5 @@
 -- Laws of an update's values.
-use Rattle.std.specs.Prelude.{ℕ, zero, suc, ◌+◌, ◌-◌, ◌≤◌, ◌≡◌, refl, Bool, true, false, List, [], ◌∷◌, ◌++◌, map, length, take, drop, replicate}
+use Rattle.std.specs.Prelude.{ℕ, zero, suc, ◌+◌, ◌≤◌, ◌≡◌, refl, Bool, true, false, List, [], ◌∷◌, ◌++◌, map, length, take, drop, replicate}
 use Rattle.std.proofs.Common.{ap, ◌∙◌, append_assoc, arith, length-drop, length-take-le}
 use Rattle.std.proofs.Math.Option.{Option, none, some}
 use Rattle.std.proofs.lemmas.List.Edits.{sets, sets-eq}
@@ -217,11 +217,11 @@ spread_held level values long =
 pub values_back_lem : (number session : ℕ) (level : Level) (quote : Quote) (behind : List ℕ)
     → quote_in level (number ∷ session ∷ row_values level quote ++ behind) ≡ quote_of (record_form Contract level) (values_of (record_form Contract level) quote)
 unfolding quote_in row_values value_rows named_rows quote_of values_of
-values_back_lem number session One quote behind = refl
-values_back_lem number session Two quote behind = refl
+values_back_lem number session One quote _ = refl
+values_back_lem number session Two quote _ = refl
 
 pub spread_values_back : (number : ℕ) (level : Level) (quote : SpreadQuote) (behind : List ℕ)
     → spread_in level (number ∷ spread_values level quote ++ behind) ≡ spread_quote_of (record_form Pair level) (spread_values_of (record_form Pair level) quote)
 unfolding spread_in spread_values value_rows named_rows spread_quote_of spread_values_of
-spread_values_back number One quote behind = refl
-spread_values_back number Two quote behind = refl
+spread_values_back number One quote _ = refl
+spread_values_back number Two quote _ = refl

@@ -20,12 +20,12 @@ use Rattle.message.specs.declared.body.What.TheVariants as what
 use Rattle.head.specs.declared.head.Fault.{Fault}
 use Rattle.head.specs.declared.head.Head.{Head}
 use Rattle.head.specs.declared.head.Head.TheVariants.{Good, Bad}
-use Rattle.message.specs.GoodLaws.{rules_exact}
+use Rattle.message.proofs.GoodLaws.{rules_exact}
 use Rattle.head.specs.Fields.{length_of}
 use Rattle.message.specs.Reads.{message_of}
 use Rattle.message.specs.Numbers.{verdict_of}
 use Rattle.message.specs.Order.{message_rules}
-use Rattle.message.specs.OrderLaws.{message_first}
+use Rattle.message.proofs.OrderLaws.{message_first}
 use Rattle.head.specs.Rules.{first_fault}
 use Rattle.state.specs.declared.refusal.Refusal.{Refusal}
 use Rattle.state.specs.declared.refusal.Refusal.TheVariants.{Count, Gaps as GapsOver}

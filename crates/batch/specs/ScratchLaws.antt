@@ -17,7 +17,7 @@ use Rattle.head.specs.Fields.{segment_letter_of}
 use Rattle.head.specs.HeadLaws.{listed_exact}
 use Rattle.message.specs.Reads.{message_of}
 use Rattle.message.specs.Numbers.{verdict_of}
-use Rattle.message.specs.GoodLaws.{good_exact}
+use Rattle.message.proofs.GoodLaws.{good_exact}
 use Rattle.sequence.specs.Promises.{Began}
 use Rattle.sequence.specs.PromisesLaws.{began_row}
 use Rattle.sequence.specs.RowLaid.{sound_gap_row}

@@ -27,7 +27,7 @@ use Rattle.forms.specs.declared.forms.Named.{Named}
 use Rattle.forms.specs.declared.forms.Named.TheVariants as is
 use Rattle.forms.specs.Forms.{subject_of}
 use Rattle.head.specs.declared.head.Head.TheVariants.{Good}
-use Rattle.message.specs.CallerLaws.{contents_good}
+use Rattle.message.proofs.CallerLaws.{contents_good}
 use Rattle.head.specs.Fields.{form_in, number_of, data_of}
 use Rattle.message.specs.Message.{message_place, market_in, updates, acting_for, acting, acts_as, of_named, of_place, of_subject}
 use Rattle.message.specs.Reads.{rows_read, of_verdict, contents_by, message_of}

@@ -29,10 +29,10 @@ use Rattle.message.specs.declared.body.What.{What}
 use Rattle.message.specs.declared.body.What.TheVariants as what
 use Rattle.head.specs.declared.head.Fault.{Fault}
 use Rattle.head.specs.declared.head.Head.TheVariants.{Good}
-use Rattle.message.specs.CallerLaws.{update_told}
+use Rattle.message.proofs.CallerLaws.{update_told}
 use Rattle.head.specs.Fields.{form_in, segment_letter_of, data_of}
 use Rattle.head.specs.HeadLaws.{stamped_by}
-use Rattle.message.specs.GoodLaws.{good_exact}
+use Rattle.message.proofs.GoodLaws.{good_exact}
 use Rattle.message.specs.Message.{Message, message_key}
 use Rattle.message.specs.Reads.{message_of}
 use Rattle.message.specs.MessageLaws.{key_in}

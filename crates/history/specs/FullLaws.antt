@@ -20,9 +20,9 @@ use Rattle.head.specs.declared.head.Fault.TheVariants as fault
 use Rattle.head.specs.declared.head.Head.TheVariants.{Good}
 use Rattle.head.specs.Fields.{length_of}
 use Rattle.message.specs.Good.{GoodMessage}
-use Rattle.message.specs.GoodLaws.{rules_exact, good_exact}
+use Rattle.message.proofs.GoodLaws.{rules_exact, good_exact}
 use Rattle.message.specs.Order.{message_rules}
-use Rattle.message.specs.OrderLaws.{fault_exact}
+use Rattle.message.proofs.OrderLaws.{fault_exact}
 use Rattle.message.specs.Message.{Message}
 use Rattle.message.specs.Reads.{message_of}
 use Rattle.message.specs.Numbers.{verdict_of}

@@ -22,7 +22,7 @@ use Rattle.message.specs.Message.{Message}
 use Rattle.message.specs.Reads.{message_of}
 use Rattle.message.specs.Numbers.{verdict_of}
 use Rattle.message.specs.Order.{message_rules}
-use Rattle.message.specs.OrderLaws.{fault_exact}
+use Rattle.message.proofs.OrderLaws.{fault_exact}
 use Rattle.state.specs.declared.refusal.Refusal.{Refusal}
 use Rattle.state.specs.declared.refusal.Refusal.TheVariants.{Count, Gaps}
 use Rattle.state.specs.declared.answers.Judged.{Judged}

@@ -9,5 +9,4 @@ pub mod MessageLaws
 pub mod Numbers
 pub mod NumbersLaws
 pub mod Order
-pub mod OrderLaws
 pub mod Reads

@@ -17,7 +17,7 @@ use Rattle.message.specs.declared.body.What.{What}
 use Rattle.message.specs.declared.body.What.TheVariants as what
 use Rattle.head.specs.declared.head.Fault.{Fault}
 use Rattle.head.specs.declared.head.Head.TheVariants.{Good}
-use Rattle.message.specs.CallerLaws.{all_there}
+use Rattle.message.proofs.CallerLaws.{all_there}
 use Rattle.head.specs.Fields.{length_of}
 use Rattle.message.specs.Compared.{message_compared, so_far}
 use Rattle.message.specs.Message.{Message}

@@ -9,7 +9,7 @@ use Rattle.head.specs.declared.head.Head.TheVariants.{Good}
 use Rattle.head.specs.Fields.{length_of}
 use Rattle.message.specs.declared.body.What.{What}
 use Rattle.message.specs.declared.body.What.TheVariants as what
-use Rattle.message.specs.CallerLaws.{all_there}
+use Rattle.message.proofs.CallerLaws.{all_there}
 use Rattle.message.specs.Compared.{key_sought}
 use Rattle.message.specs.ComparedLaws.{sought_inside, message_long}
 use Rattle.message.specs.MessageLaws.{length_is}

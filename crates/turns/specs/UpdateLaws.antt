@@ -19,7 +19,8 @@ use Rattle.forms.specs.Forms.{named_rows, rows_of, subject_of}
 use Rattle.forms.specs.Rows.{message_length}
 use Rattle.forms.specs.Sizes.{most_rows}
 use Rattle.message.specs.declared.body.What.TheVariants as what
-use Rattle.message.specs.CallerLaws.{IsUpdate, update_told, head_good, cells_stored}
+use Rattle.message.specs.CallerLaws.{IsUpdate}
+use Rattle.message.proofs.CallerLaws.{update_told, head_good, cells_stored}
 use Rattle.message.specs.Message.{Message, TellsOf, message_key, place_in}
 use Rattle.pairs.specs.Items.{file_of, habit_of}
 use Rattle.pairs.specs.ItemsLaws.{habit_few, header_of, segments_of_lem}

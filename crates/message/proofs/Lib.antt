@@ -1,0 +1,3 @@
+pub mod CallerLaws
+pub mod GoodLaws
+pub mod OrderLaws

@@ -1,0 +1,13 @@
+-- By the form that the code and the level choose of a pair.
+use Rattle.std.proofs.Common.{sym, ◌∙◌}
+use Rattle.forms.specs.declared.forms.Item.TheVariants.{Pair}
+use Rattle.forms.specs.AnswersLaws.{chosen_told}
+use Rattle.spread.specs.Spread.{spread_values_of}
+use Rattle.writer.specs.WriterLaws.{none_chosen}
+use Rattle.writer.proofs.writing.write_spread.Goals as goal
+
+pub returns-in-NoForm : goal.returns-in-NoForm
+returns-in-NoForm c =
+    let a = c.args in
+    none_chosen Pair a.code a.level a.number a.pair.now (λ form. spread_values_of form a.quote) a.out.now
+    (sym (chosen_told c.written_form.ensures) ∙ c.in-NoForm.is)

@@ -4,83 +4,108 @@
 mod message;
 mod record;
 
-ghost use Rattle.std.specs.Prelude.{◌≤◌, length};
+ghost use Rattle.std.specs.Prelude.{◌≤◌, IfOk, length};
 
 use console::{put, put_line};
 pub use message::put_written;
 pub use record::put_recorded;
 use state::{Judged, Listed, Refusal, Started, WrittenOff};
+use std::io::Result;
 
 // `NAME refused`, the number, message, row and cells wanted.
-pub(crate) fn put_refused(page: &mut [u8], used: usize, name: &[u8], refusal: Refusal) -> usize
+pub(crate) fn put_refused(
+    rt: &impl Print,
+    page: &mut [u8],
+    used: usize,
+    name: &[u8],
+    refusal: Refusal,
+) -> Result<usize>
     requires { used ≤ length page.old }
-    ensures { result ≤ length page.old }
+    ensures { IfOk result (λ answer. answer ≤ length page.old) }
 {
     let numbers = state::refusal_numbers(refusal);
-    put_line(page, used, name, b" refused", &numbers)
+    put_line(rt, page, used, name, b" refused", &numbers)
 }
 
-pub fn put_started(page: &mut [u8], used: usize, answer: Started) -> usize
+pub fn put_started(rt: &impl Print, page: &mut [u8], used: usize, answer: Started) -> Result<usize>
     requires { used ≤ length page.old }
-    ensures { result ≤ length page.old }
+    ensures { IfOk result (λ answer. answer ≤ length page.old) }
 {
     match answer {
-        Started::Started => put(page, used, b"start ok\n"),
-        Started::Refused(refusal) => put_refused(page, used, b"start", refusal),
+        Started::Started => put(rt, page, used, b"start ok\n"),
+        Started::Refused(refusal) => put_refused(rt, page, used, b"start", refusal),
     }
 }
 
 // `NAME ok` or `NAME refused`, the numbers of either, and how many keys were compared.
-pub fn put_judged(page: &mut [u8], used: usize, name: &[u8], answer: Judged) -> usize
+pub fn put_judged(
+    rt: &impl Print,
+    page: &mut [u8],
+    used: usize,
+    name: &[u8],
+    answer: Judged,
+) -> Result<usize>
     requires { used ≤ length page.old }
-    ensures { result ≤ length page.old }
+    ensures { IfOk result (λ answer. answer ≤ length page.old) }
 {
     match answer {
         Judged::Accepted(taken, old, heartbeats, compared) => {
             let numbers = [taken as u64, old as u64, heartbeats as u64, compared as u64];
-            put_line(page, used, name, b" ok", &numbers)
+            put_line(rt, page, used, name, b" ok", &numbers)
         }
         Judged::Refused(refusal, compared) => {
             let of = state::refusal_numbers(refusal);
             let numbers = [of[0], of[1], of[2], of[3], compared as u64];
-            put_line(page, used, name, b" refused", &numbers)
+            put_line(rt, page, used, name, b" refused", &numbers)
         }
     }
 }
 
 // Highest and each run, two cells.
-fn put_runs(page: &mut [u8], used: usize, highest: u32, runs: &[u32]) -> usize
+fn put_runs(
+    rt: &impl Print,
+    page: &mut [u8],
+    used: usize,
+    highest: u32,
+    runs: &[u32],
+) -> Result<usize>
     requires { used ≤ length page.old }
-    ensures { result ≤ length page.old }
+    ensures { IfOk result (λ answer. answer ≤ length page.old) }
 {
     let numbers = [highest as u64, (runs.len() / 2) as u64];
-    let used = console::put_said(page, used, b"gaps", b" ok", &numbers);
-    let used = console::put_runs(page, used, b" ", runs, b"");
-    put(page, used, b"\n")
+    let used = console::put_said(rt, page, used, b"gaps", b" ok", &numbers)?;
+    let used = console::put_runs(rt, page, used, b" ", runs, b"")?;
+    put(rt, page, used, b"\n")
 }
 
 // The cells are those that the runs were put in.
-pub fn put_listed(page: &mut [u8], used: usize, answer: Listed, cells: &[u32]) -> usize
+pub fn put_listed(
+    rt: &impl Print,
+    page: &mut [u8],
+    used: usize,
+    answer: Listed,
+    cells: &[u32],
+) -> Result<usize>
     requires { used ≤ length page.old }
-    ensures { result ≤ length page.old }
+    ensures { IfOk result (λ answer. answer ≤ length page.old) }
 {
     match answer {
         Listed::Runs(highest, runs) => {
-            put_runs(page, used, highest, console::runs_in(cells, runs))
+            put_runs(rt, page, used, highest, console::runs_in(cells, runs))
         }
-        Listed::Refused(refusal) => put_refused(page, used, b"gaps", refusal),
+        Listed::Refused(refusal) => put_refused(rt, page, used, b"gaps", refusal),
     }
 }
 
-pub fn put_off(page: &mut [u8], used: usize, answer: WrittenOff) -> usize
+pub fn put_off(rt: &impl Print, page: &mut [u8], used: usize, answer: WrittenOff) -> Result<usize>
     requires { used ≤ length page.old }
-    ensures { result ≤ length page.old }
+    ensures { IfOk result (λ answer. answer ≤ length page.old) }
 {
     match answer {
         WrittenOff::Removed(first, last) => {
             let numbers = [first as u64, last as u64];
-            put_line(page, used, b"off", b" ok", &numbers)
+            put_line(rt, page, used, b"off", b" ok", &numbers)
         }
-        WrittenOff::Refused(refusal) => put_refused(page, used, b"off", refusal),
+        WrittenOff::Refused(refusal) => put_refused(rt, page, used, b"off", refusal),
     }
 }

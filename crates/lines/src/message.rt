@@ -1,53 +1,60 @@
 // A message that was written, in hexadecimal.
-ghost use Rattle.std.specs.Prelude.{◌≤◌, length};
+ghost use Rattle.std.specs.Prelude.{◌≤◌, IfOk, length};
 
 use crate::put_refused;
 use console::put;
 use state::Written;
+use std::io::Result;
 
 // Two digits, the high one first.
-fn put_hex(page: &mut [u8], used: usize, byte: u8) -> usize
+fn put_hex(rt: &impl Print, page: &mut [u8], used: usize, byte: u8) -> Result<usize>
     requires { used ≤ length page.old }
-    ensures { result ≤ length page.old }
+    ensures { IfOk result (λ answer. answer ≤ length page.old) }
 {
     let mut digits = [0u8; 16];
     let count = io::hex(byte as u64, 2, &mut digits);
-    put(page, used, &digits[0..count])
+    put(rt, page, used, &digits[0..count])
 }
 
-fn put_bytes(page: &mut [u8], used: usize, bytes: &[u8]) -> usize
+fn put_bytes(rt: &impl Print, page: &mut [u8], used: usize, bytes: &[u8]) -> Result<usize>
     requires { used ≤ length page.old }
-    ensures { result ≤ length page.old }
+    ensures { IfOk result (λ answer. answer ≤ length page.old) }
 {
     let mut more = used;
     let mut i = 0;
     while i < bytes.len() {
-        more = put_hex(page, more, bytes[i]);
+        more = put_hex(rt, page, more, bytes[i])?;
         i += 1;
     }
-    more
+    Ok(more)
 }
 
-fn put_message(page: &mut [u8], used: usize, message: &[u8]) -> usize
+fn put_message(rt: &impl Print, page: &mut [u8], used: usize, message: &[u8]) -> Result<usize>
     requires { used ≤ length page.old }
-    ensures { result ≤ length page.old }
+    ensures { IfOk result (λ answer. answer ≤ length page.old) }
 {
-    let used = console::put_with(page, used, b"write ok ", message.len() as u64);
-    let used = put(page, used, b" ");
-    let used = put_bytes(page, used, message);
-    put(page, used, b"\n")
+    let used = console::put_with(rt, page, used, b"write ok ", message.len() as u64)?;
+    let used = put(rt, page, used, b" ")?;
+    let used = put_bytes(rt, page, used, message)?;
+    put(rt, page, used, b"\n")
 }
 
 // The message lies at the front of what was lent.
-pub fn put_written(page: &mut [u8], used: usize, answer: Written, out: &[u8]) -> usize
+pub fn put_written(
+    rt: &impl Print,
+    page: &mut [u8],
+    used: usize,
+    answer: Written,
+    out: &[u8],
+) -> Result<usize>
     requires { used ≤ length page.old }
-    ensures { result ≤ length page.old }
+    ensures { IfOk result (λ answer. answer ≤ length page.old) }
 {
     match answer {
         Written::Message(size) => {
             let end = console::least(size, out.len());
-            put_message(page, used, &out[0..end])
+            put_message(rt, page, used, &out[0..end])
         }
-        Written::Refused(refusal) => put_refused(page, used, b"write", refusal),
+        Written::Refused(refusal) => put_refused(rt, page, used, b"write", refusal),
     }
 }

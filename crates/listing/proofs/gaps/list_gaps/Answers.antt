@@ -1,0 +1,31 @@
+-- The row of the letter's segment is copied, and its runs are listed.
+use Rattle.pairs.specs.Lists.{lists}
+use Rattle.state.specs.Memory.{lends}
+use Rattle.state.specs.StateLaws.{AskedFor, asked_segment, asked_refused, row_there}
+use Rattle.listing.specs.ListActsLaws.{list_refused, listed_runs, listed_short}
+use Rattle.listing.proofs.gaps.list_gaps.Goals as goal
+
+pub row_of-row-requires : goal.row_of-row-requires
+row_of-row-requires c =
+    let a = c.args in
+    let asked : AskedFor (lends (lists a.list.now a.spreads.now) a.rows.now a.records.now) a.letter c.in-Segment.segment = asked_segment _ _ _ (rw c.in-Segment.is at c.check_segment.ensures) in
+    row_there (lends (lists a.list.now a.spreads.now) a.rows.now a.records.now) a.letter asked.0 _ asked.1
+
+pub returns-in-Runs : goal.returns-in-Runs
+returns-in-Runs c =
+    let a = c.args in
+    let asked : AskedFor (lends (lists a.list.now a.spreads.now) a.rows.now a.records.now) a.letter c.in-Segment.segment = asked_segment _ _ _ (rw c.in-Segment.is at c.check_segment.ensures) in
+    listed_runs (lends (lists a.list.now a.spreads.now) a.rows.now a.records.now) a.letter asked.0 _ asked.1 a.cells.now _ _ _
+    (rw (c.row_of-row.ensures, c.in-Runs.is) at c.list.ensures)
+
+pub returns-in-Short : goal.returns-in-Short
+returns-in-Short c =
+    let a = c.args in
+    let asked : AskedFor (lends (lists a.list.now a.spreads.now) a.rows.now a.records.now) a.letter c.in-Segment.segment = asked_segment _ _ _ (rw c.in-Segment.is at c.check_segment.ensures) in
+    listed_short (lends (lists a.list.now a.spreads.now) a.rows.now a.records.now) a.letter asked.0 _ asked.1 a.cells.now _ _
+    (rw (c.row_of-row.ensures, c.in-Short.is) at c.list.ensures)
+
+pub returns-in-Refused : goal.returns-in-Refused
+returns-in-Refused c =
+    let a = c.args in
+    list_refused (lends (lists a.list.now a.spreads.now) a.rows.now a.records.now) a.letter _ (asked_refused (lends (lists a.list.now a.spreads.now) a.rows.now a.records.now) a.letter _ (rw c.in-Refused.is at c.check_segment.ensures)) a.cells.now

@@ -1,7 +1,8 @@
 // The gaps, listed and written off.
-ghost use Rattle.std.specs.Prelude.{◌≤◌, length};
+ghost use Rattle.std.specs.Prelude.{◌≤◌, IfOk, length};
 
 use quotebox::Listed;
+use std::io::Result;
 
 // Of the cells for runs as many are lent as the command tells.
 fn list_into(
@@ -18,6 +19,7 @@ fn list_into(
 }
 
 pub fn list(
+    rt: &impl Print,
     bytes: &[u8],
     list: &[u8],
     spreads: &[u8],
@@ -25,16 +27,17 @@ pub fn list(
     records: &[u64],
     page: &mut [u8],
     used: usize,
-) -> usize
+) -> Result<usize>
     requires { used ≤ length page.old }
-    ensures { result ≤ length page.old }
+    ensures { IfOk result (λ answer. answer ≤ length page.old) }
 {
     let mut cells = [0u32; console::RUN_CELLS];
     let listed = list_into(bytes, list, spreads, rows, records, &mut cells);
-    lines::put_listed(page, used, listed, &cells)
+    lines::put_listed(rt, page, used, listed, &cells)
 }
 
 pub fn off(
+    rt: &impl Print,
     bytes: &[u8],
     list: &[u8],
     spreads: &[u8],
@@ -42,10 +45,10 @@ pub fn off(
     records: &[u64],
     page: &mut [u8],
     used: usize,
-) -> usize
+) -> Result<usize>
     requires { used ≤ length page.old }
-    ensures { result ≤ length page.old }
+    ensures { IfOk result (λ answer. answer ≤ length page.old) }
 {
     let off = quotebox::write_off(list, spreads, rows, records, wire::u8_at(bytes, 1));
-    lines::put_off(page, used, off)
+    lines::put_off(rt, page, used, off)
 }

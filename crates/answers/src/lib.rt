@@ -2,15 +2,17 @@
 #![tactic(auto)]
 
 mod gaps;
-mod pairs;
 mod quotes;
+mod spreads;
 
-ghost use Rattle.std.specs.Prelude.{◌≤◌, length};
+ghost use Rattle.std.specs.Prelude.{◌≤◌, IfOk, length};
 
 use layout::Item;
-pub use pairs::beside;
+pub use spreads::beside;
+use std::io::Result;
 
 fn start(
+    rt: &impl Print,
     bytes: &[u8],
     list: &[u8],
     spreads: &[u8],
@@ -18,17 +20,18 @@ fn start(
     records: &mut [u64],
     page: &mut [u8],
     used: usize,
-) -> usize
+) -> Result<usize>
     requires { used ≤ length page.old }
-    ensures { result ≤ length page.old }
+    ensures { IfOk result (λ answer. answer ≤ length page.old) }
 {
     let starts = commands::starts_in(bytes);
     let count = wire::u8_at(bytes, 1) as usize;
     let started = quotebox::start(list, spreads, &starts[0..count], rows, records);
-    lines::put_started(page, used, started)
+    lines::put_started(rt, page, used, started)
 }
 
 fn judge(
+    rt: &impl Print,
     bytes: &[u8],
     list: &[u8],
     spreads: &[u8],
@@ -36,15 +39,16 @@ fn judge(
     records: &[u64],
     page: &mut [u8],
     used: usize,
-) -> usize
+) -> Result<usize>
     requires { used ≤ length page.old }
-    ensures { result ≤ length page.old }
+    ensures { IfOk result (λ answer. answer ≤ length page.old) }
 {
     let judged = quotebox::judge(list, spreads, rows, records, commands::batch_in(bytes));
-    lines::put_judged(page, used, b"judge", judged)
+    lines::put_judged(rt, page, used, b"judge", judged)
 }
 
 fn take(
+    rt: &impl Print,
     bytes: &[u8],
     list: &[u8],
     spreads: &[u8],
@@ -52,16 +56,17 @@ fn take(
     records: &mut [u64],
     page: &mut [u8],
     used: usize,
-) -> usize
+) -> Result<usize>
     requires { used ≤ length page.old }
-    ensures { result ≤ length page.old }
+    ensures { IfOk result (λ answer. answer ≤ length page.old) }
 {
     let judged = quotebox::take(list, spreads, rows, records, commands::batch_in(bytes));
-    lines::put_judged(page, used, b"take", judged)
+    lines::put_judged(rt, page, used, b"take", judged)
 }
 
 // A command that makes no call has no line.
 pub fn answer(
+    rt: &impl Print,
     bytes: &[u8],
     list: &[u8],
     spreads: &[u8],
@@ -69,20 +74,20 @@ pub fn answer(
     records: &mut [u64],
     page: &mut [u8],
     used: usize,
-) -> usize
+) -> Result<usize>
     requires { used ≤ length page.old }
-    ensures { result ≤ length page.old }
+    ensures { IfOk result (λ answer. answer ≤ length page.old) }
 {
     match wire::u8_at(bytes, 0) {
-        b'S' => start(bytes, list, spreads, rows, records, page, used),
-        b'J' => judge(bytes, list, spreads, rows, records, page, used),
-        b'K' => take(bytes, list, spreads, rows, records, page, used),
-        b'G' => gaps::list(bytes, list, spreads, rows, records, page, used),
-        b'O' => gaps::off(bytes, list, spreads, rows, records, page, used),
-        b'R' => quotes::read(bytes, list, spreads, rows, records, page, used),
-        b'Q' => pairs::read(bytes, list, spreads, rows, records, page, used),
-        b'W' => quotes::write(bytes, Item::Contract, page, used),
-        b'V' => quotes::write(bytes, Item::Pair, page, used),
-        _ => used,
+        b'S' => start(rt, bytes, list, spreads, rows, records, page, used),
+        b'J' => judge(rt, bytes, list, spreads, rows, records, page, used),
+        b'K' => take(rt, bytes, list, spreads, rows, records, page, used),
+        b'G' => gaps::list(rt, bytes, list, spreads, rows, records, page, used),
+        b'O' => gaps::off(rt, bytes, list, spreads, rows, records, page, used),
+        b'R' => quotes::read(rt, bytes, list, spreads, rows, records, page, used),
+        b'Q' => spreads::read(rt, bytes, list, spreads, rows, records, page, used),
+        b'W' => quotes::write(rt, bytes, Item::Contract, page, used),
+        b'V' => quotes::write(rt, bytes, Item::Pair, page, used),
+        _ => Ok(used),
     }
 }

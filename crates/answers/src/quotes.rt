@@ -1,9 +1,10 @@
 // Records of contracts read, and messages written.
-ghost use Rattle.std.specs.Prelude.{◌≤◌, length};
+ghost use Rattle.std.specs.Prelude.{◌≤◌, IfOk, length};
 
-use crate::pairs;
+use crate::spreads;
 use layout::{Item, Level};
 use quotebox::{Reading, Written};
+use std::io::Result;
 
 // The most room for a message.
 const MOST_ROOM: usize = 1024;
@@ -15,16 +16,23 @@ fn values_of(level: Level, reading: Reading) -> [u64; values::MOST] {
     shown
 }
 
-fn put_reading(page: &mut [u8], used: usize, level: Level, reading: Reading) -> usize
+fn put_reading(
+    rt: &impl Print,
+    page: &mut [u8],
+    used: usize,
+    level: Level,
+    reading: Reading,
+) -> Result<usize>
     requires { used ≤ length page.old }
-    ensures { result ≤ length page.old }
+    ensures { IfOk result (λ answer. answer ≤ length page.old) }
 {
     let answer = reading.answer;
     let shown = values_of(level, reading);
-    lines::put_recorded(page, used, Item::Contract, level, answer, &shown)
+    lines::put_recorded(rt, page, used, Item::Contract, level, answer, &shown)
 }
 
 pub fn read(
+    rt: &impl Print,
     bytes: &[u8],
     list: &[u8],
     spreads: &[u8],
@@ -32,15 +40,15 @@ pub fn read(
     records: &[u64],
     page: &mut [u8],
     used: usize,
-) -> usize
+) -> Result<usize>
     requires { used ≤ length page.old }
-    ensures { result ≤ length page.old }
+    ensures { IfOk result (λ answer. answer ≤ length page.old) }
 {
     let letter = wire::u8_at(bytes, 1);
     let level = commands::level_of(wire::u8_at(bytes, 2));
     let key = commands::key_at(bytes, commands::READ_KEY);
     let reading = quotebox::read_record(list, spreads, rows, records, letter, &key, level);
-    put_reading(page, used, level, reading)
+    put_reading(rt, page, used, level, reading)
 }
 
 fn write_quote(bytes: &[u8], out: &mut [u8]) -> Written {
@@ -57,15 +65,21 @@ fn write_into(bytes: &[u8], item: Item, out: &mut [u8]) -> Written {
     let room = console::least(commands::room_in(bytes, item), out.len());
     match item {
         Item::Contract => write_quote(bytes, &mut out[0..room]),
-        Item::Pair => pairs::write(bytes, &mut out[0..room]),
+        Item::Pair => spreads::write(bytes, &mut out[0..room]),
     }
 }
 
-pub fn write(bytes: &[u8], item: Item, page: &mut [u8], used: usize) -> usize
+pub fn write(
+    rt: &impl Print,
+    bytes: &[u8],
+    item: Item,
+    page: &mut [u8],
+    used: usize,
+) -> Result<usize>
     requires { used ≤ length page.old }
-    ensures { result ≤ length page.old }
+    ensures { IfOk result (λ answer. answer ≤ length page.old) }
 {
     let mut out = [0u8; MOST_ROOM];
     let written = write_into(bytes, item, &mut out);
-    lines::put_written(page, used, written, &out)
+    lines::put_written(rt, page, used, written, &out)
 }

@@ -3,12 +3,13 @@
 
 mod keep;
 
-ghost use Rattle.std.specs.Prelude.{◌≤◌, length};
+ghost use Rattle.std.specs.Prelude.{◌≤◌, IfOk, length};
 ghost use Rattle.console.specs.Desk.{Fits};
 ghost use Rattle.calls.specs.Lent.{Within};
 
 use console::Desk;
 use keep::Lent;
+use std::io::Result;
 
 // A gap row for each of as many segments as a list may have.
 const ROW_CELLS: usize = contracts::MOST_SEGMENTS * sequence::CELLS;
@@ -33,6 +34,7 @@ struct Obeyed {
 
 // A call with what is lent.
 fn call(
+    rt: &impl Print,
     bytes: &[u8],
     list: &[u8],
     spreads: &[u8],
@@ -41,15 +43,16 @@ fn call(
     lent: Lent,
     page: &mut [u8],
     used: usize,
-) -> usize
+) -> Result<usize>
     requires { (used ≤ length page.old) × Within lent list.now spreads.now rows.old records.old }
-    ensures { result ≤ length page.old }
+    ensures { IfOk result (λ answer. answer ≤ length page.old) }
 {
     let size = lent.list;
     let spreads_size = lent.spreads;
     let row_cells = lent.rows;
     let record_cells = lent.records;
     answers::answer(
+        rt,
         bytes,
         &list[0..size],
         &spreads[0..spreads_size],
@@ -62,6 +65,7 @@ fn call(
 
 // A command: what it tells is kept, and its call is made with what is then lent.
 fn obey(
+    rt: &impl Print,
     bytes: &[u8],
     list: &mut [u8],
     spreads: &mut [u8],
@@ -70,17 +74,18 @@ fn obey(
     lent: Lent,
     page: &mut [u8],
     used: usize,
-) -> Obeyed
+) -> Result<Obeyed>
     requires { (used ≤ length page.old) × Within lent list.old spreads.old rows.old records.old }
-    ensures { (result.used ≤ length page.new) × Within result.lent list.new spreads.new rows.new records.new }
+    ensures { IfOk result (λ answer. (answer.used ≤ length page.new) × Within answer.lent list.new spreads.new rows.new records.new) }
 {
     let lent = keep::keep(bytes, list, spreads, rows, records, lent);
-    let used = call(bytes, list, spreads, rows, records, lent, page, used);
-    Obeyed { lent, used }
+    let used = call(rt, bytes, list, spreads, rows, records, lent, page, used)?;
+    Ok(Obeyed { lent, used })
 }
 
 // The next command.
-fn take_turn(
+fn take_turn<R: Input + Print>(
+    rt: &R,
     list: &mut [u8],
     spreads: &mut [u8],
     rows: &mut [u32],
@@ -88,24 +93,25 @@ fn take_turn(
     room: &mut [u8],
     page: &mut [u8],
     turn: Turn,
-) -> Turn
+) -> Result<Turn>
     requires { Fits turn.desk room.old page.old × Within turn.lent list.old spreads.old rows.old records.old }
-    ensures { Fits result.desk room.new page.new × Within result.lent list.new spreads.new rows.new records.new }
+    ensures { IfOk result (λ answer. Fits answer.desk room.new page.new × Within answer.lent list.new spreads.new rows.new records.new) }
 {
     let desk = turn.desk;
     let lent = turn.lent;
-    let command = commands::next(room, page, desk);
+    let command = commands::next(rt, room, page, desk)?;
     let desk = command.desk;
     if command.length == 0 {
-        return Turn {
+        return Ok(Turn {
             desk,
             lent,
             more: false,
-        };
+        });
     }
     let at = desk.at;
     let stop = at + command.length;
     let obeyed = obey(
+        rt,
         &room[at..stop],
         list,
         spreads,
@@ -114,9 +120,9 @@ fn take_turn(
         lent,
         page,
         desk.used,
-    );
+    )?;
     let lent = obeyed.lent;
-    Turn {
+    Ok(Turn {
         desk: Desk {
             at: stop,
             end: desk.end,
@@ -124,11 +130,12 @@ fn take_turn(
         },
         lent,
         more: true,
-    }
+    })
 }
 
 // Every command, and how much of the page is used.
-fn run(
+fn run<R: Input + Print>(
+    rt: &R,
     list: &mut [u8],
     spreads: &mut [u8],
     rows: &mut [u32],
@@ -136,9 +143,9 @@ fn run(
     lent: Lent,
     room: &mut [u8],
     page: &mut [u8],
-) -> usize
+) -> Result<usize>
     requires { Within lent list.old spreads.old rows.old records.old }
-    ensures { result ≤ length page.old }
+    ensures { IfOk result (λ answer. answer ≤ length page.old) }
 {
     let mut turn = Turn {
         desk: Desk {
@@ -151,16 +158,16 @@ fn run(
     };
     let mut turns: u64 = 0;
     while turns < console::LAST_TURN {
-        turn = take_turn(list, spreads, rows, records, room, page, turn);
+        turn = take_turn(rt, list, spreads, rows, records, room, page, turn)?;
         turns = console::turn_after(turns, turn.more);
     }
-    turn.desk.used
+    Ok(turn.desk.used)
 }
 
 // With all of the memory lent at first.
-fn bench(list: &mut [u8], size: usize, page: &mut [u8]) -> usize
+fn bench<R: Input + Print>(rt: &R, list: &mut [u8], size: usize, page: &mut [u8]) -> Result<usize>
     requires { size ≤ length list.old }
-    ensures { result ≤ length page.old }
+    ensures { IfOk result (λ answer. answer ≤ length page.old) }
 {
     let mut spreads = [0u8; console::MOST_LIST];
     let mut rows = [0u32; ROW_CELLS];
@@ -172,6 +179,7 @@ fn bench(list: &mut [u8], size: usize, page: &mut [u8]) -> usize
         records: RECORD_CELLS,
     };
     let used = run(
+        rt,
         list,
         &mut spreads,
         &mut rows,
@@ -179,8 +187,8 @@ fn bench(list: &mut [u8], size: usize, page: &mut [u8]) -> usize
         lent,
         &mut io::large_buffer(),
         page,
-    );
-    console::put(page, used, b"end\n")
+    )?;
+    console::put(rt, page, used, b"end\n")
 }
 
 // A file that is too long counts as an empty list.
@@ -193,10 +201,10 @@ fn listed(size: usize) -> usize
     size
 }
 
-fn main() {
+fn main(rt: HostRuntime) -> Result<()> {
     let mut page = io::buffer();
     let mut file = [0u8; console::FILE_ROOM];
-    let size = console::read_contracts(&mut file);
-    let used = bench(&mut file, listed(size), &mut page);
-    console::flush(&page, used);
+    let size = console::read_contracts(&rt, &mut file);
+    let used = bench(&rt, &mut file, listed(size), &mut page)?;
+    console::flush(&rt, &page, used)
 }

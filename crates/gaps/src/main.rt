@@ -3,11 +3,12 @@
 
 mod take;
 
-ghost use Rattle.std.specs.Prelude.{◌≤◌, length};
+ghost use Rattle.std.specs.Prelude.{◌≤◌, IfOk, length};
 
 use lent::RUNS;
 use quotebox::{Refusal, Started, Written};
 use runs::Run;
+use std::io::Result;
 
 // The most keys of a segment.
 const MOST_KEYS: usize = 64;
@@ -35,22 +36,31 @@ fn too_many(list: &[u8]) -> bool {
 }
 
 // Every batch of standard input, and then the list.
-fn run(
+fn run<R: Input + Print>(
+    rt: &R,
     list: &[u8],
     spreads: &[u8],
     rows: [Run; RUNS],
     records: &mut [u64],
     page: &mut [u8],
-) -> usize
-    ensures { result ≤ length page.old }
+) -> Result<usize>
+    ensures { IfOk result (λ answer. answer ≤ length page.old) }
 {
-    let taken = take::take_all(list, spreads, rows, records, &mut io::large_buffer(), page);
+    let taken = take::take_all(
+        rt,
+        list,
+        spreads,
+        rows,
+        records,
+        &mut io::large_buffer(),
+        page,
+    )?;
     let rows = taken.rows;
-    report::put_list(list, spreads, rows, records, page, taken.used)
+    report::put_list(rt, list, spreads, rows, records, page, taken.used)
 }
 
-fn start(list: &[u8], spreads: &[u8], page: &mut [u8]) -> usize
-    ensures { result ≤ length page.old }
+fn start<R: Input + Print>(rt: &R, list: &[u8], spreads: &[u8], page: &mut [u8]) -> Result<usize>
+    ensures { IfOk result (λ answer. answer ≤ length page.old) }
 {
     let blanks = [Run { first: 0, last: 0 }; RUNS];
     let mut records = [0u64; RECORD_CELLS];
@@ -59,43 +69,43 @@ fn start(list: &[u8], spreads: &[u8], page: &mut [u8]) -> usize
     let answer = began.answer;
     let rows = began.rows;
     match answer {
-        Started::Refused(refusal) => report::put_refused_start(page, refusal),
+        Started::Refused(refusal) => report::put_refused_start(rt, page, refusal),
         Started::Started => {
             if too_many(list) {
-                return report::put_refused_start(page, NO_ROOM);
+                return report::put_refused_start(rt, page, NO_ROOM);
             }
-            run(list, spreads, rows, &mut records, page)
+            run(rt, list, spreads, rows, &mut records, page)
         }
     }
 }
 
 // Starts with no spreads: a list that has no spread list without pairs is refused for the same reason at start.
-fn start_without_spreads(list: &[u8], page: &mut [u8]) -> usize
-    ensures { result ≤ length page.old }
+fn start_without_spreads<R: Input + Print>(rt: &R, list: &[u8], page: &mut [u8]) -> Result<usize>
+    ensures { IfOk result (λ answer. answer ≤ length page.old) }
 {
     let mut spreads = [0u8; NO_SPREADS];
     match quotebox::no_spreads(list, &mut spreads) {
-        Written::Refused(refusal) => report::put_refused_start(page, refusal),
+        Written::Refused(refusal) => report::put_refused_start(rt, page, refusal),
         Written::Message(size) => {
             let end = console::least(size, NO_SPREADS);
-            start(list, &spreads[0..end], page)
+            start(rt, list, &spreads[0..end], page)
         }
     }
 }
 
-fn answer(file: &[u8], page: &mut [u8]) -> usize
-    ensures { result ≤ length page.old }
+fn answer<R: Input + Print>(rt: &R, file: &[u8], page: &mut [u8]) -> Result<usize>
+    ensures { IfOk result (λ answer. answer ≤ length page.old) }
 {
     if console::MOST_LIST < file.len() {
-        return report::put_refused_start(page, NO_ROOM);
+        return report::put_refused_start(rt, page, NO_ROOM);
     }
-    start_without_spreads(file, page)
+    start_without_spreads(rt, file, page)
 }
 
-fn main() {
+fn main(rt: HostRuntime) -> Result<()> {
     let mut page = io::buffer();
     let mut file = [0u8; console::FILE_ROOM];
-    let size = console::read_contracts(&mut file);
-    let used = answer(&file[0..size], &mut page);
-    console::flush(&page, used);
+    let size = console::read_contracts(&rt, &mut file);
+    let used = answer(&rt, &file[0..size], &mut page)?;
+    console::flush(&rt, &page, used)
 }

@@ -1,10 +1,11 @@
 // Taking the batches of standard input, one after the other.
-ghost use Rattle.std.specs.Prelude.{◌+◌, ◌≤◌, length};
+ghost use Rattle.std.specs.Prelude.{◌+◌, ◌≤◌, IfOk, length};
 ghost use Rattle.console.specs.Desk.{Fits};
 
 use console::Desk;
 use quotebox::Judged;
 use runs::Run;
+use std::io::Result;
 
 // The bytes of flag, data size and number of messages.
 const FRONT: usize = 5;
@@ -57,6 +58,7 @@ fn end_of(room: &[u8], at: usize, end: usize) -> usize
 
 // Batch number `batch`, and its line where it is refused.
 fn take_batch(
+    rt: &impl Print,
     list: &[u8],
     spreads: &[u8],
     rows: [Run; lent::RUNS],
@@ -65,36 +67,37 @@ fn take_batch(
     batch: u64,
     page: &mut [u8],
     used: usize,
-) -> Taken
+) -> Result<Taken>
     requires { used ≤ length page.old }
-    ensures { result.used ≤ length page.old }
+    ensures { IfOk result (λ answer. answer.used ≤ length page.old) }
 {
     let took = lent::take(list, spreads, rows, records, bytes);
     let answer = took.answer;
     let rows = took.rows;
     match answer {
-        Judged::Accepted(_, _, _, _) => Taken { rows, used },
-        Judged::Refused(refusal, _) => Taken {
+        Judged::Accepted(_, _, _, _) => Ok(Taken { rows, used }),
+        Judged::Refused(refusal, _) => Ok(Taken {
             rows,
-            used: report::put_refused(page, used, batch, refusal),
-        },
+            used: report::put_refused(rt, page, used, batch, refusal)?,
+        }),
     }
 }
 
 // The next batch, as far as the input has it.
-fn next(room: &mut [u8], page: &[u8], desk: Desk) -> Desk
+fn next<R: Input + Print>(rt: &R, room: &mut [u8], page: &[u8], desk: Desk) -> Result<Desk>
     requires { Fits desk room.old page.now }
-    ensures { Fits result room.new page.now }
+    ensures { IfOk result (λ answer. Fits answer room.new page.now) }
 {
-    let front = console::fill(room, page, desk, FRONT);
+    let front = console::fill(rt, room, page, desk, FRONT)?;
     let at = front.at;
     let end = front.end;
     let length = length_of(&room[at..end]);
-    console::fill(room, page, front, length)
+    console::fill(rt, room, page, front, length)
 }
 
 // One batch. The reading ends with the input, and behind a batch that is cut short or says it is too long.
-fn take_next(
+fn take_next<R: Input + Print>(
+    rt: &R,
     list: &[u8],
     spreads: &[u8],
     records: &mut [u64],
@@ -102,28 +105,28 @@ fn take_next(
     batch: u64,
     page: &mut [u8],
     turn: Turn,
-) -> Turn
+) -> Result<Turn>
     requires { Fits turn.desk room.old page.old }
-    ensures { Fits result.desk room.new page.new }
+    ensures { IfOk result (λ answer. Fits answer.desk room.new page.new) }
 {
     let rows = turn.rows;
     let desk = turn.desk;
-    let desk = next(room, page, desk);
+    let desk = next(rt, room, page, desk)?;
     let at = desk.at;
     let end = desk.end;
     let used = desk.used;
     if at == end {
-        return Turn {
+        return Ok(Turn {
             desk,
             more: false,
             rows,
-        };
+        });
     }
     let stop = end_of(room, at, end);
     let bytes = &room[at..stop];
-    let taken = take_batch(list, spreads, rows, records, bytes, batch, page, used);
+    let taken = take_batch(rt, list, spreads, rows, records, bytes, batch, page, used)?;
     let rows = taken.rows;
-    Turn {
+    Ok(Turn {
         desk: Desk {
             at: stop,
             end,
@@ -131,19 +134,20 @@ fn take_next(
         },
         more: is_whole(bytes),
         rows,
-    }
+    })
 }
 
 // All batches, and how much of the page is used by their lines.
-pub fn take_all(
+pub fn take_all<R: Input + Print>(
+    rt: &R,
     list: &[u8],
     spreads: &[u8],
     rows: [Run; lent::RUNS],
     records: &mut [u64],
     room: &mut [u8],
     page: &mut [u8],
-) -> Taken
-    ensures { result.used ≤ length page.old }
+) -> Result<Taken>
+    ensures { IfOk result (λ answer. answer.used ≤ length page.old) }
 {
     let mut turn = Turn {
         desk: Desk {
@@ -156,12 +160,12 @@ pub fn take_all(
     };
     let mut batch: u64 = 0;
     while batch < console::LAST_TURN {
-        turn = take_next(list, spreads, records, room, batch, page, turn);
+        turn = take_next(rt, list, spreads, records, room, batch, page, turn)?;
         batch = console::turn_after(batch, turn.more);
     }
     let rows = turn.rows;
-    Taken {
+    Ok(Taken {
         rows,
         used: turn.desk.used,
-    }
+    })
 }

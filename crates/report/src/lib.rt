@@ -1,36 +1,49 @@
 // What the program `gaps` says. Each line is put on the page behind what is used of it.
 #![tactic(auto)]
 
-ghost use Rattle.std.specs.Prelude.{◌≤◌, length};
+ghost use Rattle.std.specs.Prelude.{◌≤◌, IfOk, length};
 
 use console::{put, put_with};
 use quotebox::{Listed, Refusal};
 use runs::Run;
+use std::io::Result;
 
 // A start that is refused, by the refusal's number.
-pub fn put_refused_start(page: &mut [u8], refusal: Refusal) -> usize
-    ensures { result ≤ length page.old }
+pub fn put_refused_start(rt: &impl Print, page: &mut [u8], refusal: Refusal) -> Result<usize>
+    ensures { IfOk result (λ answer. answer ≤ length page.old) }
 {
     let numbers = quotebox::refusal_numbers(refusal);
-    console::put_line(page, 0, b"start", b" refused", &[numbers[0]])
+    console::put_line(rt, page, 0, b"start", b" refused", &[numbers[0]])
 }
 
-fn put_refusal(page: &mut [u8], used: usize, number: u64, message: u64) -> usize
+fn put_refusal(
+    rt: &impl Print,
+    page: &mut [u8],
+    used: usize,
+    number: u64,
+    message: u64,
+) -> Result<usize>
     requires { used ≤ length page.old }
-    ensures { result ≤ length page.old }
+    ensures { IfOk result (λ answer. answer ≤ length page.old) }
 {
-    let used = put_with(page, used, b" refused ", number);
-    let used = put_with(page, used, b" message ", message);
-    put(page, used, b"\n")
+    let used = put_with(rt, page, used, b" refused ", number)?;
+    let used = put_with(rt, page, used, b" message ", message)?;
+    put(rt, page, used, b"\n")
 }
 
-pub fn put_refused(page: &mut [u8], used: usize, batch: u64, refusal: Refusal) -> usize
+pub fn put_refused(
+    rt: &impl Print,
+    page: &mut [u8],
+    used: usize,
+    batch: u64,
+    refusal: Refusal,
+) -> Result<usize>
     requires { used ≤ length page.old }
-    ensures { result ≤ length page.old }
+    ensures { IfOk result (λ answer. answer ≤ length page.old) }
 {
     let numbers = quotebox::refusal_numbers(refusal);
-    let used = put_with(page, used, b"batch ", batch);
-    put_refusal(page, used, numbers[0], numbers[1])
+    let used = put_with(rt, page, used, b"batch ", batch)?;
+    put_refusal(rt, page, used, numbers[0], numbers[1])
 }
 
 // A run's numbers.
@@ -53,17 +66,25 @@ fn missing(runs: &[u32]) -> u64
     sum
 }
 
-fn put_segment(page: &mut [u8], used: usize, letter: u8, highest: u32, runs: &[u32]) -> usize
+fn put_segment(
+    rt: &impl Print,
+    page: &mut [u8],
+    used: usize,
+    letter: u8,
+    highest: u32,
+    runs: &[u32],
+) -> Result<usize>
     requires { (used ≤ length page.old) × (length runs.now ≤ 128) }
-    ensures { result ≤ length page.old }
+    ensures { IfOk result (λ answer. answer ≤ length page.old) }
 {
     let numbers = [highest as u64, missing(runs)];
-    let used = console::put_line(page, used, &[letter], b"", &numbers);
+    let used = console::put_line(rt, page, used, &[letter], b"", &numbers)?;
     let before = [letter, b' ', b'g', b'a', b'p', b' '];
-    console::put_runs(page, used, &before, runs, b"\n")
+    console::put_runs(rt, page, used, &before, runs, b"\n")
 }
 
 fn put_listed(
+    rt: &impl Print,
     list: &[u8],
     spreads: &[u8],
     rows: [Run; lent::RUNS],
@@ -72,28 +93,36 @@ fn put_listed(
     cells: &mut [u32],
     page: &mut [u8],
     used: usize,
-) -> usize
+) -> Result<usize>
     requires { (used ≤ length page.old) × (length cells.old ≤ 128) }
-    ensures { result ≤ length page.old }
+    ensures { IfOk result (λ answer. answer ≤ length page.old) }
 {
     match lent::list_gaps(list, spreads, rows, records, letter, cells) {
         Listed::Runs(highest, runs) => {
-            put_segment(page, used, letter, highest, console::runs_in(cells, runs))
+            put_segment(
+                rt,
+                page,
+                used,
+                letter,
+                highest,
+                console::runs_in(cells, runs),
+            )
         }
-        Listed::Refused(_) => used,
+        Listed::Refused(_) => Ok(used),
     }
 }
 
 fn put_segments(
+    rt: &impl Print,
     list: &[u8],
     spreads: &[u8],
     rows: [Run; lent::RUNS],
     records: &[u64],
     page: &mut [u8],
     used: usize,
-) -> usize
+) -> Result<usize>
     requires { used ≤ length page.old }
-    ensures { result ≤ length page.old }
+    ensures { IfOk result (λ answer. answer ≤ length page.old) }
 {
     let segments = files::segments(list);
     let mut cells = [0u32; console::RUN_CELLS];
@@ -101,25 +130,28 @@ fn put_segments(
     let mut i = 0;
     while i < segments {
         let letter = files::letter_at(list, i);
-        more = put_listed(list, spreads, rows, records, letter, &mut cells, page, more);
+        more = put_listed(
+            rt, list, spreads, rows, records, letter, &mut cells, page, more,
+        )?;
         i += 1;
     }
-    more
+    Ok(more)
 }
 
 // The list: a heading, each segment in list order, and `end`.
 pub fn put_list(
+    rt: &impl Print,
     list: &[u8],
     spreads: &[u8],
     rows: [Run; lent::RUNS],
     records: &[u64],
     page: &mut [u8],
     used: usize,
-) -> usize
+) -> Result<usize>
     requires { used ≤ length page.old }
-    ensures { result ≤ length page.old }
+    ensures { IfOk result (λ answer. answer ≤ length page.old) }
 {
-    let used = put(page, used, b"segment highest missing\n");
-    let used = put_segments(list, spreads, rows, records, page, used);
-    put(page, used, b"end\n")
+    let used = put(rt, page, used, b"segment highest missing\n")?;
+    let used = put_segments(rt, list, spreads, rows, records, page, used)?;
+    put(rt, page, used, b"end\n")
 }

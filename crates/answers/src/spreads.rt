@@ -1,8 +1,9 @@
 // Records of pairs read, their messages written, and the spread list without pairs.
-ghost use Rattle.std.specs.Prelude.{◌≤◌, length};
+ghost use Rattle.std.specs.Prelude.{◌≤◌, IfOk, length};
 
 use layout::{Item, Level};
 use quotebox::{SpreadReading, Written};
+use std::io::Result;
 
 // The spread list that is handed over with a contract list until one is told, and how long it is: without pairs, and empty
 // where there is none.
@@ -22,16 +23,23 @@ fn values_of(level: Level, reading: SpreadReading) -> [u64; values::MOST] {
     shown
 }
 
-fn put_reading(page: &mut [u8], used: usize, level: Level, reading: SpreadReading) -> usize
+fn put_reading(
+    rt: &impl Print,
+    page: &mut [u8],
+    used: usize,
+    level: Level,
+    reading: SpreadReading,
+) -> Result<usize>
     requires { used ≤ length page.old }
-    ensures { result ≤ length page.old }
+    ensures { IfOk result (λ answer. answer ≤ length page.old) }
 {
     let answer = reading.answer;
     let shown = values_of(level, reading);
-    lines::put_recorded(page, used, Item::Pair, level, answer, &shown)
+    lines::put_recorded(rt, page, used, Item::Pair, level, answer, &shown)
 }
 
 pub fn read(
+    rt: &impl Print,
     bytes: &[u8],
     list: &[u8],
     spreads: &[u8],
@@ -39,15 +47,15 @@ pub fn read(
     records: &[u64],
     page: &mut [u8],
     used: usize,
-) -> usize
+) -> Result<usize>
     requires { used ≤ length page.old }
-    ensures { result ≤ length page.old }
+    ensures { IfOk result (λ answer. answer ≤ length page.old) }
 {
     let letter = wire::u8_at(bytes, 1);
     let level = commands::level_of(wire::u8_at(bytes, 2));
     let pair = commands::pair_at(bytes, commands::READ_KEY);
     let reading = quotebox::read_spread(list, spreads, rows, records, letter, &pair, level);
-    put_reading(page, used, level, reading)
+    put_reading(rt, page, used, level, reading)
 }
 
 pub fn write(bytes: &[u8], out: &mut [u8]) -> Written {

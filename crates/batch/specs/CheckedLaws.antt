@@ -21,7 +21,7 @@ use Rattle.batch.specs.GoodLaws.{front_exact, rows_ready}
 use Rattle.state.specs.Answers.{judged_numbers, checked_numbers, checked_by}
 use Rattle.state.specs.AnswersLaws.{checked_refusal, checked_told}
 use Rattle.state.specs.State.{state_rules}
-use Rattle.turns.specs.MessagesLaws.{rest_is}
+use Rattle.turns.proofs.MessagesLaws.{rest_is}
 use Rattle.batch.specs.Promises.{JudgedBatch, TookBatch}
 use Rattle.batch.specs.Scratch.{DataReady, data_acts, data_numbers, JudgedData, TookData}
 use Rattle.state.specs.StateLaws.{state_exact}

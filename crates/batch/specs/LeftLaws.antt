@@ -28,7 +28,7 @@ use Rattle.batch.specs.Good.{gaps_after}
 use Rattle.state.specs.GoodState.{GoodState}
 use Rattle.state.specs.RowsLaws.{length_with, behind_kept, sound_with}
 use Rattle.turns.specs.ComparedLaws.{not_both}
-use Rattle.turns.specs.MessagesLaws.{messages_next, messages_refused, messages_end, messages_over}
+use Rattle.turns.proofs.MessagesLaws.{messages_next, messages_refused, messages_end, messages_over}
 use Rattle.batch.specs.ScratchLaws.{none_accepted}
 use Rattle.batch.specs.StepLaws.{messages_in, KeptBehind, all_kept, Went, Fell, good_goes}
 

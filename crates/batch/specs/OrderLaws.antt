@@ -40,7 +40,7 @@ use Rattle.batch.specs.BatchLaws.{in_turn}
 use Rattle.batch.specs.Good.{gaps_after, GoodMessages, GoodBatch}
 use Rattle.batch.specs.GoodLaws.{front_exact}
 use Rattle.state.specs.StateLaws.{state_exact}
-use Rattle.turns.specs.MessagesLaws.{messages_next, messages_refused}
+use Rattle.turns.proofs.MessagesLaws.{messages_next, messages_refused}
 use Rattle.batch.specs.Order.{as_rules, messages_rules, all_rules, refusal_of}
 use Rattle.state.specs.Refusals.{Rule, of_fault}
 use Rattle.batch.specs.ScratchLaws.{never_good}

@@ -34,7 +34,7 @@ use Rattle.batch.specs.Acts.{box_of, lent_after}
 use Rattle.state.specs.Memory.{lends, gap_row_in, gap_row_of}
 use Rattle.state.specs.MemoryRows.{with_gap_row_of_letter}
 use Rattle.turns.specs.ComparedLaws.{not_both}
-use Rattle.turns.specs.MessagesLaws.{messages_refused}
+use Rattle.turns.proofs.MessagesLaws.{messages_refused}
 use Rattle.state.specs.Refusals.{of_fault}
 use Rattle.batch.specs.BatchLaws.{accepted_box, refused_is}
 use Rattle.batch.specs.Scratch.{RowsReady, RowReady, ScratchRow, data_acts, data_numbers, JudgedData, TookData}

@@ -8,7 +8,7 @@ use Rattle.state.specs.declared.answers.Judged.{Judged}
 use Rattle.state.specs.declared.answers.Judged.TheVariants.{Accepted, Refused}
 use Rattle.state.specs.declared.refusal.Refusal.{Refusal}
 use Rattle.state.specs.Answers.{judged_numbers}
-use Rattle.turns.specs.BoundLaws.{all_fits}
+use Rattle.turns.proofs.BoundLaws.{all_fits}
 use Rattle.turns.specs.Compared.{compared_in, reached_by, counted_numbers, compared_of, reached_in}
 use Rattle.turns.specs.Turns.{Box, Acted, acted, refused}
 use Rattle.batch.specs.Batch.{batch_letter, batch_data, batch_rules, count_of}

@@ -39,7 +39,7 @@ use Rattle.batch.specs.GoodLaws.{front_exact}
 use Rattle.batch.specs.ScratchLaws.{never_good}
 use Rattle.state.specs.StateLaws.{state_exact}
 use Rattle.turns.specs.ComparedLaws.{not_both}
-use Rattle.turns.specs.MessagesLaws.{messages_next, messages_refused}
+use Rattle.turns.proofs.MessagesLaws.{messages_next, messages_refused}
 use Rattle.state.specs.Refusals.{of_fault}
 use Rattle.starting.specs.Start.{start_of}
 use Rattle.history.specs.Past.{Event, came, wrote_off_in, taken_of, runs_standing}

@@ -33,7 +33,7 @@ use Rattle.state.specs.StateLaws.{state_exact}
 use Rattle.turns.specs.ActsLaws.{acts_as_lem}
 use Rattle.turns.specs.Turns.{Box, Acted, acted, refused, messages_act}
 use Rattle.turns.specs.Compared.{reached, counted_numbers}
-use Rattle.turns.specs.MessagesLaws.{messages_next, messages_refused}
+use Rattle.turns.proofs.MessagesLaws.{messages_next, messages_refused}
 use Rattle.batch.specs.Batch.{batch_rules, batch_letter, count_of, batch_data}
 use Rattle.batch.specs.Acts.{batch_acts, batch_compared, box_of}
 use Rattle.batch.specs.BatchLaws.{front_refuses, messages_decide, good_front, messages_accepted, accepted_box}

@@ -26,7 +26,7 @@ use Rattle.slots.specs.Slots.{Slot, SlotListed}
 use Rattle.slots.specs.Places.{slot_at, record_of}
 use Rattle.batch.specs.LeftLaws.{last_box}
 use Rattle.turns.specs.ComparedLaws.{not_both}
-use Rattle.turns.specs.MessagesLaws.{messages_next, messages_refused}
+use Rattle.turns.proofs.MessagesLaws.{messages_next, messages_refused}
 use Rattle.starting.specs.Start.{start_of}
 use Rattle.history.specs.Past.{Event, came, wrote_off_in, taken_of, messages_of, taken_for}
 use Rattle.history.specs.Updates.{slot_of, is_slot, segment_in, item_in}

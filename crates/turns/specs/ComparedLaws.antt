@@ -1,41 +1,20 @@
 -- A message that passes has come to its lookup, if it has one; of one that is refused its refusal tells whether it has.
-use Rattle.std.specs.Prelude.{ℕ, ◌+◌, ◌≤◌, ◌≡◌, refl, Bool, true, false, cond, List, ◌⊎◌}
-use Rattle.std.proofs.Common.{ap, sym, inl, inr, arith}
+use Rattle.std.specs.Prelude.{ℕ, ◌≤◌, ◌≡◌, refl, Bool, true, false, cond, List}
+use Rattle.std.proofs.Common.{sym, arith}
 use Rattle.pairs.specs.Lists.{Lists, Headers}
-use Rattle.lookup.specs.Lookup.{segment_of}
-use Rattle.forms.specs.Forms.{subject_of}
 use Rattle.sequence.specs.Gaps.{takes}
 use Rattle.sequence.specs.Changes.{full}
 use Rattle.sequence.specs.Row.{gaps_of}
-use Rattle.head.specs.declared.head.Fault.{Fault}
-use Rattle.head.specs.declared.head.Fault.TheVariants as fault
 use Rattle.message.specs.declared.body.What.{What}
 use Rattle.message.specs.declared.body.What.TheVariants as what
 use Rattle.message.specs.Compared.{message_compared, key_sought, so_far}
 use Rattle.message.specs.ComparedLaws.{message_most}
 use Rattle.state.specs.declared.refusal.Refusal.{Refusal}
 use Rattle.state.specs.declared.refusal.Refusal.TheVariants.{Gaps}
-use Rattle.state.specs.Refusals.{of_fault}
-use Rattle.turns.specs.Turns.{Box, acted, refused, number_acts, updated, what_acts}
-use Rattle.turns.specs.Compared.{reached}
+use Rattle.turns.specs.Turns.{Box, acted, refused, number_acts, what_acts}
 
 pub not_both : {refusal : Refusal} {box : Box} → refused refusal ≡ acted box → ⊥
 not_both e = let z : ◌≡◌ {A = ℕ} 0 1 = cc in omega arith
-
--- of the keys that its lookup compares a message has none, or all, and its refusal tells which
-abbrev Told : ℕ → ℕ → Refusal → ℕ → ℕ → Type 0
-Told count i refusal keys done = ((reached count refusal ≡ i) × (done ≡ 0)) ⊎ ((reached count refusal ≡ i + 1) × (done ≡ keys))
-
-pub fault_reached : (count i keys : ℕ) (f : Fault) → Told count i (of_fault f i) keys (cond (key_sought f) keys 0)
-fault_reached count i keys fault.Frame = inl (refl, refl)
-fault_reached count i keys fault.Code = inl (refl, refl)
-fault_reached count i keys fault.Trailer = inl (refl, refl)
-fault_reached count i keys fault.Length = inl (refl, refl)
-fault_reached count i keys fault.Checksum = inl (refl, refl)
-fault_reached count i keys fault.Numbering = inl (refl, refl)
-fault_reached count i keys (fault.Field row) = inl (refl, refl)
-fault_reached count i keys (fault.Range row) = inl (refl, refl)
-fault_reached count i keys fault.Contract = inr (refl, refl)
 
 -- a number is refused by 14 alone
 pub number_refused : (box : Box) (i number : ℕ) (changed : List ℕ → List ℕ) {refusal : Refusal} → number_acts box i number changed ≡ refused refusal → Gaps i ≡ refusal
@@ -47,15 +26,6 @@ number_refused box i number changed {refusal} e = go (takes (gaps_of box.row) nu
     go false f t g = absurd (not_both (sym (rw t at e)))
 
 module _ (lists : Lists) (letter : ℕ) (box : Box) (i keys : ℕ) (cells : List ℕ) where
-  pub reached_refused : (w : What) {refusal : Refusal} → what_acts lists letter box i w cells ≡ refused refusal → (count : ℕ) → Told count i refusal keys (so_far w keys)
-  reached_refused what.Heartbeat e count = absurd (not_both (sym e))
-  reached_refused (what.PassedOver number) e count = inr (ap (reached count) (sym (number_refused box i number (λ records. records) e)), refl)
-  reached_refused (what.Update number form place) e count =
-      inr (ap (reached count) (sym (number_refused box i number (updated lists (segment_of lists.contracts letter) place (subject_of form) form number cells) e)), refl)
-  reached_refused (what.Bad f) {refusal} e count =
-      let same : of_fault f i ≡ refusal = cc in
-      rw (← same) (fault_reached count i keys f)
-
   pub reached_passed : (w : What) {box' : Box} → what_acts lists letter box i w cells ≡ acted box' → so_far w keys ≡ keys
   reached_passed what.Heartbeat e = refl
   reached_passed (what.PassedOver number) e = refl

@@ -27,7 +27,7 @@ use Rattle.state.specs.AnswersLaws.{judged_told}
 use Rattle.state.specs.GoodState.{GoodState}
 use Rattle.state.specs.Memory.{Lent}
 use Rattle.state.specs.StateLaws.{state_exact}
-use Rattle.turns.specs.MessagesLaws.{messages_next, messages_end}
+use Rattle.turns.proofs.MessagesLaws.{messages_next, messages_end}
 use Rattle.pairs.specs.Lists.{Lists}
 use Rattle.message.specs.Compared.{message_compared}
 use Rattle.turns.specs.Turns.{Box, acted, message_acts, number_acts}

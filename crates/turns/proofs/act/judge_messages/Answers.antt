@@ -1,5 +1,5 @@
 -- The loop's invariant: all messages before message i have passed, and left this row, these stores and these counts.
-use Rattle.std.proofs.Common.{ℕ, ◌+◌, ◌*◌, ◌≤◌, ◌≡◌, refl, ◌∙◌, true, List, arith, length, drop, length-drop}
+use Rattle.std.proofs.Common.{◌+◌, ◌≤◌, ◌≡◌, refl, ◌∙◌, true, arith, length, drop, length-drop}
 use Rattle.pairs.specs.Lists.{lists}
 use Rattle.state.specs.declared.refusal.Refusal.{Refusal}
 use Rattle.message.specs.Reads.{message_of}
@@ -7,7 +7,7 @@ use Rattle.turns.specs.declared.act.Act.{Act}
 use Rattle.turns.specs.declared.act.Act.TheVariants.{Taken, Old, Heartbeat, Refused}
 use Rattle.turns.specs.Acts.{passed, MessageActs}
 use Rattle.turns.specs.ComparedLaws.{step_most}
-use Rattle.turns.specs.MessagesLaws.{turned_told, begins, going_on, going_refused, going_over, going_ends, counted_one, rest_is}
+use Rattle.turns.proofs.MessagesLaws.{turned_told, begins, going_on, going_refused, going_over, going_ends, counted_one, rest_is}
 use Rattle.turns.proofs.act.judge_messages.Goals as goal
 
 passes : (act : Act) → ((r : Refusal) → act ≡ Refused r → ⊥) → passed act ≡ true
@@ -27,7 +27,7 @@ overflow_add-compared c =
     let step = c.message_acts-step.result in
     let rest = drop l.at a.«data».now in
     let acts : MessageActs both a.letter l.row l.stores l.kept l.i rest step c.message_acts-step.new.row c.message_acts-step.new.stores =
-        rw (rest_is a.«data».now l.at l.invariant.1) at c.message_acts-step.ensures in
+    rw (rest_is a.«data».now l.at l.invariant.1) at c.message_acts-step.ensures in
     let few : step.compared ≤ 13 = step_most both c.requires.0.headers a.letter rest (message_of both a.letter rest).what acts.steps in
     omega (arith, few, l.invariant.6, c.loop-i-test.true, c.requires.1)
 
@@ -48,7 +48,7 @@ loop-i-preserved c =
     let step = c.message_acts-step.result in
     let rest = drop l.at a.«data».now in
     let acts : MessageActs both a.letter l.row l.stores l.kept l.i rest step c.message_acts-step.new.row c.message_acts-step.new.stores =
-        rw (rest_is a.«data».now l.at l.invariant.1) at c.message_acts-step.ensures in
+    rw (rest_is a.«data».now l.at l.invariant.1) at c.message_acts-step.ensures in
     let few : step.compared ≤ 13 = step_most both c.requires.0.headers a.letter rest (message_of both a.letter rest).what acts.steps in
     let p = passes step.act c.in_default.not-Refused in
     let inside : l.at + step.length ≤ length a.«data».now = omega (arith, l.invariant.1, acts.inside p, length-drop l.at a.«data».now) in

@@ -2,7 +2,7 @@ use Rattle.std.proofs.Common.{◌-◌, ◌*◌, ◌≤◌, ◌≡◌, true, leng
 use Rattle.pairs.specs.Lists.{lists}
 use Rattle.sequence.specs.RowLaid.{sound_gap_row}
 use Rattle.turns.specs.Acts.{total}
-use Rattle.turns.specs.MessagesLaws.{Going}
+use Rattle.turns.proofs.MessagesLaws.{Going}
 use Rattle.turns.proofs.act.judge_messages.Given as goal
 
 abbrev pub invariant-loop-i : goal.invariant-loop-i
@@ -13,4 +13,3 @@ invariant-loop-i l =
 abbrev pub decreases-loop-i : goal.decreases-loop-i
 decreases-loop-i l =
     l.count - l.i
-

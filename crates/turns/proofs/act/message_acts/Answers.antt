@@ -33,8 +33,7 @@ keep_update-kept-requires c =
     let a = c.args in
     let both = lists a.list.now a.spreads.now in
     let message = message_of both a.letter a.bytes.now in
-    let what_is = sym (what_told c.read-message.ensures.told.tells) ∙ c.in-Update.is in
-    (
+    let what_is = sym (what_told c.read-message.ensures.told.tells) ∙ c.in-Update.is in (
       c.requires.within,
       fronts_near both c.requires.headers a.letter a.fronts c.requires.fronts_are a.bytes.now message refl what_is,
       place_few both c.requires.headers a.letter a.fronts c.requires.fronts_are a.bytes.now message refl what_is,

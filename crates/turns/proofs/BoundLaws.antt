@@ -1,5 +1,5 @@
 -- M-102, the worst case: the lookups of messages compare at most 13 keys for each 204 bytes.
-use Rattle.std.specs.Prelude.{ℕ, zero, suc, ◌+◌, ◌*◌, ◌≤◌, ◌<◌, ◌≡◌, refl, Bool, true, false, cond, List, ◌⊎◌, length, drop}
+use Rattle.std.specs.Prelude.{ℕ, zero, suc, ◌+◌, ◌*◌, ◌≤◌, ◌<◌, ◌≡◌, refl, Bool, true, false, cond, List, length, drop}
 use Rattle.std.proofs.Common.{ap, sym, ◌∙◌, ⊎_elim, arith, length-drop}
 use Rattle.laws.specs.Order.{order}
 use Rattle.forms.specs.Forms.{subject_of}
@@ -20,8 +20,9 @@ use Rattle.state.specs.Refusals.{of_fault}
 use Rattle.turns.specs.Turns.{Box, Acted, acted, refused, updated, what_acts, message_acts, messages_act}
 use Rattle.turns.specs.ActsLaws.{acts_as_lem}
 use Rattle.turns.specs.Compared.{compared_in, reached, reached_by}
-use Rattle.turns.specs.ComparedLaws.{not_both, fault_reached, number_refused}
-use Rattle.turns.specs.MessagesLaws.{messages_next, messages_refused, messages_end, messages_over}
+use Rattle.turns.specs.ComparedLaws.{not_both, number_refused}
+use Rattle.turns.proofs.ReachedLaws.{fault_reached}
+use Rattle.turns.proofs.MessagesLaws.{messages_next, messages_refused, messages_end, messages_over}
 
 module _ (lists : Lists) (headers : Headers lists) (letter : ℕ) where
   -- ---- one message

@@ -1,5 +1,5 @@
 -- Laws of messages that act in turn: one step, and where they end.
-use Rattle.std.specs.Prelude.{ℕ, suc, ◌+◌, ◌-◌, ◌*◌, ◌≤◌, ◌<◌, ◌≡◌, refl, true, List, [], ◌⊎◌, length, drop, take}
+use Rattle.std.specs.Prelude.{ℕ, suc, ◌+◌, ◌-◌, ◌*◌, ◌≤◌, ◌<◌, ◌≡◌, refl, true, List, [], length, drop, take}
 use Rattle.std.proofs.Common.{ap, sym, ◌∙◌, ⊎_elim, add-one, arith, eq-eqb, ne_eqb, length-drop, drop-drop, take_all}
 use Rattle.std.proofs.lemmas.Bool.{false≢true}
 use Rattle.pairs.specs.Lists.{Lists}
@@ -21,7 +21,8 @@ use Rattle.state.specs.declared.refusal.Refusal.TheVariants.{Count}
 use Rattle.turns.specs.Acts.{counted, none, total, box_at, passed, acted_as, MessageActs, JudgedMessages, Turned}
 use Rattle.turns.specs.ActsLaws.{acts_as_lem}
 use Rattle.turns.specs.Compared.{compared_in, reached, reached_by, counted_numbers}
-use Rattle.turns.specs.ComparedLaws.{not_both, reached_refused, reached_passed}
+use Rattle.turns.specs.ComparedLaws.{not_both, reached_passed}
+use Rattle.turns.proofs.ReachedLaws.{reached_refused}
 use Rattle.turns.specs.Turns.{Box, Acted, acted, refused, what_acts, message_acts, messages_act}
 use Rattle.slots.specs.Slots.{records_wanted}
 use Rattle.stores.specs.Stores.{store_cells, made, AllFit, least_update, Room}

@@ -1,0 +1,3 @@
+pub mod BoundLaws
+pub mod MessagesLaws
+pub mod ReachedLaws

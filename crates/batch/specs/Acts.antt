@@ -1,6 +1,6 @@
 -- What a batch does, as it computes: `accepted_exact`, `refused_exact` (OrderLaws), and after every history `history`'s
 -- `judged_exactly` and `refines` say what that is.
-use Rattle.std.specs.Prelude.{ℕ, ◌+◌, List, ◌++◌}
+use Rattle.std.specs.Prelude.{ℕ, List, ◌++◌}
 use Rattle.std.proofs.Math.Option.{Option, none, some}
 use Rattle.laws.specs.Rules.{first_broken}
 use Rattle.state.specs.declared.answers.Judged.{Judged}

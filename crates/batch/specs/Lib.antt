@@ -6,9 +6,7 @@ pub mod Good
 pub mod GoodLaws
 pub mod LeftLaws
 pub mod Order
-pub mod OrderLaws
 pub mod Promises
 pub mod Scratch
 pub mod ScratchLaws
 pub mod StepLaws
-pub mod TookLaws

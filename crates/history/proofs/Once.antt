@@ -11,7 +11,7 @@ use Rattle.state.specs.Memory.{Lent, lends}
 use Rattle.starting.specs.StartPromisesLaws.{one_started, one_no_spreads}
 use Rattle.listing.specs.ListPromisesLaws.{one_listed, one_written_off}
 use Rattle.reading.specs.ReadsLaws.{one_read}
-use Rattle.batch.specs.TookLaws.{one_judged, one_took}
+use Rattle.batch.proofs.TookLaws.{one_judged, one_took}
 use Rattle.writer.specs.WriterPromisesLaws.{one_written}
 use Rattle.history.specs.Calls as calls
 use Rattle.history.specs.Calls.{started, judged, took, listed, wrote_off, read, wrote}

@@ -25,7 +25,7 @@ use Rattle.state.specs.Memory.{Lent}
 use Rattle.turns.specs.Turns.{Acted, acted, refused}
 use Rattle.batch.specs.Acts.{batch_acts, lent_after}
 use Rattle.batch.specs.Promises.{JudgedBatch, TookBatch}
-use Rattle.batch.specs.TookLaws.{answer_numbers_lem, one_judged, one_took}
+use Rattle.batch.proofs.TookLaws.{answer_numbers_lem, one_judged, one_took}
 use Rattle.writer.specs.declared.writing.Code.{Code}
 use Rattle.writer.specs.Writer.{length_written}
 use Rattle.writer.specs.Chosen.{form_written}

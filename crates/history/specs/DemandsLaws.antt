@@ -10,10 +10,10 @@ use Rattle.starting.specs.StartPromisesLaws.{start_refusal_lem, no_spreads_refus
 use Rattle.listing.specs.ListPromisesLaws.{list_refusal_lem, off_refusal_lem, off_leaves}
 use Rattle.turns.specs.Compared.{compared_in}
 use Rattle.batch.specs.Batch.{batch_letter, batch_data}
-use Rattle.batch.specs.OrderLaws.{refused_exact}
+use Rattle.batch.proofs.OrderLaws.{refused_exact}
 use Rattle.batch.specs.Promises.{JudgedBatch, TookBatch}
 use Rattle.starting.specs.Start.{start_of}
-use Rattle.batch.specs.TookLaws.{judged_refused, compared_follows, compared_few, refused_keeps, state_good}
+use Rattle.batch.proofs.TookLaws.{judged_refused, compared_follows, compared_few, refused_keeps, state_good}
 use Rattle.writer.specs.WriterPromisesLaws.{write_refusal_lem}
 use Rattle.history.specs.Past.{Event, wrote_off_in, taken_of}
 use Rattle.history.specs.SegmentLaws.{takes_new}

@@ -10,7 +10,7 @@ use Rattle.state.specs.Answers.{left_by}
 use Rattle.state.specs.Memory.{Lent}
 use Rattle.state.specs.AnswersLaws.{accepted_by}
 use Rattle.batch.specs.Promises.{TookBatch}
-use Rattle.batch.specs.TookLaws.{one_took}
+use Rattle.batch.proofs.TookLaws.{one_took}
 use Rattle.starting.specs.StartPromises.{StartedBox}
 use Rattle.listing.specs.ListPromises.{WroteOffRun}
 use Rattle.starting.specs.StartPromisesLaws.{start_left}

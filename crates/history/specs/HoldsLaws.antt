@@ -43,7 +43,7 @@ use Rattle.state.specs.RowsLaws.{row_put, row_kept}
 use Rattle.starting.specs.Start.{start_of}
 use Rattle.state.specs.State.{segment_rules}
 use Rattle.state.specs.StateLaws.{is_some_lem, letter_listed}
-use Rattle.batch.specs.TookLaws.{refused_keeps, state_good}
+use Rattle.batch.proofs.TookLaws.{refused_keeps, state_good}
 use Rattle.history.specs.Past.{Event, came, off, all_came, came_in, off_in, batch_messages, taken_of, wrote_off_in, after_take, after_write_off}
 use Rattle.history.specs.Segment.{Fits}
 use Rattle.history.specs.SegmentLaws.{fits_begun, fits_off}

@@ -40,9 +40,9 @@ use Rattle.batch.specs.BatchLaws.{front_refuses, messages_decide, good_front, me
 use Rattle.batch.specs.Good.{GoodFront}
 use Rattle.batch.specs.GoodLaws.{front_exact}
 use Rattle.batch.specs.LeftLaws.{is_listed}
-use Rattle.batch.specs.OrderLaws.{refused_exact}
+use Rattle.batch.proofs.OrderLaws.{refused_exact}
 use Rattle.batch.specs.Promises.{JudgedBatch}
-use Rattle.batch.specs.TookLaws.{judged_refused, compared_follows}
+use Rattle.batch.proofs.TookLaws.{judged_refused, compared_follows}
 use Rattle.batch.specs.ScratchLaws.{never_good}
 use Rattle.starting.specs.Start.{start_of}
 use Rattle.history.specs.Machine.{Machine, TooMany, is_numbered, is_heartbeat, takes_in, in_segment, comes_to, AllGood, FirstRefused, counted, is_taken_for, is_old_for, GoodNow, Accepts, Refuses, in_front, in_turn_lem, compared_for, Judges, IsAccepted}

@@ -10,7 +10,7 @@ use Rattle.state.specs.Memory.{Lent}
 use Rattle.state.specs.AnswersLaws.{recorded_told, written_told}
 use Rattle.starting.specs.StartPromisesLaws.{one_started}
 use Rattle.listing.specs.ListPromisesLaws.{one_listed, one_written_off}
-use Rattle.batch.specs.TookLaws.{one_judged, one_took}
+use Rattle.batch.proofs.TookLaws.{one_judged, one_took}
 use Rattle.writer.specs.WriterPromisesLaws.{one_written}
 use Rattle.told.specs.Told.{record_numbers}
 use Rattle.told.specs.ToldLaws.{told_once}

@@ -31,7 +31,7 @@ use Rattle.state.specs.GoodState.{GoodState}
 use Rattle.state.specs.Memory.{Lent}
 use Rattle.batch.specs.Good.{GoodMessages, GoodBatch}
 use Rattle.batch.specs.Promises.{JudgedBatch, TookBatch}
-use Rattle.batch.specs.TookLaws.{judged_good}
+use Rattle.batch.proofs.TookLaws.{judged_good}
 use Rattle.writer.specs.WriterPromises.{WroteValues}
 use Rattle.listing.specs.ListRules.{gaps_of_letter}
 use Rattle.reading.specs.ReadRules.{record_rules}

@@ -37,7 +37,7 @@ use Rattle.state.specs.Refusals.{Rule, refusal_numbers}
 use Rattle.state.specs.RefusalsLaws.{never_behind}
 use Rattle.starting.specs.StartLaws.{memory_decides}
 use Rattle.state.specs.StateLaws.{state_broken}
-use Rattle.batch.specs.TookLaws.{one_judged, one_took, refused_keeps}
+use Rattle.batch.proofs.TookLaws.{one_judged, one_took, refused_keeps}
 use Rattle.copies.specs.declared.run.Run.{Run}
 use Rattle.copies.specs.Rows.{flat}
 use Rattle.runs.specs.Wanted.{runs_wanted, in_runs}

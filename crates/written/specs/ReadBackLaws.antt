@@ -59,7 +59,7 @@ use Rattle.reading.specs.RecordLaws.{key_holds, record_found, record_lent}
 use Rattle.reading.specs.Shown.{QuoteFor, shown, cells_for, stamp_in, ReadsItem}
 use Rattle.reading.specs.KeptLaws.{cells_wide, session_kept, shown_kept}
 use Rattle.state.specs.State.{segment_rules}
-use Rattle.batch.specs.TookLaws.{state_good}
+use Rattle.batch.proofs.TookLaws.{state_good}
 use Rattle.writer.specs.WriterPromises.{WroteValues, WroteMessage, WroteSpread}
 use Rattle.written.specs.ReadBack.{batch_of, WritesUpdate, InNormalMarket, seen_for, counted_as, Counts, ReadsAs, ReadsBack, PassesOver}
 use Rattle.written.specs.ReadBackStepsLaws.{counted, left_taken, left_old, number_stored, cells_stored, length_stored}

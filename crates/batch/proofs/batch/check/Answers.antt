@@ -17,7 +17,6 @@ count_is : (c : After-u16_at) → c.u16_at.result ≡ count_of c.args.batch.now
 unfolding count_of
 count_is c = c.u16_at.ensures
 
-
 pub returns-then-flag-eq0 : goal.returns-then-flag-eq0
 returns-then-flag-eq0 c =
     let begun : leb 5 (length c.args.batch.now) ≡ true = le-leb 5 (length c.args.batch.now) c.if-batch-lt-FRONT.false in

@@ -19,7 +19,7 @@ use Rattle.state.specs.GoodState.{GoodState}
 use Rattle.batch.specs.LeftLaws.{all_counted, behind_left, state_left}
 use Rattle.state.specs.Memory.{Lent, SameBehind}
 use Rattle.batch.specs.Order.{all_rules}
-use Rattle.batch.specs.OrderLaws.{accepted_exact, refused_exact}
+use Rattle.batch.proofs.OrderLaws.{accepted_exact, refused_exact}
 use Rattle.batch.specs.Promises.{JudgedBatch, TookBatch}
 use Rattle.state.specs.AnswersLaws.{judged_told}
 use Rattle.state.specs.State.{state_rules}

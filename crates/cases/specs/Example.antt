@@ -31,9 +31,9 @@ use Rattle.history.specs.Past.{highest_in, missing_in, runs_standing}
 use Rattle.history.specs.Calls.{start, take}
 use Rattle.history.specs.Step.{answer_numbers}
 use Rattle.history.specs.Histories.{Made, own, elsewhere, BoxNow, unstarted, all_after, all_answers, past_of, Reached}
-use Rattle.history.specs.HistoriesLaws.{calls_reach}
+use Rattle.history.proofs.HistoriesLaws.{calls_reach}
 use Rattle.cases.specs.PaperCases.{those}
-use Rattle.history.specs.DemandsLaws.{after_calls}
+use Rattle.history.proofs.DemandsLaws.{after_calls}
 
 -- 01 "Cases": the program starts at 1
 abbrev starts : List ℕ

@@ -48,7 +48,7 @@ use Rattle.history.specs.Exactly.{came_next}
 use Rattle.history.specs.Calls.{Call, start, take, write_off, list_gaps, read_record}
 use Rattle.history.specs.Step.{step as step_of, answer_numbers}
 use Rattle.history.specs.Histories.{own, Since, BoxNow, unstarted, all_after, past_of, Reached, after_call}
-use Rattle.history.specs.HistoriesLaws.{calls_reach, all_since}
+use Rattle.history.proofs.HistoriesLaws.{calls_reach, all_since}
 use Rattle.written.specs.ReadBack.{plain_batch}
 use Rattle.written.specs.WrittenCases as writer
 

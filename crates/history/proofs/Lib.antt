@@ -1,1 +1,23 @@
 mod Once
+pub mod AgreeLaws
+pub mod CallsLaws
+pub mod DemandsLaws
+pub mod DoesLaws
+pub mod FrontLaws
+pub mod FullLaws
+pub mod HistoriesLaws
+pub mod HoldsLaws
+pub mod JudgesLaws
+pub mod KeptLaws
+pub mod ListingLaws
+pub mod MachineLaws
+pub mod NewestLaws
+pub mod OffLaws
+pub mod OneAnswerLaws
+pub mod RecordLaws
+pub mod RefinesLaws
+pub mod SegmentLaws
+pub mod SentLaws
+pub mod StoresLaws
+pub mod TakenLaws
+pub mod TurnLaws

@@ -1,8 +1,6 @@
 -- Against the contracts that the check makes of the source of `quotebox`: each public call takes any input; what it answers, and every cell lent to it to be written, follows from what it is handed; and that is what the step says of the call.
 use mathlib.Core.Path.{◌≡◌, ap}
 use contract.Lifetimes.{Lfts}
-use mathlib.Core.List.{List}
-use Prim.Native.Nat.{ℕ}
 use Rattle.pairs.specs.Lists.{Lists, lists}
 use Rattle.forms.specs.declared.forms.Item.TheVariants.{Contract, Pair}
 use Rattle.quote.specs.Quote.{values_of}
@@ -16,7 +14,7 @@ use Rattle.writer.specs.WriterPromisesLaws.{one_written}
 use Rattle.history.specs.Calls as calls
 use Rattle.history.specs.Calls.{started, judged, took, listed, wrote_off, read, wrote}
 use Rattle.history.specs.Step.{step}
-use Rattle.history.specs.CallsLaws.{start_exactly, judge_exactly, take_exactly, list_exactly, off_exactly, read_exactly, write_exactly, no_spreads_exactly}
+use Rattle.history.proofs.CallsLaws.{start_exactly, judge_exactly, take_exactly, list_exactly, off_exactly, read_exactly, write_exactly, no_spreads_exactly}
 use Rattle.starting.proofs.start.Reads as start
 use Rattle.batch.proofs.judge.Reads as judge
 use Rattle.batch.proofs.take.Reads as take

@@ -21,8 +21,8 @@ use Rattle.batch.specs.Promises.{JudgedBatch}
 use Rattle.listing.specs.ListPromises.{WroteOffRun}
 use Rattle.listing.specs.ListRules.{write_off_rules}
 use Rattle.listing.specs.ListActs.{run_values, lowest_run}
-use Rattle.history.specs.AgreeLaws.{rules_same, gaps_agree, front_same, listings_agree, records_agree}
-use Rattle.history.specs.DemandsLaws.{after_calls}
+use Rattle.history.proofs.AgreeLaws.{rules_same, gaps_agree, front_same, listings_agree, records_agree}
+use Rattle.history.proofs.DemandsLaws.{after_calls}
 use Rattle.history.specs.Exactly.{SameTaken}
 use Rattle.history.specs.Histories.{Reached}
 use Rattle.history.specs.Past.{Event}

@@ -15,7 +15,7 @@ use Rattle.writer.specs.Chosen.{form_written}
 use Rattle.history.specs.Calls as calls
 use Rattle.history.specs.Calls.{Answer, with_lists}
 use Rattle.history.specs.Step.{Outcome, step, start_refusal, start_answer, batch_answer, list_refusal, list_answer, off_answer, read_answer, read_quote, write_refusal, write_answer, written, no_spreads_refusal}
-use Rattle.history.specs.CallsLaws as exactly
+use Rattle.history.proofs.CallsLaws as exactly
 use Rattle.host.specs.Promises.{HostStarted, HostJudged, HostTook, HostListed, HostWroteOff, HostPutNoSpreads, code_of}
 use Rattle.told.specs.Told.{Tells}
 use Rattle.hosted.specs.HostItems.{laid_from, HostReadItem, HostWroteItem}

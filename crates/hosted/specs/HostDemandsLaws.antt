@@ -41,9 +41,9 @@ use Rattle.history.specs.Updates.{item_in, letter_in, key_in, level_in}
 use Rattle.history.specs.Exactly.{ReadsNewest, OverInBatch}
 use Rattle.history.specs.Exactly as exactly
 use Rattle.history.specs.Demands.{AfterCalls}
-use Rattle.history.specs.DemandsLaws.{after_calls, took_judged, refusals_keep, accepted_leave}
+use Rattle.history.proofs.DemandsLaws.{after_calls, took_judged, refusals_keep, accepted_leave}
 use Rattle.history.specs.Histories.{Reached}
-use Rattle.history.specs.OffLaws.{only_none}
+use Rattle.history.proofs.OffLaws.{only_none}
 use Rattle.host.specs.Promises.{HostJudged, HostTook, HostListed, HostWroteOff, code_of}
 use Rattle.told.specs.Shown.{values_after}
 use Rattle.told.specs.Told.{told_of, Tells, record_numbers}

@@ -19,7 +19,7 @@ use Rattle.hosted.specs.HostDemands as demands
 use Rattle.hosted.specs.HostDemands.{TellsNewest}
 use Rattle.hosted.specs.HostDemandsLaws.{after_host_calls}
 use Rattle.hosted.specs.HostHistoriesLaws.{host_reached}
-use Rattle.history.specs.SentLaws.{taken_from, own_slot}
+use Rattle.history.proofs.SentLaws.{taken_from, own_slot}
 use Rattle.history.specs.Histories.{batches_of}
 use Rattle.hosted.specs.HostValues.{ValuesSay, TellsFields, no_record, a_record}
 use Rattle.hosted.specs.HostValuesLaws.{host_values_say}

@@ -10,7 +10,7 @@ use Rattle.history.specs.Calls as calls
 use Rattle.history.specs.Calls.{Call}
 use Rattle.history.specs.Histories as histories
 use Rattle.history.specs.Histories.{Made, BoxNow, unstarted, all_after, after_call, Reached}
-use Rattle.history.specs.HistoriesLaws.{reached_begun, reached_take, reached_off}
+use Rattle.history.proofs.HistoriesLaws.{reached_begun, reached_take, reached_off}
 use Rattle.history.specs.Past.{Event, after_take, after_write_off}
 use Rattle.host.specs.Promises.{HostStarted, HostTook, HostWroteOff}
 use Rattle.told.specs.Told.{Tells}

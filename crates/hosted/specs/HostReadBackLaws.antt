@@ -42,7 +42,7 @@ use Rattle.written.specs.ReadBackLaws.{market_updates, numbered, reads_back}
 use Rattle.written.specs.ReadBackStepsLaws.{count_one, data_is}
 use Rattle.written.specs.WrittenFieldsLaws.{segment_written}
 use Rattle.written.specs.WrittenUpdateLaws.{written, rows_good, message_there, written_short, form_is, number_is, key_is, acts_as_lem}
-use Rattle.history.specs.DemandsLaws.{took_judged}
+use Rattle.history.proofs.DemandsLaws.{took_judged}
 use Rattle.reading.specs.Shown.{QuoteFor}
 use Rattle.host.specs.Promises.{HostTook, code_of}
 use Rattle.told.specs.Shown.{values_in_front, values_after, value_count}

@@ -27,7 +27,7 @@ use Rattle.slots.specs.Slots.{Slot, slot as record_slot}
 use Rattle.values.specs.Values.{value_rows, row_values, spread_values}
 use Rattle.reading.specs.Shown.{QuoteFor, shown, ShowsEach}
 use Rattle.told.specs.Shown.{values_in_front}
-use Rattle.history.specs.RecordLaws.{update_says}
+use Rattle.history.proofs.RecordLaws.{update_says}
 use Rattle.history.specs.Updates.{slot_of, item_in, level_in}
 use Rattle.history.specs.Machine.{sequence_number, form_sent}
 use Rattle.hosted.specs.HostItems.{values_for}

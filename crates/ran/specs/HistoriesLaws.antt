@@ -6,10 +6,10 @@ use Rattle.state.specs.Memory.{lends}
 use Rattle.state.specs.GoodState.{GoodState}
 use Rattle.history.specs.Past.{Event}
 use Rattle.history.specs.Histories.{Reached}
-use Rattle.history.specs.HistoriesLaws.{reached_begun, reached_take, reached_off}
+use Rattle.history.proofs.HistoriesLaws.{reached_begun, reached_take, reached_off}
 use Rattle.history.specs.Exactly.{SameTaken}
 use Rattle.history.specs.Demands.{AfterCalls}
-use Rattle.history.specs.DemandsLaws.{after_calls, two_agree}
+use Rattle.history.proofs.DemandsLaws.{after_calls, two_agree}
 use Rattle.copies.specs.declared.run.Run.{Run}
 use Rattle.copies.specs.Rows.{flat}
 use Rattle.runs.specs.Wanted.{runs_wanted}

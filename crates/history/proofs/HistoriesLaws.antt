@@ -20,7 +20,7 @@ use Rattle.starting.specs.StartActs.{start_broken, lent_started}
 use Rattle.history.specs.Past.{Event, after_take, after_write_off}
 use Rattle.history.specs.Calls.{Call, start, judge, take, list_gaps, write_off, read_record, write_message, write_spread, no_spreads, with_lists}
 use Rattle.history.specs.Step.{start_refusal, batch_answer, off_answer, step}
-use Rattle.history.specs.CallsLaws.{take_promised, off_promised}
+use Rattle.history.proofs.CallsLaws.{take_promised, off_promised}
 use Rattle.history.specs.Histories.{Made, own, elsewhere, Since, BoxNow, unstarted, since_after, all_after, Reached, after_call}
 
 -- ---- by steps

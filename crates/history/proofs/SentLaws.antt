@@ -46,12 +46,12 @@ use Rattle.history.specs.Past.{Event, came, off, messages_of, batch_messages, al
 use Rattle.reading.specs.Shown.{QuoteFor, shown, ReadsItem}
 use Rattle.history.specs.Calls.{start, judge, take, list_gaps, write_off, read_record, write_message, write_spread, no_spreads, with_lists}
 use Rattle.history.specs.Step.{start_refusal, batch_answer, off_refusal, off_answer}
-use Rattle.history.specs.CallsLaws.{took_list, off_list}
+use Rattle.history.proofs.CallsLaws.{took_list, off_list}
 use Rattle.history.specs.Histories.{Made, own, elsewhere, Since, past_in, BoxNow, unstarted, comes, after_call, all_after, accepting, batches_after, all_batches, Reached, batches_of}
 use Rattle.history.specs.Updates.{slot_of, segment_in, is_slot, is_of}
 use Rattle.history.specs.Exactly.{ReadsNewest, no_record, a_record, UpdateSays}
-use Rattle.history.specs.KeptLaws.{same_slot_lem}
-use Rattle.history.specs.RecordLaws.{reads_key, update_says}
+use Rattle.history.proofs.KeptLaws.{same_slot_lem}
+use Rattle.history.proofs.RecordLaws.{reads_key, update_says}
 use Rattle.history.specs.Sent.{message_starts, Source, ShownAsSent}
 use Rattle.history.specs.Machine.{comes_new, taking, sequence_number, form_sent}
 

@@ -43,13 +43,13 @@ use Rattle.turns.proofs.MessagesLaws.{messages_next, messages_refused}
 use Rattle.state.specs.Refusals.{of_fault}
 use Rattle.starting.specs.Start.{start_of}
 use Rattle.history.specs.Past.{Event, came, wrote_off_in, taken_of, runs_standing}
-use Rattle.history.specs.SegmentLaws.{takes_new, after_standing, fits_standing}
-use Rattle.history.specs.DoesLaws.{stored_in, Does, is_bad, beats, passes, updates, does}
+use Rattle.history.proofs.SegmentLaws.{takes_new, after_standing, fits_standing}
+use Rattle.history.proofs.DoesLaws.{stored_in, Does, is_bad, beats, passes, updates, does}
 use Rattle.history.specs.Turn.{BoxFits}
-use Rattle.history.specs.TurnLaws.{taken_here, message_turns}
+use Rattle.history.proofs.TurnLaws.{taken_here, message_turns}
 use Rattle.history.specs.Exactly.{came_next, OverAt, OverInBatch}
 use Rattle.history.specs.Histories.{Reached}
-use Rattle.history.specs.HoldsLaws.{reached_holds, box_before}
+use Rattle.history.proofs.HoldsLaws.{reached_holds, box_before}
 use Rattle.history.specs.Machine.{is_numbered, comes_new, standing_by, sequence_number, TooMany}
 
 -- ---- which refusals are 14

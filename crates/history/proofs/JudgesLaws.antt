@@ -50,12 +50,12 @@ use Rattle.history.specs.Past.{Event, batch_messages, runs_standing, is_taken, i
 use Rattle.history.specs.Turn.{BoxFits}
 use Rattle.history.specs.Exactly.{came_next, CountsCame}
 use Rattle.history.specs.Step.{batch_answer}
-use Rattle.history.specs.CallsLaws.{judge_exactly}
+use Rattle.history.proofs.CallsLaws.{judge_exactly}
 use Rattle.history.specs.Histories.{Reached}
-use Rattle.history.specs.HoldsLaws.{reached_holds, box_before, batch_turned}
+use Rattle.history.proofs.HoldsLaws.{reached_holds, box_before, batch_turned}
 use Rattle.history.specs.Refines.{machine_of}
-use Rattle.history.specs.FullLaws.{good_unbroken, same_refusal, box_standing, Comes, bad, goes, over, comes}
-use Rattle.history.specs.MachineLaws.{comes_is, standing_is, counts_are}
+use Rattle.history.proofs.FullLaws.{good_unbroken, same_refusal, box_standing, Comes, bad, goes, over, comes}
+use Rattle.history.proofs.MachineLaws.{comes_is, standing_is, counts_are}
 
 -- ---- the machine judges in one way
 

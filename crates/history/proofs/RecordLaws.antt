@@ -32,13 +32,13 @@ use Rattle.history.specs.Past.{Event, taken_of, taken_for}
 use Rattle.reading.specs.Shown.{QuoteFor, shown, blank_for, ReadsItem}
 use Rattle.history.specs.Updates.{slot_of, item_in, level_in, letter_in, key_in}
 use Rattle.history.specs.Kept.{newest, RecordHolds, HoldsUpdate}
-use Rattle.history.specs.KeptLaws.{kept_number}
+use Rattle.history.proofs.KeptLaws.{kept_number}
 use Rattle.history.specs.Histories.{Reached}
-use Rattle.history.specs.HoldsLaws.{reached_holds}
-use Rattle.history.specs.ListingLaws.{segment_good}
-use Rattle.history.specs.DoesLaws.{Does, is_bad, beats, passes, updates, does}
+use Rattle.history.proofs.HoldsLaws.{reached_holds}
+use Rattle.history.proofs.ListingLaws.{segment_good}
+use Rattle.history.proofs.DoesLaws.{Does, is_bad, beats, passes, updates, does}
 use Rattle.history.specs.Exactly.{NoUpdate, FoundNewest, ReadsNewest, no_record, a_record, UpdateSays}
-use Rattle.history.specs.NewestLaws.{newest_found}
+use Rattle.history.proofs.NewestLaws.{newest_found}
 use Rattle.history.specs.Machine.{sequence_number, form_sent, answer_for, quote_beside_it}
 
 -- ---- a record that holds an update gives its rows back

@@ -30,10 +30,10 @@ use Rattle.turns.proofs.MessagesLaws.{messages_next, messages_refused}
 use Rattle.starting.specs.Start.{start_of}
 use Rattle.history.specs.Past.{Event, came, wrote_off_in, taken_of, messages_of, taken_for}
 use Rattle.history.specs.Updates.{slot_of, is_slot, segment_in, item_in}
-use Rattle.history.specs.SegmentLaws.{takes_new, fits_taken}
+use Rattle.history.proofs.SegmentLaws.{takes_new, fits_taken}
 use Rattle.history.specs.Kept.{newest, RecordsFit, RecordHolds}
-use Rattle.history.specs.KeptLaws.{not_its, update_changes}
-use Rattle.history.specs.DoesLaws.{stored_in, Does, is_bad, beats, passes, updates, does}
+use Rattle.history.proofs.KeptLaws.{not_its, update_changes}
+use Rattle.history.proofs.DoesLaws.{stored_in, Does, is_bad, beats, passes, updates, does}
 use Rattle.history.specs.Turn.{BoxFits, Turned}
 use Rattle.history.specs.Machine.{is_numbered, comes_new, taking, is_heartbeat, sequence_number, form_sent, higher}
 

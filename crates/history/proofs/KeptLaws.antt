@@ -24,7 +24,7 @@ use Rattle.slots.specs.SlotsLaws.{cells_by_rows, record_long, slot_inside, slot_
 use Rattle.reading.specs.KeptLaws.{cells_wide}
 use Rattle.history.specs.Updates.{same_slot, slot_of, is_slot, segment_in, item_in, level_in}
 use Rattle.history.specs.Kept.{FitsSlot, RecordHolds, HoldsUpdate}
-use Rattle.history.specs.StoresLaws.{part_first, stored_here, stored_apart}
+use Rattle.history.proofs.StoresLaws.{part_first, stored_here, stored_apart}
 use Rattle.history.specs.Machine.{sequence_number, form_sent, higher}
 
 -- ---- one slot or another

@@ -1,5 +1,5 @@
 -- The calls refine the machine: after every history each call answers what the machine may answer, and leaves what it leaves.
-use Rattle.std.specs.Prelude.{ℕ, ◌*◌, ◌≤◌, ◌<◌, ◌≡◌, refl, List, [], ◌⊎◌}
+use Rattle.std.specs.Prelude.{ℕ, ◌*◌, ◌≤◌, ◌<◌, ◌≡◌, refl, List, []}
 use Rattle.std.proofs.Common.{sym, ◌∙◌}
 use Rattle.std.proofs.Math.Path.{ap, subst}
 use Rattle.std.proofs.Math.Logic.{⊎_elim}
@@ -57,15 +57,15 @@ use Rattle.history.specs.Machine.{Machine, Judges, took_batch, ListsGaps, Writes
 use Rattle.history.specs.Past.{Event, batch_messages, came_in, after_take, after_write_off, off_in, runs_standing, highest_in}
 use Rattle.history.specs.Calls.{Call, start, judge, take, list_gaps, write_off, read_record, write_message, write_spread, no_spreads}
 use Rattle.history.specs.Step.{start_refusal, batch_answer, off_refusal, off_answer, read_answer, read_quote, step}
-use Rattle.history.specs.CallsLaws.{took_list, off_list, judge_promised, list_promised, off_promised, read_promised, write_promised, no_spreads_promised}
+use Rattle.history.proofs.CallsLaws.{took_list, off_list, judge_promised, list_promised, off_promised, read_promised, write_promised, no_spreads_promised}
 use Rattle.reading.specs.Shown.{QuoteFor, shown, blank_for, ReadsItem}
 use Rattle.history.specs.Histories.{Reached}
-use Rattle.history.specs.HoldsLaws.{reached_holds}
-use Rattle.history.specs.ListingLaws.{segment_good, gaps_exactly, runs_answered_lem, runs_refused}
-use Rattle.history.specs.OffLaws.{off_lowest, off_none, only_none}
-use Rattle.history.specs.RecordLaws.{read_newest}
-use Rattle.history.specs.JudgesLaws.{counts, judged_exactly}
-use Rattle.history.specs.MachineLaws.{all_come_lem}
+use Rattle.history.proofs.HoldsLaws.{reached_holds}
+use Rattle.history.proofs.ListingLaws.{segment_good, gaps_exactly, runs_answered_lem, runs_refused}
+use Rattle.history.proofs.OffLaws.{off_lowest, off_none, only_none}
+use Rattle.history.proofs.RecordLaws.{read_newest}
+use Rattle.history.proofs.JudgesLaws.{counts, judged_exactly}
+use Rattle.history.proofs.MachineLaws.{all_come_lem}
 use Rattle.history.specs.Refines.{machine_of, NextCall}
 
 module _ {starts : List ℕ} {lent : Lent} {past : List Event} (r : Reached starts lent past) where

@@ -43,11 +43,11 @@ use Rattle.history.specs.Segment.{Fits}
 use Rattle.reading.specs.Shown.{QuoteFor, shown, blank_for, ReadsItem}
 use Rattle.history.specs.Updates.{item_in}
 use Rattle.history.specs.Histories.{Reached}
-use Rattle.history.specs.HoldsLaws.{reached_holds}
-use Rattle.history.specs.ListingLaws.{fits_here, segment_good}
+use Rattle.history.proofs.HoldsLaws.{reached_holds}
+use Rattle.history.proofs.ListingLaws.{fits_here, segment_good}
 use Rattle.history.specs.Exactly.{FoundNewest, ReadsNewest, no_record, a_record, SameTaken}
-use Rattle.history.specs.RecordLaws.{reads_key}
-use Rattle.history.specs.TakenLaws.{taken_apart, same_held, same_highest, same_newest}
+use Rattle.history.proofs.RecordLaws.{reads_key}
+use Rattle.history.proofs.TakenLaws.{taken_apart, same_held, same_highest, same_newest}
 use Rattle.history.specs.Machine.{held, highest_of, sequence_number, form_sent}
 
 unlike : {m : Message} → some m ≡ none → ⊥

@@ -16,16 +16,16 @@ use Rattle.starting.specs.Start.{start_of}
 use Rattle.batch.proofs.TookLaws.{judged_refused, compared_follows, compared_few, refused_keeps, state_good}
 use Rattle.writer.specs.WriterPromisesLaws.{write_refusal_lem}
 use Rattle.history.specs.Past.{Event, wrote_off_in, taken_of}
-use Rattle.history.specs.SegmentLaws.{takes_new}
+use Rattle.history.proofs.SegmentLaws.{takes_new}
 use Rattle.history.specs.Histories.{Reached}
-use Rattle.history.specs.HoldsLaws.{reached_holds, off_listed}
+use Rattle.history.proofs.HoldsLaws.{reached_holds, off_listed}
 use Rattle.history.specs.Exactly.{SameTaken}
-use Rattle.history.specs.ListingLaws.{gaps_exactly, runs_answered_lem, runs_refused}
-use Rattle.history.specs.OffLaws.{off_lowest, off_none, off_after}
-use Rattle.history.specs.RecordLaws.{reads_slot}
-use Rattle.history.specs.FullLaws.{acts_over}
-use Rattle.history.specs.JudgesLaws.{counts, accepted_exactly, judged_exactly}
-use Rattle.history.specs.AgreeLaws.{listings_agree, records_agree}
+use Rattle.history.proofs.ListingLaws.{gaps_exactly, runs_answered_lem, runs_refused}
+use Rattle.history.proofs.OffLaws.{off_lowest, off_none, off_after}
+use Rattle.history.proofs.RecordLaws.{reads_slot}
+use Rattle.history.proofs.FullLaws.{acts_over}
+use Rattle.history.proofs.JudgesLaws.{counts, accepted_exactly, judged_exactly}
+use Rattle.history.proofs.AgreeLaws.{listings_agree, records_agree}
 use Rattle.history.specs.Demands.{AfterCalls, CompareAlike, Agree, RefusalsKeep, AcceptedLeave}
 
 module _ {starts : List ℕ} {lent : Lent} {past : List Event} (r : Reached starts lent past) where

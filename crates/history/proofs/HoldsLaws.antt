@@ -46,11 +46,11 @@ use Rattle.state.specs.StateLaws.{is_some_lem, letter_listed}
 use Rattle.batch.proofs.TookLaws.{refused_keeps, state_good}
 use Rattle.history.specs.Past.{Event, came, off, all_came, came_in, off_in, batch_messages, taken_of, wrote_off_in, after_take, after_write_off}
 use Rattle.history.specs.Segment.{Fits}
-use Rattle.history.specs.SegmentLaws.{fits_begun, fits_off}
+use Rattle.history.proofs.SegmentLaws.{fits_begun, fits_off}
 use Rattle.history.specs.Turn.{BoxFits, Turned}
-use Rattle.history.specs.TurnLaws.{messages_turn}
+use Rattle.history.proofs.TurnLaws.{messages_turn}
 use Rattle.history.specs.Histories.{Reached}
-use Rattle.history.specs.HistoriesLaws.{by_steps}
+use Rattle.history.proofs.HistoriesLaws.{by_steps}
 use Rattle.history.specs.Holds.{Holds}
 
 -- ---- a start

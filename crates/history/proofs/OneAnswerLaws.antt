@@ -39,11 +39,11 @@ use Rattle.history.specs.Calls.{Call, Answer}
 use Rattle.history.specs.Step.{step}
 use Rattle.history.specs.Past.{Event}
 use Rattle.history.specs.Histories.{Reached}
-use Rattle.history.specs.HoldsLaws.{reached_holds}
+use Rattle.history.proofs.HoldsLaws.{reached_holds}
 use Rattle.history.specs.Refines.{machine_of}
-use Rattle.history.specs.RefinesLaws.{refines}
+use Rattle.history.proofs.RefinesLaws.{refines}
 use Rattle.state.specs.Memory.{Lent}
-use Rattle.history.specs.JudgesLaws.{one_broken, one_judges}
+use Rattle.history.proofs.JudgesLaws.{one_broken, one_judges}
 use Rattle.history.specs.Machine as machine
 use Rattle.history.specs.Machine.{Machine, runs_there, NamesExactly, LowestRun, highest, is_missing, standing, written_off, took_batch, AsksFor, answer_for, quote_beside_it, ListsGaps, WritesOff, Reads, Starts, Answers}
 

@@ -31,8 +31,8 @@ use Rattle.starting.specs.Start.{start_of}
 use Rattle.history.specs.Past.{Event, after_write_off, off_in, wrote_off_in, taken_of, missing_in}
 use Rattle.history.specs.Segment.{Fits}
 use Rattle.history.specs.Histories.{Reached}
-use Rattle.history.specs.HoldsLaws.{reached_holds, off_answer_lem}
-use Rattle.history.specs.ListingLaws.{segment_good, fits_here}
+use Rattle.history.proofs.HoldsLaws.{reached_holds, off_answer_lem}
+use Rattle.history.proofs.ListingLaws.{segment_good, fits_here}
 use Rattle.history.specs.Machine.{LowestRun}
 
 -- no run is there exactly when the lowest is none

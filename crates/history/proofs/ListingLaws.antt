@@ -33,9 +33,9 @@ use Rattle.state.specs.declared.refusal.Refusal.{Refusal}
 use Rattle.state.specs.declared.refusal.Refusal.TheVariants.{Memory}
 use Rattle.history.specs.Past.{Event, wrote_off_in, taken_of, highest_in, runs_standing}
 use Rattle.history.specs.Segment.{Fits}
-use Rattle.history.specs.SegmentLaws.{fits_standing}
+use Rattle.history.proofs.SegmentLaws.{fits_standing}
 use Rattle.history.specs.Histories.{Reached}
-use Rattle.history.specs.HoldsLaws.{reached_holds}
+use Rattle.history.proofs.HoldsLaws.{reached_holds}
 use Rattle.history.specs.Exactly.{NamesMissing}
 use Rattle.history.specs.Machine.{runs_there}
 

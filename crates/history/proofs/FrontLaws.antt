@@ -75,7 +75,7 @@ use Rattle.starting.specs.StartLaws.{started_lengths}
 use Rattle.reading.specs.Shown.{QuoteFor, shown, blank_for}
 use Rattle.history.specs.Calls.{started, judged, took, listed, wrote_off as off_told, read, Answer, Call, start, judge, take as taking, list_gaps, write_off, read_record, write_message, write_spread, no_spreads, with_lists}
 use Rattle.history.specs.Step.{start_answer, batch_answer, list_refusal, list_answer, off_refusal, removed, read_refusal, record_answer, read_answer, read_quote, step}
-use Rattle.history.specs.TurnLaws.{took_box, old_box}
+use Rattle.history.proofs.TurnLaws.{took_box, old_box}
 use Rattle.history.specs.Front.{front_of, Enough, handed, SameFront, SameOutcome}
 
 -- ---- numbers stored in a front

@@ -8,21 +8,21 @@ use Rattle.forms.specs.declared.rows.Level.TheVariants.{One, Two}
 use Rattle.state.specs.Memory.{Lent, lends}
 use Rattle.hosted.specs.HostCalls as calls
 use Rattle.hosted.specs.HostCalls.{host_step}
-use Rattle.hosted.specs.HostCallsLaws.{gives, in_lists, start_says, judge_says, take_says, list_says, off_says, read_says, write_says, no_spreads_says}
+use Rattle.hosted.proofs.HostCallsLaws.{gives, in_lists, start_says, judge_says, take_says, list_says, off_says, read_says, write_says, no_spreads_says}
 use Rattle.host.proofs.quotebox_start.Reads as start
 use Rattle.host.proofs.quotebox_judge.Reads as judge
 use Rattle.host.proofs.quotebox_take.Reads as take
-use Rattle.host.proofs.quotebox_list_gaps.Reads as list-gaps
-use Rattle.host.proofs.quotebox_write_off.Reads as write-off
-use Rattle.host.proofs.quotebox_read_level1.Reads as read-level1
-use Rattle.host.proofs.quotebox_read_level2.Reads as read-level2
-use Rattle.host.proofs.quotebox_write_level1.Reads as write-level1
-use Rattle.host.proofs.quotebox_write_level2.Reads as write-level2
-use Rattle.host.proofs.quotebox_read_spread1.Reads as read-spread1
-use Rattle.host.proofs.quotebox_read_spread2.Reads as read-spread2
-use Rattle.host.proofs.quotebox_write_spread1.Reads as write-spread1
-use Rattle.host.proofs.quotebox_write_spread2.Reads as write-spread2
-use Rattle.host.proofs.quotebox_no_spreads.Reads as no_spreads_lem
+use Rattle.host.proofs.quotebox_list_gaps.Reads as list_gaps
+use Rattle.host.proofs.quotebox_write_off.Reads as write_off
+use Rattle.host.proofs.quotebox_read_level1.Reads as read_level1
+use Rattle.host.proofs.quotebox_read_level2.Reads as read_level2
+use Rattle.host.proofs.quotebox_write_level1.Reads as write_level1
+use Rattle.host.proofs.quotebox_write_level2.Reads as write_level2
+use Rattle.host.proofs.quotebox_read_spread1.Reads as read_spread1
+use Rattle.host.proofs.quotebox_read_spread2.Reads as read_spread2
+use Rattle.host.proofs.quotebox_write_spread1.Reads as write_spread1
+use Rattle.host.proofs.quotebox_write_spread2.Reads as write_spread2
+use Rattle.host.proofs.quotebox_no_spreads.Reads as no_spreads
 
 -- whatever lists were in use before
 start_steps : (κs : Lfts 6) (a : _) (r x : _) (before : Lists) → start.Post κs a r x
@@ -40,58 +40,58 @@ take_steps : (κs : Lfts 6) (a : _) (r x : _) → take.Post κs a r x
     ≡ gives r x.1.1.1.1.1.0.now [] (lends (lists a.0.now a.1.0.now) x.1.1.0.now x.1.1.1.0.now)
 take_steps κs a r x p = (take_says _ _ r _ _).0 p
 
-list_gaps_steps : (κs : Lfts 6) (a : _) (r x : _) → list-gaps.Post κs a r x
+list_gaps_steps : (κs : Lfts 6) (a : _) (r x : _) → list_gaps.Post κs a r x
     → host_step (lends (lists a.0.now a.1.0.now) a.1.1.0.now a.1.1.1.0.now) (calls.list_gaps a.1.1.1.1.0 a.1.1.1.1.1.0.now)
     ≡ gives r x.1.1.1.1.1.1.0.now x.1.1.1.1.1.0.now (lends (lists a.0.now a.1.0.now) a.1.1.0.now a.1.1.1.0.now)
 list_gaps_steps κs a r x p = (list_says _ _ _ r _ _).0 p
 
-write_off_steps : (κs : Lfts 5) (a : _) (r x : _) → write-off.Post κs a r x
+write_off_steps : (κs : Lfts 5) (a : _) (r x : _) → write_off.Post κs a r x
     → host_step (lends (lists a.0.now a.1.0.now) a.1.1.0.now a.1.1.1.0.now) (calls.write_off a.1.1.1.1.0)
     ≡ gives r x.1.1.1.1.1.0.now [] (lends (lists a.0.now a.1.0.now) x.1.1.0.now a.1.1.1.0.now)
 write_off_steps κs a r x p = (off_says _ _ r _ _).0 p
 
-read_level1_steps : (κs : Lfts 7) (a : _) (r x : _) → read-level1.Post κs a r x
+read_level1_steps : (κs : Lfts 7) (a : _) (r x : _) → read_level1.Post κs a r x
     → host_step (lends (lists a.0.now a.1.0.now) a.1.1.0.now a.1.1.1.0.now) (calls.read Contract One a.1.1.1.1.0 a.1.1.1.1.1.0.now a.1.1.1.1.1.1.0.now)
     ≡ gives r x.1.1.1.1.1.1.1.0.now x.1.1.1.1.1.1.0.now (lends (lists a.0.now a.1.0.now) a.1.1.0.now a.1.1.1.0.now)
 read_level1_steps κs a r x p = (read_says _ Contract _ _ _ _ r _ _).0 p
 
-read_level2_steps : (κs : Lfts 7) (a : _) (r x : _) → read-level2.Post κs a r x
+read_level2_steps : (κs : Lfts 7) (a : _) (r x : _) → read_level2.Post κs a r x
     → host_step (lends (lists a.0.now a.1.0.now) a.1.1.0.now a.1.1.1.0.now) (calls.read Contract Two a.1.1.1.1.0 a.1.1.1.1.1.0.now a.1.1.1.1.1.1.0.now)
     ≡ gives r x.1.1.1.1.1.1.1.0.now x.1.1.1.1.1.1.0.now (lends (lists a.0.now a.1.0.now) a.1.1.0.now a.1.1.1.0.now)
 read_level2_steps κs a r x p = (read_says _ Contract _ _ _ _ r _ _).0 p
 
-read_spread1_steps : (κs : Lfts 7) (a : _) (r x : _) → read-spread1.Post κs a r x
+read_spread1_steps : (κs : Lfts 7) (a : _) (r x : _) → read_spread1.Post κs a r x
     → host_step (lends (lists a.0.now a.1.0.now) a.1.1.0.now a.1.1.1.0.now) (calls.read Pair One a.1.1.1.1.0 a.1.1.1.1.1.0.now a.1.1.1.1.1.1.0.now)
     ≡ gives r x.1.1.1.1.1.1.1.0.now x.1.1.1.1.1.1.0.now (lends (lists a.0.now a.1.0.now) a.1.1.0.now a.1.1.1.0.now)
 read_spread1_steps κs a r x p = (read_says _ Pair _ _ _ _ r _ _).0 p
 
-read_spread2_steps : (κs : Lfts 7) (a : _) (r x : _) → read-spread2.Post κs a r x
+read_spread2_steps : (κs : Lfts 7) (a : _) (r x : _) → read_spread2.Post κs a r x
     → host_step (lends (lists a.0.now a.1.0.now) a.1.1.0.now a.1.1.1.0.now) (calls.read Pair Two a.1.1.1.1.0 a.1.1.1.1.1.0.now a.1.1.1.1.1.1.0.now)
     ≡ gives r x.1.1.1.1.1.1.1.0.now x.1.1.1.1.1.1.0.now (lends (lists a.0.now a.1.0.now) a.1.1.0.now a.1.1.1.0.now)
 read_spread2_steps κs a r x p = (read_says _ Pair _ _ _ _ r _ _).0 p
 
 -- whatever memory the box has
-write_level1_steps : (κs : Lfts 5) (a : _) (r x : _) (lent : Lent) → write-level1.Post κs a r x
+write_level1_steps : (κs : Lfts 5) (a : _) (r x : _) (lent : Lent) → write_level1.Post κs a r x
     → host_step lent (calls.write Contract One a.0.now a.1.0 a.1.1.0.now a.1.1.1.0.now a.1.1.1.1.0.now)
     ≡ gives r x.1.1.1.1.1.0.now x.1.1.1.1.0.now lent
 write_level1_steps κs a r x lent p = (write_says lent Contract _ _ _ _ _ _ r _ _).0 p
 
-write_level2_steps : (κs : Lfts 5) (a : _) (r x : _) (lent : Lent) → write-level2.Post κs a r x
+write_level2_steps : (κs : Lfts 5) (a : _) (r x : _) (lent : Lent) → write_level2.Post κs a r x
     → host_step lent (calls.write Contract Two a.0.now a.1.0 a.1.1.0.now a.1.1.1.0.now a.1.1.1.1.0.now)
     ≡ gives r x.1.1.1.1.1.0.now x.1.1.1.1.0.now lent
 write_level2_steps κs a r x lent p = (write_says lent Contract _ _ _ _ _ _ r _ _).0 p
 
-write_spread1_steps : (κs : Lfts 5) (a : _) (r x : _) (lent : Lent) → write-spread1.Post κs a r x
+write_spread1_steps : (κs : Lfts 5) (a : _) (r x : _) (lent : Lent) → write_spread1.Post κs a r x
     → host_step lent (calls.write Pair One a.0.now a.1.0 a.1.1.0.now a.1.1.1.0.now a.1.1.1.1.0.now)
     ≡ gives r x.1.1.1.1.1.0.now x.1.1.1.1.0.now lent
 write_spread1_steps κs a r x lent p = (write_says lent Pair _ _ _ _ _ _ r _ _).0 p
 
-write_spread2_steps : (κs : Lfts 5) (a : _) (r x : _) (lent : Lent) → write-spread2.Post κs a r x
+write_spread2_steps : (κs : Lfts 5) (a : _) (r x : _) (lent : Lent) → write_spread2.Post κs a r x
     → host_step lent (calls.write Pair Two a.0.now a.1.0 a.1.1.0.now a.1.1.1.0.now a.1.1.1.1.0.now)
     ≡ gives r x.1.1.1.1.1.0.now x.1.1.1.1.0.now lent
 write_spread2_steps κs a r x lent p = (write_says lent Pair _ _ _ _ _ _ r _ _).0 p
 
-no_spreads_steps : (κs : Lfts 3) (a : _) (r x : _) (lent : Lent) → no_spreads_lem.Post κs a r x
+no_spreads_steps : (κs : Lfts 3) (a : _) (r x : _) (lent : Lent) → no_spreads.Post κs a r x
     → host_step lent (calls.no_spreads a.0.now a.1.0.now)
     ≡ gives r x.1.1.0.now x.1.0.now lent
 no_spreads_steps κs a r x lent p = (no_spreads_says lent _ _ r _ _).0 p

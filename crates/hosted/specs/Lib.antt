@@ -1,16 +1,5 @@
-pub mod AlikeLaws
-pub mod HostAgreeLaws
 pub mod HostCalls
-pub mod HostCallsLaws
 pub mod HostDemands
-pub mod HostDemandsLaws
-pub mod HostFieldsLaws
-pub mod HostHistoriesLaws
 pub mod HostItems
-pub mod HostItemsLaws
 pub mod HostReadBack
-pub mod HostReadBackLaws
-pub mod HostToldLaws
 pub mod HostValues
-pub mod HostValuesLaws
-pub mod ValuesBackLaws

@@ -15,7 +15,7 @@ use Rattle.history.specs.Past.{Event, after_take, after_write_off}
 use Rattle.host.specs.Promises.{HostStarted, HostTook, HostWroteOff}
 use Rattle.told.specs.Told.{Tells}
 use Rattle.hosted.specs.HostCalls.{HostCall, start, judge, take, list_gaps, write_off, read, write, no_spreads, HostMade, own, elsewhere, made_of, HostReached}
-use Rattle.hosted.specs.HostToldLaws.{is_refused}
+use Rattle.hosted.proofs.HostToldLaws.{is_refused}
 
 pub host_reached : {starts : List ℕ} {lent : Lent} {past : List Event} → HostReached starts lent past → Reached starts lent past
 host_reached r = record { memory = r.memory; calls = map made_of r.calls; reaches = r.reaches }

@@ -48,10 +48,10 @@ use Rattle.host.specs.Promises.{HostJudged, HostTook, HostListed, HostWroteOff, 
 use Rattle.told.specs.Shown.{values_after}
 use Rattle.told.specs.Told.{told_of, Tells, record_numbers}
 use Rattle.hosted.specs.HostCalls.{HostReached}
-use Rattle.hosted.specs.HostHistoriesLaws.{host_reached}
+use Rattle.hosted.proofs.HostHistoriesLaws.{host_reached}
 use Rattle.hosted.specs.HostItems.{values_for, laid_from, HostReadItem}
-use Rattle.hosted.specs.HostItemsLaws.{item_put}
-use Rattle.hosted.specs.HostToldLaws.{which_refusal, is_refused, batch_refused, reached_told_lem, keys_told}
+use Rattle.hosted.proofs.HostItemsLaws.{item_put}
+use Rattle.hosted.proofs.HostToldLaws.{which_refusal, is_refused, batch_refused, reached_told_lem, keys_told}
 use Rattle.hosted.specs.HostDemands.{GivesFour, Gives, reached_told, TellsKeys, ListsMissing, TellsLowest, a_run, no_run, TellsNewest, no_record, a_record, TellsCounts, AfterHostCalls, IsRefused, HostRefusalsKeep, HostAcceptedLeave}
 use Rattle.history.specs.Machine.{sequence_number, form_sent}
 

@@ -17,12 +17,12 @@ use Rattle.hosted.specs.HostItems.{values_for, HostReadItem}
 use Rattle.hosted.specs.HostCalls.{HostReached}
 use Rattle.hosted.specs.HostDemands as demands
 use Rattle.hosted.specs.HostDemands.{TellsNewest}
-use Rattle.hosted.specs.HostDemandsLaws.{after_host_calls}
-use Rattle.hosted.specs.HostHistoriesLaws.{host_reached}
+use Rattle.hosted.proofs.HostDemandsLaws.{after_host_calls}
+use Rattle.hosted.proofs.HostHistoriesLaws.{host_reached}
 use Rattle.history.proofs.SentLaws.{taken_from, own_slot}
 use Rattle.history.specs.Histories.{batches_of}
 use Rattle.hosted.specs.HostValues.{ValuesSay, TellsFields, no_record, a_record}
-use Rattle.hosted.specs.HostValuesLaws.{host_values_say}
+use Rattle.hosted.proofs.HostValuesLaws.{host_values_say}
 use Rattle.history.specs.Machine.{sequence_number, form_sent}
 
 pub host_tells_fields : {starts : List ℕ} {lent : Lent} {past : List Event} (reached : HostReached starts lent past) (slot : Slot) → SlotListed lent.lists slot

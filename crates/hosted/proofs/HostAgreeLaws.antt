@@ -30,11 +30,11 @@ use Rattle.reading.specs.Shown.{QuoteFor}
 use Rattle.told.specs.Shown.{values_after}
 use Rattle.told.specs.Told.{record_numbers}
 use Rattle.told.specs.ToldLaws.{told_once}
-use Rattle.hosted.specs.AlikeLaws.{batches_alike}
+use Rattle.hosted.proofs.AlikeLaws.{batches_alike}
 use Rattle.hosted.specs.HostCalls.{HostReached}
 use Rattle.hosted.specs.HostItems.{values_for}
 use Rattle.hosted.specs.HostDemands.{HostAgree}
-use Rattle.hosted.specs.HostHistoriesLaws.{host_reached}
+use Rattle.hosted.proofs.HostHistoriesLaws.{host_reached}
 
 module _ {lists : Lists} {rows records rows' records' starts starts' : List ℕ} {past past' : List Event}
     (r : Reached starts (lends lists rows records) past) (r' : Reached starts' (lends lists rows' records') past') (same : SameTaken lists starts past lists starts' past') where

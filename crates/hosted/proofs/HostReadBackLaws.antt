@@ -49,10 +49,10 @@ use Rattle.told.specs.Shown.{values_in_front, values_after, value_count}
 use Rattle.told.specs.Told.{Tells, record_numbers}
 use Rattle.hosted.specs.HostDemands.{GivesFour, Gives}
 use Rattle.hosted.specs.HostItems.{values_for, quote_held, laid_from, HostReadItem, HostWroteItem}
-use Rattle.hosted.specs.HostItemsLaws.{item_put, front_number}
-use Rattle.hosted.specs.HostToldLaws.{is_refused, batch_refused}
+use Rattle.hosted.proofs.HostItemsLaws.{item_put, front_number}
+use Rattle.hosted.proofs.HostToldLaws.{is_refused, batch_refused}
 use Rattle.hosted.specs.HostReadBack.{letter_for, UpdatesRecord, rows_in, GivesOne, ReadsOlder, HostReadsBack}
-use Rattle.hosted.specs.ValuesBackLaws.{values_seen, spread_values_seen}
+use Rattle.hosted.proofs.ValuesBackLaws.{values_seen, spread_values_seen}
 
 -- ---- the record before
 

@@ -38,10 +38,10 @@ use Rattle.reading.specs.ReadRules.{record_rules}
 use Rattle.reading.specs.Record.{record_of_key, record_number, record_session, record_values}
 use Rattle.values.specs.Values.{most, value_rows, quote_in}
 use Rattle.written.specs.ReadBack.{batch_of, WritesUpdate, InNormalMarket, seen_for, counted_as, ReadsBack}
-use Rattle.written.specs.ReadBackLaws.{market_updates, numbered, reads_back}
-use Rattle.written.specs.ReadBackStepsLaws.{count_one, data_is}
+use Rattle.written.proofs.ReadBackLaws.{market_updates, numbered, reads_back}
+use Rattle.written.proofs.ReadBackStepsLaws.{count_one, data_is}
 use Rattle.written.specs.WrittenFieldsLaws.{segment_written}
-use Rattle.written.specs.WrittenUpdateLaws.{written, rows_good, message_there, written_short, form_is, number_is, key_is, acts_as_lem}
+use Rattle.written.proofs.WrittenUpdateLaws.{written, rows_good, message_there, written_short, form_is, number_is, key_is, acts_as_lem}
 use Rattle.history.proofs.DemandsLaws.{took_judged}
 use Rattle.reading.specs.Shown.{QuoteFor}
 use Rattle.host.specs.Promises.{HostTook, code_of}

@@ -1,14 +1,7 @@
 pub mod Heartbeats
-pub mod HeartbeatsLaws
 pub mod ReadBack
-pub mod ReadBackLaws
-pub mod ReadBackStepsLaws
 pub mod WrittenCases
 pub mod WrittenFieldsLaws
 pub mod WrittenFormLaws
 pub mod WrittenRefusals
-pub mod WrittenRefusalsLaws
-pub mod WrittenRowsLaws
 pub mod WrittenShortest
-pub mod WrittenShortestLaws
-pub mod WrittenUpdateLaws

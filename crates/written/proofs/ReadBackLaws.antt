@@ -62,10 +62,10 @@ use Rattle.state.specs.State.{segment_rules}
 use Rattle.batch.proofs.TookLaws.{state_good}
 use Rattle.writer.specs.WriterPromises.{WroteValues, WroteMessage, WroteSpread}
 use Rattle.written.specs.ReadBack.{batch_of, WritesUpdate, InNormalMarket, seen_for, counted_as, Counts, ReadsAs, ReadsBack, PassesOver}
-use Rattle.written.specs.ReadBackStepsLaws.{counted, left_taken, left_old, number_stored, cells_stored, length_stored}
+use Rattle.written.proofs.ReadBackStepsLaws.{counted, left_taken, left_old, number_stored, cells_stored, length_stored}
 use Rattle.written.specs.WrittenFieldsLaws.{segment_written}
-use Rattle.written.specs.WrittenRowsLaws.{market_row}
-use Rattle.written.specs.WrittenUpdateLaws.{written, rows_good, number_fits, form_is, market_there, keys_are, no_keys, passed_is, message_is}
+use Rattle.written.proofs.WrittenRowsLaws.{market_row}
+use Rattle.written.proofs.WrittenUpdateLaws.{written, rows_good, number_fits, form_is, market_there, keys_are, no_keys, passed_is, message_is}
 
 -- the record of a listed contract or pair may be asked for, and lies in the records lent
 module _ (item : Item) (lent : Lent) (state : GoodState lent) (letter : ℕ) (key : List ℕ) (place : ℕ) (listed : key_place item lent.lists letter key ≡ some place) where

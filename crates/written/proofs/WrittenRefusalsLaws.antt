@@ -36,7 +36,7 @@ use Rattle.writer.specs.Writer.{values_written, data_written, rows_rules, length
 use Rattle.writer.specs.Chosen.{form_written, in_table, numbered}
 use Rattle.writer.specs.WriterPromises.{WroteValues}
 use Rattle.written.specs.WrittenRefusals.{Value, MalformedAt, OutOfRangeAt, AllFine, First}
-use Rattle.written.specs.WrittenRowsLaws.{Given, field_exact, range_exact, fine_exact}
+use Rattle.written.proofs.WrittenRowsLaws.{Given, field_exact, range_exact, fine_exact}
 
 -- ---- the verdict on the rows
 

@@ -29,8 +29,8 @@ use Rattle.writer.specs.Writer.{message_bytes}
 use Rattle.writer.specs.WriterPromises.{WroteValues}
 use Rattle.written.specs.Heartbeats.{WritesHeartbeat, OneHeartbeat}
 use Rattle.written.specs.ReadBack.{batch_of}
-use Rattle.written.specs.ReadBackStepsLaws.{letter_is, batch_acts_lem, batch_keys}
-use Rattle.written.specs.WrittenUpdateLaws.{number_fits, message_there, heartbeat_is, heartbeat_keys}
+use Rattle.written.proofs.ReadBackStepsLaws.{letter_is, batch_acts_lem, batch_keys}
+use Rattle.written.proofs.WrittenUpdateLaws.{number_fits, message_there, heartbeat_is, heartbeat_keys}
 
 -- 01 "The message": DH and TH; M-104: FH
 pub heartbeats_chosen : (level : Level)

@@ -48,7 +48,7 @@ use Rattle.writer.specs.Chosen.{form_written}
 use Rattle.writer.specs.WriterPromises.{WroteValues}
 use Rattle.written.specs.ReadBack.{batch_of, counted_as, Counts}
 use Rattle.written.specs.WrittenFieldsLaws.{segment_written}
-use Rattle.written.specs.WrittenUpdateLaws.{written, message_there, all_of_it, written_short}
+use Rattle.written.proofs.WrittenUpdateLaws.{written, message_there, all_of_it, written_short}
 
 -- ---- the batch
 

@@ -59,7 +59,7 @@ use Rattle.writer.specs.WriterPromises.{WroteValues}
 use Rattle.writer.specs.WriterPromisesLaws.{written_good, message_in_front}
 use Rattle.written.specs.WrittenFieldsLaws.{letter_written, segment_written, second_written, number_written, length_written_lem, data_written_lem, form_written_lem, sum_written_lem, end_written, field_written}
 use Rattle.written.specs.WrittenFormLaws.{form_told_lem, is_code_lem}
-use Rattle.written.specs.WrittenRowsLaws.{market_row}
+use Rattle.written.proofs.WrittenRowsLaws.{market_row}
 
 module _ (item : Item) (code : Code) (level : Level) (number : ℕ) (key : List ℕ) (values : Form → List ℕ) (out out' : List ℕ) (n : ℕ)
     (form : Form) (chose : form_written item code level ≡ chosen.Form form) (wrote : WroteValues item code level number key values out (Written.Message n) out')

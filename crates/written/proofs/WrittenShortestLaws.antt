@@ -1,7 +1,7 @@
 -- Every number of a written message stands in its field as the shortest text.
 use Rattle.std.specs.Prelude.{ℕ, ◌-◌, ◌≤◌, ◌<◌, ◌≡◌, refl, Bool, true, false, List, eqb, length, take}
 use Rattle.std.proofs.Common.{ap, sym, ◌∙◌, ⊎_elim, arith, lit<}
-use Rattle.laws.specs.Order.{order, same}
+use Rattle.laws.specs.Order.{order}
 use Rattle.decimal.specs.declared.Kind.{Kind}
 use Rattle.decimal.specs.Kinds.{price, quantity, turnover, difference}
 use Rattle.decimal.specs.Denotes.{below_zero}
@@ -31,8 +31,8 @@ use Rattle.writer.specs.Chosen.{form_written}
 use Rattle.writer.specs.WriterPromises.{WroteValues}
 use Rattle.written.specs.WrittenFieldsLaws.{field_written}
 use Rattle.written.specs.WrittenRefusals.{Value, letter, nothing, amount, value_at, part_at}
-use Rattle.written.specs.WrittenRowsLaws.{held_of, plain_in, Given, Refuses, held_exact, far, unsigned}
-use Rattle.written.specs.WrittenUpdateLaws.{rows_good, data_there}
+use Rattle.written.proofs.WrittenRowsLaws.{held_of, plain_in, Given, Refuses, held_exact, far, unsigned}
+use Rattle.written.proofs.WrittenUpdateLaws.{rows_good, data_there}
 use Rattle.written.specs.WrittenShortest.{Shortest, FieldOf, NumberField}
 
 -- ---- the field of a number

@@ -1,3 +1,4 @@
--- What the walks of this crate share, and what its contracts settle.
-mod Cited
+-- From the array of runs to the lent row, what is answered where too few are lent, and what the contracts of the calls settle.
+pub mod LentLaws
 mod Once
+pub mod TooFew

@@ -1,6 +1,6 @@
 -- Against the contracts that the check makes of the source: each public call takes any input; and what it answers, and every cell lent to it to be written, follows from what it is handed.
--- The calls are walked by hand, so the check makes no `Reads` of them: all this is said of their clauses, in the logic that these are written in, whatever its model.
-use mathlib.Core.Path.{◌≡◌}
+-- All this is said of their clauses, in the logic that these are written in, whatever its model.
+use Rattle.std.proofs.Common.{◌≡◌}
 use seplogic.Ra.Ura.{Ura}
 use base.Logic.{SProp, ent, emp, id⊢}
 use prog.Memory.{Memory}

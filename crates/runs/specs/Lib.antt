@@ -1,6 +1,5 @@
 pub mod ArrayLaws
 pub mod FrontLaws
-pub mod LentLaws
 pub mod Promises
 pub mod PromisesLaws
 pub mod Wanted

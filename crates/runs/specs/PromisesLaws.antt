@@ -1,12 +1,9 @@
--- What the promises over a lent row of runs settle: one outcome, a refusal that changes no run, 15 with the runs wanted, and else the
--- answer of the call over numbers, so that what is known of that call is known of this one.
-use Rattle.std.specs.Prelude.{ℕ, ◌*◌, ◌≤◌, ◌<◌, ◌≡◌, refl, false, List, [], ◌∷◌, ◌++◌, eqb, length, get_or}
-use Rattle.std.proofs.Common.{ap, sym, ◌∙◌, subst, arith}
-use Rattle.std.proofs.Math.Option.{Option, none, some}
-use Rattle.std.proofs.lemmas.Bool.{lt-leb}
-use Rattle.laws.specs.Rules.{first_broken}
-use Rattle.laws.specs.RulesLaws.{unlike, front_broken}
-use Rattle.files.specs.File.{segments_of}
+-- What the promises over a lent row of runs settle: one outcome, a refusal that changes no run, 15 with the runs wanted
+-- (proofs/TooFew), and else the answer of the call over numbers, so that what is known of that call is known of this one.
+use Rattle.std.specs.Prelude.{ℕ, ◌≤◌, ◌≡◌, refl, false, List, [], ◌∷◌, eqb, length, get_or}
+use Rattle.std.proofs.Common.{ap, sym, ◌∙◌, subst}
+use Rattle.std.proofs.Math.Option.{none, some}
+use Rattle.laws.specs.RulesLaws.{unlike}
 use Rattle.forms.specs.declared.rows.Level.{Level}
 use Rattle.state.specs.declared.answers.Started.{Started}
 use Rattle.state.specs.declared.answers.Judged.{Judged}
@@ -17,34 +14,25 @@ use Rattle.forms.specs.declared.forms.Form.{Form}
 use Rattle.forms.specs.declared.forms.Item.{Item}
 use Rattle.pairs.specs.Lists.{Lists}
 use Rattle.state.specs.declared.refusal.Refusal.{Refusal}
-use Rattle.state.specs.declared.refusal.Refusal.TheVariants.{Memory}
-use Rattle.state.specs.Answers.{started_numbers, judged_numbers, listed_numbers, written_off_numbers, recorded_numbers, answered}
-use Rattle.batch.specs.Batch.{batch_rules}
-use Rattle.batch.specs.Acts.{batch_numbers}
+use Rattle.state.specs.Answers.{started_numbers, judged_numbers, listed_numbers, written_off_numbers, recorded_numbers}
 use Rattle.state.specs.AnswersLaws.{started_told, judged_told, listed_told, written_off_told, recorded_told, refused_by_lem}
-use Rattle.listing.specs.ListRules.{list_rules, write_off_rules}
-use Rattle.reading.specs.ReadRules.{record_rules}
 use Rattle.starting.specs.StartPromises.{StartedBox}
 use Rattle.listing.specs.ListPromises.{ListedRuns, WroteOffRun}
 use Rattle.reading.specs.Reads.{ReadsFor}
 use Rattle.starting.specs.StartPromisesLaws.{one_started, start_refusal_lem}
 use Rattle.listing.specs.ListPromisesLaws.{one_listed, one_written_off, list_refusal_lem, off_refusal_lem}
 use Rattle.reading.specs.ReadsLaws.{one_read}
-use Rattle.state.specs.Memory.{Lent, lends, gap_rows_wanted}
-use Rattle.state.specs.State.{state_rules, memory_rules, segment_rules}
+use Rattle.state.specs.Memory.{Lent, lends}
 use Rattle.batch.specs.Promises.{JudgedBatch, TookBatch}
-use Rattle.state.specs.Refusals.{Rule, refusal_numbers}
+use Rattle.state.specs.Refusals.{refusal_numbers}
 use Rattle.state.specs.RefusalsLaws.{never_behind}
-use Rattle.starting.specs.StartLaws.{memory_decides}
-use Rattle.state.specs.StateLaws.{state_broken}
 use Rattle.batch.proofs.TookLaws.{one_judged, one_took, refused_keeps}
 use Rattle.copies.specs.declared.run.Run.{Run}
 use Rattle.copies.specs.Rows.{flat}
 use Rattle.runs.specs.Wanted.{runs_wanted, in_runs}
-use Rattle.runs.specs.WantedLaws.{in_runs_short, in_runs_enough, in_runs_other, in_runs_first}
-use Rattle.copies.specs.FlatLaws.{length_flat, flat_told}
-use Rattle.batch.specs.BatchLaws.{front_numbers}
-use Rattle.runs.specs.Promises.{Over, StartedRuns, JudgedRuns, TookRuns, ListedGaps, WroteOffRuns, ReadsRuns, HeadersPass, UpToMemory}
+use Rattle.runs.specs.WantedLaws.{in_runs_enough, in_runs_other, in_runs_first}
+use Rattle.copies.specs.FlatLaws.{flat_told}
+use Rattle.runs.specs.Promises.{Over, StartedRuns, JudgedRuns, TookRuns, ListedGaps, WroteOffRuns, ReadsRuns}
 
 -- ---- one outcome
 
@@ -162,42 +150,3 @@ wrote_off_refused {lists} {records} {rows} {rows'} {letter} r p = go p.core p.pr
     go : (core : WrittenOff) → WroteOffRun (lends lists (flat rows) records) letter core (lends lists (flat rows') records) → refusal_numbers r ≡ in_runs lists.contracts (length rows) (written_off_numbers core) → rows' ≡ rows
     go (WrittenOff.Removed first last) q e = absurd (unlike (sym (accepted_never lists (length rows) r (first ∷ last ∷ []) e)))
     go (WrittenOff.Refused s) q e = (left_told rows' rows (off_refusal_lem s q).1).0
-
--- ---- too few runs
-
-module _ (lists : Lists) (rows : List Run) (short : length rows < runs_wanted lists.contracts) where
-  told_short : {told numbers : List ℕ} (behind : List ℕ) → told ≡ in_runs lists.contracts (length rows) numbers → numbers ≡ refusal_numbers (Memory (gap_rows_wanted lists)) ++ behind
-      → told ≡ refusal_numbers (Memory (runs_wanted lists.contracts)) ++ behind
-  told_short behind e n = e ∙ ap (in_runs lists.contracts (length rows)) n ∙ in_runs_short lists.contracts (length rows) (gap_rows_wanted lists) behind short
-
-  few : length (flat rows) < gap_rows_wanted lists
-  few = omega (arith, length_flat rows)
-
-  memory_short : (records : ℕ) → first_broken (memory_rules lists (length (flat rows)) records) ≡ some (Memory (gap_rows_wanted lists))
-  memory_short records = rw (lt-leb (gap_rows_wanted lists) (length (flat rows)) few)
-
-  module _ (headers : HeadersPass lists) (records : List ℕ) where
-    state_short : first_broken (state_rules (lends lists (flat rows) records)) ≡ some (Memory (gap_rows_wanted lists))
-    state_short = rw (headers.0, headers.1, lt-leb (gap_rows_wanted lists) (length (flat rows)) few)
-
-    batch_short : (batch : List ℕ) → batch_numbers (lends lists (flat rows) records) batch ≡ refusal_numbers (Memory (gap_rows_wanted lists)) ++ (0 ∷ [])
-    batch_short batch =
-        front_numbers (lends lists (flat rows) records) batch (Memory (gap_rows_wanted lists))
-        (front_broken (state_rules (lends lists (flat rows) records)) (batch_rules batch) (Memory (gap_rows_wanted lists)) state_short)
-
-    answered_short : (letter : ℕ) (more : List Rule) (values : List ℕ) → answered (first_broken (segment_rules (lends lists (flat rows) records) letter ++ more)) values ≡ refusal_numbers (Memory (gap_rows_wanted lists))
-    answered_short letter more values =
-        ap (λ (o : Option Refusal). answered o values)
-        (front_broken (segment_rules (lends lists (flat rows) records) letter) more (Memory (gap_rows_wanted lists)) (state_broken (lends lists (flat rows) records) letter (Memory (gap_rows_wanted lists)) state_short))
-
--- 01, the table's row 15: too few runs lent are answered with the runs wanted, 66 for each listed segment
-pub too_few_runs : {lists : Lists} {numbers behind : List ℕ} {rows : List Run} → UpToMemory lists rows numbers behind → length rows < 66 * segments_of lists.contracts
-    → numbers ≡ 15 ∷ 0 ∷ 0 ∷ 66 * segments_of lists.contracts ∷ behind
-unfolding list_rules write_off_rules record_rules
-too_few_runs {lists} {rows = rows} (UpToMemory.starts {starts} {records} s pairs n p) h =
-    told_short lists rows h [] p.answers (p.promised.answers ∙ ap (λ (o : Option Refusal). answered o []) (memory_decides lists starts (length (flat rows)) (length records) s pairs n ∙ memory_short lists rows h (length records)))
-too_few_runs {lists} {rows = rows} (UpToMemory.judges {records} {batch} s p) h = told_short lists rows h (0 ∷ []) p.answers (p.promised.answers ∙ batch_short lists rows h s records batch)
-too_few_runs {lists} {rows = rows} (UpToMemory.takes {records} {batch} s p) h = told_short lists rows h (0 ∷ []) p.answers (p.promised.answers ∙ batch_short lists rows h s records batch)
-too_few_runs {lists} {rows = rows} (UpToMemory.lists_gaps {records} {letter = letter} s p) h = told_short lists rows h [] p.answers (p.promised.answers ∙ answered_short lists rows h s records letter _ _)
-too_few_runs {lists} {rows = rows} (UpToMemory.writes_off {records} {letter} s p) h = told_short lists rows h [] p.answers (p.promised.answers ∙ answered_short lists rows h s records letter _ _)
-too_few_runs {lists} {rows = rows} (UpToMemory.reads {records = records} {letter = letter} s p) h = told_short lists rows h [] p.answers (p.promised.answers ∙ answered_short lists rows h s records letter _ _)

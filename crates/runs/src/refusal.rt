@@ -18,6 +18,7 @@ fn in_runs(list: &[u8], lent: usize, refusal: Refusal) -> Refusal
     refusal
 }
 
+#[tactic(auto, unfolding(crate::specs::Wanted::in_runs))]
 pub(crate) fn started(list: &[u8], lent: usize, answer: Started) -> Started
     ensures { started_numbers result ≡ in_runs list.now lent (started_numbers answer) }
 {
@@ -27,6 +28,7 @@ pub(crate) fn started(list: &[u8], lent: usize, answer: Started) -> Started
     }
 }
 
+#[tactic(auto, unfolding(crate::specs::Wanted::in_runs))]
 pub(crate) fn judged(list: &[u8], lent: usize, answer: Judged) -> Judged
     ensures { judged_numbers result ≡ in_runs list.now lent (judged_numbers answer) }
 {
@@ -40,6 +42,7 @@ pub(crate) fn judged(list: &[u8], lent: usize, answer: Judged) -> Judged
     }
 }
 
+#[tactic(auto, unfolding(crate::specs::Wanted::in_runs))]
 pub(crate) fn listed(list: &[u8], lent: usize, answer: Listed) -> Listed
     ensures { listed_numbers result ≡ in_runs list.now lent (listed_numbers answer) }
 {
@@ -49,6 +52,7 @@ pub(crate) fn listed(list: &[u8], lent: usize, answer: Listed) -> Listed
     }
 }
 
+#[tactic(auto, unfolding(crate::specs::Wanted::in_runs))]
 pub(crate) fn written_off(list: &[u8], lent: usize, answer: WrittenOff) -> WrittenOff
     ensures { written_off_numbers result ≡ in_runs list.now lent (written_off_numbers answer) }
 {
@@ -58,6 +62,7 @@ pub(crate) fn written_off(list: &[u8], lent: usize, answer: WrittenOff) -> Writt
     }
 }
 
+#[tactic(auto, unfolding(crate::specs::Wanted::in_runs))]
 pub(crate) fn recorded(list: &[u8], lent: usize, answer: Recorded) -> Recorded
     ensures { recorded_numbers result ≡ in_runs list.now lent (recorded_numbers answer) }
 {

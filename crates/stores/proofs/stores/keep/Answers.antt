@@ -1,8 +1,7 @@
 -- The record's place, the number of its cells and the update's number before its other cells, where there is room.
-use Rattle.std.proofs.Common.{ℕ, suc, ◌+◌, ◌*◌, ◌≤◌, ◌≡◌, ap, sym, ◌∙◌, List, ◌∷◌, inr, add-one, arith, length, length-set}
+use Rattle.std.proofs.Common.{ℕ, suc, ◌+◌, ◌*◌, ◌≤◌, ap, sym, ◌∙◌, ◌∷◌, inr, add-one, arith, length, length-set}
 use Rattle.std.proofs.lemmas.List.Edits.{sets}
 use Rattle.slots.specs.Places.{record_of}
-use Rattle.slots.specs.Slots.{level_cells}
 use Rattle.slots.specs.SlotsLaws.{record_long, rows_behind, level_most}
 use Rattle.stores.specs.StoresLaws.{store_laid}
 use Rattle.stores.proofs.stores.keep.Goals as goal

@@ -7,4 +7,3 @@ invariant-loop-i l = (l.i ≤ l.kept) × (length l.records ≡ length l.initial.
 
 abbrev pub decreases-loop-i : goal.decreases-loop-i
 decreases-loop-i l = l.kept - l.i
-

@@ -1,5 +1,5 @@
 -- The loop's invariant: the first i part are put, the rest are as they were.
-use Rattle.std.proofs.Common.{ℕ, ◌+◌, ◌-◌, ap, ◌∙◌, List, add-one, arith, get_or, set, length-set}
+use Rattle.std.proofs.Common.{ℕ, ◌+◌, ap, ◌∙◌, List, add-one, arith, get_or, set, length-set}
 use Rattle.laws.specs.Lists.{sets_more}
 use Rattle.stores.proofs.stores.put.Goals as goal
 

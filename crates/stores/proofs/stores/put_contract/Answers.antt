@@ -3,7 +3,7 @@ use Rattle.std.proofs.Common.{ℕ, suc, ◌+◌, ◌-◌, ◌≤◌, ◌≡◌, 
 use Rattle.std.proofs.lemmas.List.Edits.{sets}
 use Rattle.forms.specs.declared.forms.Form.{Form}
 use Rattle.forms.specs.Forms.{rows_of, session_of, is_stamped}
-use Rattle.forms.specs.Sizes.{most_rows, key_row_count}
+use Rattle.forms.specs.Sizes.{key_row_count}
 use Rattle.layout.specs.Cells.{none, session_cell}
 use Rattle.slots.specs.Places.{no_stamp}
 use Rattle.stores.specs.StoresLaws.{store_laid, record_laid}
@@ -38,15 +38,15 @@ put-requires c =
     let form = c.args.form in
     let at = c.args.at in
     rw (part_is form cells 6 _ c.count_of-end.ensures c.requires.1) (elim c.if-not-is_stamped.branch [
-        | then-not-is_stamped w ↦
-            let fits = room stores cells at form false (sym c.is_stamped.ensures ∙ w.if-not-is_stamped.true) c.requires.2 in
-            let long : length c.if-not-is_stamped.stores ≡ length stores = ap length w.stores-is ∙ simp length-set in
-            omega (arith, long, w.rest-is, fits)
-        | else-not-is_stamped w ↦
-            let fits = room stores cells at form true (sym c.is_stamped.ensures ∙ w.if-not-is_stamped.false) c.requires.2 in
-            let long : length c.if-not-is_stamped.stores ≡ length stores = ap length w.stores-is ∙ simp length-set in
-            omega (arith, long, w.rest-is, fits)
-      ])
+      | then-not-is_stamped w ↦
+          let fits = room stores cells at form false (sym c.is_stamped.ensures ∙ w.if-not-is_stamped.true) c.requires.2 in
+          let long : length c.if-not-is_stamped.stores ≡ length stores = ap length w.stores-is ∙ simp length-set in
+          omega (arith, long, w.rest-is, fits)
+      | else-not-is_stamped w ↦
+          let fits = room stores cells at form true (sym c.is_stamped.ensures ∙ w.if-not-is_stamped.false) c.requires.2 in
+          let long : length c.if-not-is_stamped.stores ≡ length stores = ap length w.stores-is ∙ simp length-set in
+          omega (arith, long, w.rest-is, fits)
+    ])
 
 pub returns : goal.returns
 returns c =

@@ -39,12 +39,12 @@ pub record IsNewest (slot : Slot) (taken : List Message) (m : Message) : Type 0 
 
 -- 01 "What may be asked": a contract or a pair with no update taken, of that level
 abbrev pub NoUpdate : Slot → List Message → Type 0
-NoUpdate slot taken = (m : Message) → Memᴰ m taken → is_of slot m.what ≡ false
+NoUpdate own taken = (m : Message) → Memᴰ m taken → is_of own m.what ≡ false
 
 -- demand 3: what the highest-numbered update of a slot among the messages taken is, or that there is none
 abbrev pub FoundNewest : Slot → List Message → Option Message → Type 0
-FoundNewest slot taken none = NoUpdate slot taken
-FoundNewest slot taken (some m) = IsNewest slot taken m
+FoundNewest own taken none = NoUpdate own taken
+FoundNewest own taken (some m) = IsNewest own taken m
 
 -- demand 3: "each record is its contract's highest-numbered update taken": its number, (M-104) its session, and its rows as they stand in
 -- its message

@@ -15,8 +15,8 @@ use Rattle.history.specs.Machine.{higher, sequence_number, form_sent}
 
 -- demand 3: the highest-numbered update of a slot's contract or pair and level among messages of its segment, if there is one
 abbrev pub newest : Slot → List Message → Option Message
-newest slot [] = none
-newest slot (m ∷ ms) = cond (is_of slot m.what) (higher m (newest slot ms)) (newest slot ms)
+newest own [] = none
+newest own (m ∷ ms) = cond (is_of own m.what) (higher m (newest own ms)) (newest own ms)
 
 -- 01 "What may be asked": an update that a slot can hold: it tells of what the slot is for and has a number; its cells are those of a quote, and
 -- (M-104) it has a time stamp where one is shown
@@ -34,8 +34,8 @@ pub record HoldsUpdate (lists : Lists) (records : List ℕ) (slot : Slot) (m : M
 
 -- 01 "What may be asked": "A contract with no update taken reads as 'no record'": its number is 0
 abbrev pub RecordHolds : Lists → List ℕ → Slot → Option Message → Type 0
-RecordHolds lists records slot none = get_or records (slot_at lists slot) 0 ≡ 0
-RecordHolds lists records slot (some m) = HoldsUpdate lists records slot m
+RecordHolds lists records own none = get_or records (slot_at lists own) 0 ≡ 0
+RecordHolds lists records own (some m) = HoldsUpdate lists records own m
 
 -- demand 3: each listed slot's record holds its highest-numbered update taken
 abbrev pub RecordsFit : Lists → List ℕ → List ℕ → List Event → Type 0

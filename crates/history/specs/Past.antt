@@ -108,4 +108,4 @@ runs_standing i start past = standing_by start (taken_of i start past) (wrote_of
 
 -- 01 "Sequence and gaps": the messages taken of a slot's segment
 abbrev pub taken_for : List ℕ → Slot → List Event → List Message
-taken_for starts slot past = taken_of (segment_in slot) (start_of starts (segment_in slot)) past
+taken_for starts own past = taken_of (segment_in own) (start_of starts (segment_in own)) past

@@ -36,7 +36,7 @@ item_in (record_slot item i place level) = item
 
 -- 01 "What may be asked": the letter that a slot's record is asked for by
 abbrev pub letter_in : Lists → Slot → ℕ
-letter_in lists slot = letter_at lists.contracts (segment_in slot)
+letter_in lists own = letter_at lists.contracts (segment_in own)
 
 -- 01 "What may be asked": the key that a slot's record is asked for by
 abbrev pub key_in : Lists → Slot → List ℕ
@@ -44,9 +44,9 @@ key_in lists (record_slot item i place level) = key_by (habit_of item) (file_of 
 
 -- 01 "Sequence and gaps": the slot, where there is one, is this one
 abbrev pub is_slot : Slot → Option Slot → Bool
-is_slot slot none = false
-is_slot slot (some other) = same_slot other slot
+is_slot own none = false
+is_slot own (some other) = same_slot other own
 
 -- 01 "Sequence and gaps": an update of the slot's contract or pair and level, among messages of the slot's segment
 abbrev pub is_of : Slot → What → Bool
-is_of slot what = is_slot slot (slot_of (segment_in slot) what)
+is_of own what = is_slot own (slot_of (segment_in own) what)

@@ -1,5 +1,5 @@
 // The gaps, listed and written off.
-ghost use Rattle.std.specs.Prelude.{◌≤◌, IfOk, length};
+ghost use Rattle.std.specs.Prelude.{◌≤◌, IfOk, length, OnErr, ◌≡◌};
 
 use quotebox::Listed;
 use std::io::Result;
@@ -29,7 +29,8 @@ pub fn list(
     used: usize,
 ) -> Result<usize>
     requires { used ≤ length page.old }
-    ensures { IfOk result (λ answer. answer ≤ length page.old) }
+    ensures puts { IfOk result (λ answer. answer ≤ length page.old) }
+    ensures failed { OnErr result (length page.new ≡ length page.old) }
 {
     let mut cells = [0u32; console::RUN_CELLS];
     let listed = list_into(bytes, list, spreads, rows, records, &mut cells);
@@ -47,7 +48,8 @@ pub fn off(
     used: usize,
 ) -> Result<usize>
     requires { used ≤ length page.old }
-    ensures { IfOk result (λ answer. answer ≤ length page.old) }
+    ensures puts { IfOk result (λ answer. answer ≤ length page.old) }
+    ensures failed { OnErr result ((length rows.new ≡ length rows.old) × (length page.new ≡ length page.old)) }
 {
     let off = quotebox::write_off(list, spreads, rows, records, wire::u8_at(bytes, 1));
     lines::put_off(rt, page, used, off)

@@ -5,7 +5,7 @@ mod gaps;
 mod quotes;
 mod spreads;
 
-ghost use Rattle.std.specs.Prelude.{◌≤◌, IfOk, length};
+ghost use Rattle.std.specs.Prelude.{◌≤◌, IfOk, length, OnErr, ◌≡◌};
 
 use layout::Item;
 pub use spreads::beside;
@@ -76,7 +76,8 @@ pub fn answer(
     used: usize,
 ) -> Result<usize>
     requires { used ≤ length page.old }
-    ensures { IfOk result (λ answer. answer ≤ length page.old) }
+    ensures puts { IfOk result (λ answer. answer ≤ length page.old) }
+    ensures failed { OnErr result ((length rows.new ≡ length rows.old) × (length records.new ≡ length records.old) × (length page.new ≡ length page.old)) }
 {
     match wire::u8_at(bytes, 0) {
         b'S' => start(rt, bytes, list, spreads, rows, records, page, used),

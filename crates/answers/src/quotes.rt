@@ -1,5 +1,5 @@
 // Records of contracts read, and messages written.
-ghost use Rattle.std.specs.Prelude.{◌≤◌, IfOk, length};
+ghost use Rattle.std.specs.Prelude.{◌≤◌, IfOk, length, OnErr, ◌≡◌};
 
 use crate::spreads;
 use layout::{Item, Level};
@@ -42,7 +42,8 @@ pub fn read(
     used: usize,
 ) -> Result<usize>
     requires { used ≤ length page.old }
-    ensures { IfOk result (λ answer. answer ≤ length page.old) }
+    ensures puts { IfOk result (λ answer. answer ≤ length page.old) }
+    ensures failed { OnErr result (length page.new ≡ length page.old) }
 {
     let letter = wire::u8_at(bytes, 1);
     let level = commands::level_of(wire::u8_at(bytes, 2));
@@ -77,7 +78,8 @@ pub fn write(
     used: usize,
 ) -> Result<usize>
     requires { used ≤ length page.old }
-    ensures { IfOk result (λ answer. answer ≤ length page.old) }
+    ensures puts { IfOk result (λ answer. answer ≤ length page.old) }
+    ensures failed { OnErr result (length page.new ≡ length page.old) }
 {
     let mut out = [0u8; MOST_ROOM];
     let written = write_into(bytes, item, &mut out);

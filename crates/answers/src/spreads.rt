@@ -1,5 +1,5 @@
 // Records of pairs read, their messages written, and the spread list without pairs.
-ghost use Rattle.std.specs.Prelude.{◌≤◌, IfOk, length};
+ghost use Rattle.std.specs.Prelude.{◌≤◌, IfOk, length, OnErr, ◌≡◌};
 
 use layout::{Item, Level};
 use quotebox::{SpreadReading, Written};
@@ -49,7 +49,8 @@ pub fn read(
     used: usize,
 ) -> Result<usize>
     requires { used ≤ length page.old }
-    ensures { IfOk result (λ answer. answer ≤ length page.old) }
+    ensures puts { IfOk result (λ answer. answer ≤ length page.old) }
+    ensures failed { OnErr result (length page.new ≡ length page.old) }
 {
     let letter = wire::u8_at(bytes, 1);
     let level = commands::level_of(wire::u8_at(bytes, 2));

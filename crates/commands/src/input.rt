@@ -1,5 +1,5 @@
 // Reading the next command.
-ghost use Rattle.std.specs.Prelude.{◌+◌, ◌≤◌, IfOk};
+ghost use Rattle.std.specs.Prelude.{◌+◌, ◌≤◌, IfOk, OnErr, length, ◌≡◌};
 ghost use Rattle.console.specs.Desk.{Fits};
 ghost use Rattle.commands.specs.Command.{Ready};
 
@@ -34,7 +34,8 @@ fn front<R: Input + Print>(rt: &R, room: &mut [u8], page: &[u8], desk: Desk) -> 
 // out what was said or reading fails, the answer is that error, as `fill` has it.
 pub fn next<R: Input + Print>(rt: &R, room: &mut [u8], page: &[u8], desk: Desk) -> Result<Command>
     requires { Fits desk room.old page.now }
-    ensures { IfOk result (λ answer. Ready answer room.new page.now) }
+    ensures ready { IfOk result (λ answer. Ready answer room.new page.now) }
+    ensures failed { OnErr result (length room.new ≡ length room.old) }
 {
     let told = front(rt, room, page, desk)?;
     let length = told.length;

@@ -1,5 +1,5 @@
 // Standard input in large pieces.
-ghost use Rattle.std.specs.Prelude.{◌≡◌, ◌-◌, ◌≤◌, IfOk, length, take, drop};
+ghost use Rattle.std.specs.Prelude.{◌≡◌, ◌-◌, ◌≤◌, IfOk, length, take, drop, OnErr};
 ghost use Rattle.io.specs.Counts.{IsPrefixLen};
 ghost use Rattle.console.specs.Desk.{Fits, Filled};
 
@@ -58,7 +58,8 @@ fn read_until<R: Read>(input: &mut R, room: &mut [u8], from: usize, wanted: usiz
 // Reads until the room is full or the input ends, and answers how many bytes it put at the room's start. After an error the room
 // holds some of what came.
 pub fn read_all<R: Read>(input: &mut R, room: &mut [u8]) -> Result<usize>
-    ensures { IfOk result (λ size. IsPrefixLen size room.new) }
+    ensures reads { IfOk result (λ size. IsPrefixLen size room.new) }
+    ensures failed { OnErr result (length room.new ≡ length room.old) }
 {
     let wanted = room.len();
     read_until(input, room, 0, wanted)
@@ -75,7 +76,8 @@ pub fn fill<R: Input + Print>(
     wanted: usize,
 ) -> Result<Desk>
     requires { Fits desk room.old page.now }
-    ensures { IfOk result (λ answer. Filled room.old page.now desk answer room.new) }
+    ensures filled { IfOk result (λ answer. Filled room.old page.now desk answer room.new) }
+    ensures failed { OnErr result (length room.new ≡ length room.old) }
 {
     let at = desk.at;
     let end = desk.end;

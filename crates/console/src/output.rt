@@ -58,7 +58,8 @@ pub fn put_with(
     number: u64,
 ) -> Result<usize>
     requires { used ≤ length page.old }
-    ensures { IfOk result (λ answer. answer ≤ length page.old) }
+    ensures puts { IfOk result (λ answer. answer ≤ length page.old) }
+    ensures failed { OnErr result (length page.new ≡ length page.old) }
 {
     let more = put(rt, page, used, text)?;
     put_number(rt, page, more, number)
@@ -67,7 +68,8 @@ pub fn put_with(
 // Each number behind a space.
 pub fn put_numbers(rt: &impl Print, page: &mut [u8], used: usize, numbers: &[u64]) -> Result<usize>
     requires { used ≤ length page.old }
-    ensures { IfOk result (λ answer. answer ≤ length page.old) }
+    ensures puts { IfOk result (λ answer. answer ≤ length page.old) }
+    ensures failed { OnErr result (length page.new ≡ length page.old) }
 {
     let mut more = used;
     let mut i = 0;
@@ -88,7 +90,8 @@ pub fn put_said(
     numbers: &[u64],
 ) -> Result<usize>
     requires { used ≤ length page.old }
-    ensures { IfOk result (λ answer. answer ≤ length page.old) }
+    ensures puts { IfOk result (λ answer. answer ≤ length page.old) }
+    ensures failed { OnErr result (length page.new ≡ length page.old) }
 {
     let used = put(rt, page, used, name)?;
     let used = put(rt, page, used, said)?;
@@ -105,7 +108,8 @@ pub fn put_line(
     numbers: &[u64],
 ) -> Result<usize>
     requires { used ≤ length page.old }
-    ensures { IfOk result (λ answer. answer ≤ length page.old) }
+    ensures puts { IfOk result (λ answer. answer ≤ length page.old) }
+    ensures failed { OnErr result (length page.new ≡ length page.old) }
 {
     let used = put_said(rt, page, used, name, said, numbers)?;
     put(rt, page, used, b"\n")

@@ -1,5 +1,5 @@
 // Runs as text, `first-last`.
-ghost use Rattle.std.specs.Prelude.{◌≤◌, IfOk, length};
+ghost use Rattle.std.specs.Prelude.{◌≤◌, IfOk, length, OnErr, ◌≡◌};
 
 use crate::numbers::least;
 use crate::output::{put, put_with};
@@ -32,7 +32,8 @@ pub fn put_runs(
     behind: &[u8],
 ) -> Result<usize>
     requires { used ≤ length page.old }
-    ensures { IfOk result (λ answer. answer ≤ length page.old) }
+    ensures puts { IfOk result (λ answer. answer ≤ length page.old) }
+    ensures failed { OnErr result (length page.new ≡ length page.old) }
 {
     let mut more = used;
     let mut i = 0;

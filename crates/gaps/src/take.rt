@@ -1,5 +1,5 @@
 // Taking the batches of standard input, one after the other.
-ghost use Rattle.std.specs.Prelude.{◌+◌, ◌≤◌, IfOk, length};
+ghost use Rattle.std.specs.Prelude.{◌+◌, ◌≤◌, IfOk, length, OnErr, ◌≡◌};
 ghost use Rattle.console.specs.Desk.{Fits};
 
 use console::Desk;
@@ -147,7 +147,8 @@ pub fn take_all<R: Input + Print>(
     room: &mut [u8],
     page: &mut [u8],
 ) -> Result<Taken>
-    ensures { IfOk result (λ answer. answer.used ≤ length page.old) }
+    ensures puts { IfOk result (λ answer. answer.used ≤ length page.old) }
+    ensures failed { OnErr result ((length records.new ≡ length records.old) × (length room.new ≡ length room.old) × (length page.new ≡ length page.old)) }
 {
     let mut turn = Turn {
         desk: Desk {

@@ -4,7 +4,7 @@
 mod message;
 mod record;
 
-ghost use Rattle.std.specs.Prelude.{◌≤◌, IfOk, length};
+ghost use Rattle.std.specs.Prelude.{◌≤◌, IfOk, length, OnErr, ◌≡◌};
 
 use console::{put, put_line};
 pub use message::put_written;
@@ -29,7 +29,8 @@ pub(crate) fn put_refused(
 
 pub fn put_started(rt: &impl Print, page: &mut [u8], used: usize, answer: Started) -> Result<usize>
     requires { used ≤ length page.old }
-    ensures { IfOk result (λ answer. answer ≤ length page.old) }
+    ensures puts { IfOk result (λ answer. answer ≤ length page.old) }
+    ensures failed { OnErr result (length page.new ≡ length page.old) }
 {
     match answer {
         Started::Started => put(rt, page, used, b"start ok\n"),
@@ -46,7 +47,8 @@ pub fn put_judged(
     answer: Judged,
 ) -> Result<usize>
     requires { used ≤ length page.old }
-    ensures { IfOk result (λ answer. answer ≤ length page.old) }
+    ensures puts { IfOk result (λ answer. answer ≤ length page.old) }
+    ensures failed { OnErr result (length page.new ≡ length page.old) }
 {
     match answer {
         Judged::Accepted(taken, old, heartbeats, compared) => {
@@ -87,7 +89,8 @@ pub fn put_listed(
     cells: &[u32],
 ) -> Result<usize>
     requires { used ≤ length page.old }
-    ensures { IfOk result (λ answer. answer ≤ length page.old) }
+    ensures puts { IfOk result (λ answer. answer ≤ length page.old) }
+    ensures failed { OnErr result (length page.new ≡ length page.old) }
 {
     match answer {
         Listed::Runs(highest, runs) => {
@@ -99,7 +102,8 @@ pub fn put_listed(
 
 pub fn put_off(rt: &impl Print, page: &mut [u8], used: usize, answer: WrittenOff) -> Result<usize>
     requires { used ≤ length page.old }
-    ensures { IfOk result (λ answer. answer ≤ length page.old) }
+    ensures puts { IfOk result (λ answer. answer ≤ length page.old) }
+    ensures failed { OnErr result (length page.new ≡ length page.old) }
 {
     match answer {
         WrittenOff::Removed(first, last) => {

@@ -1,5 +1,5 @@
 // A message that was written, in hexadecimal.
-ghost use Rattle.std.specs.Prelude.{◌≤◌, IfOk, length};
+ghost use Rattle.std.specs.Prelude.{◌≤◌, IfOk, length, OnErr, ◌≡◌};
 
 use crate::put_refused;
 use console::put;
@@ -48,7 +48,8 @@ pub fn put_written(
     out: &[u8],
 ) -> Result<usize>
     requires { used ≤ length page.old }
-    ensures { IfOk result (λ answer. answer ≤ length page.old) }
+    ensures puts { IfOk result (λ answer. answer ≤ length page.old) }
+    ensures failed { OnErr result (length page.new ≡ length page.old) }
 {
     match answer {
         Written::Message(size) => {

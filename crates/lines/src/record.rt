@@ -1,5 +1,5 @@
 // A record of a contract or a pair: its number, a contract's session, and each row behind the key.
-ghost use Rattle.std.specs.Prelude.{◌+◌, ◌≤◌, IfOk, length};
+ghost use Rattle.std.specs.Prelude.{◌+◌, ◌≤◌, IfOk, length, OnErr, ◌≡◌};
 ghost use Rattle.forms.specs.Sizes.{most_rows};
 ghost use Rattle.values.specs.Values.{most};
 
@@ -167,7 +167,8 @@ pub fn put_recorded(
     values: &[u64; values::MOST],
 ) -> Result<usize>
     requires { used ≤ length page.old }
-    ensures { IfOk result (λ answer. answer ≤ length page.old) }
+    ensures puts { IfOk result (λ answer. answer ≤ length page.old) }
+    ensures failed { OnErr result (length page.new ≡ length page.old) }
 {
     match item {
         Item::Contract => put_answer(rt, page, used, b"record", item, level, answer, values),

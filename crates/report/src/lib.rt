@@ -1,7 +1,7 @@
 // What the program `gaps` says. Each line is put on the page behind what is used of it.
 #![tactic(auto)]
 
-ghost use Rattle.std.specs.Prelude.{◌≤◌, IfOk, length};
+ghost use Rattle.std.specs.Prelude.{◌≤◌, IfOk, length, OnErr, ◌≡◌};
 
 use console::{put, put_with};
 use quotebox::{Listed, Refusal};
@@ -10,7 +10,8 @@ use std::io::Result;
 
 // A start that is refused, by the refusal's number.
 pub fn put_refused_start(rt: &impl Print, page: &mut [u8], refusal: Refusal) -> Result<usize>
-    ensures { IfOk result (λ answer. answer ≤ length page.old) }
+    ensures puts { IfOk result (λ answer. answer ≤ length page.old) }
+    ensures failed { OnErr result (length page.new ≡ length page.old) }
 {
     let numbers = quotebox::refusal_numbers(refusal);
     console::put_line(rt, page, 0, b"start", b" refused", &[numbers[0]])
@@ -39,7 +40,8 @@ pub fn put_refused(
     refusal: Refusal,
 ) -> Result<usize>
     requires { used ≤ length page.old }
-    ensures { IfOk result (λ answer. answer ≤ length page.old) }
+    ensures puts { IfOk result (λ answer. answer ≤ length page.old) }
+    ensures failed { OnErr result (length page.new ≡ length page.old) }
 {
     let numbers = quotebox::refusal_numbers(refusal);
     let used = put_with(rt, page, used, b"batch ", batch)?;
@@ -149,7 +151,8 @@ pub fn put_list(
     used: usize,
 ) -> Result<usize>
     requires { used ≤ length page.old }
-    ensures { IfOk result (λ answer. answer ≤ length page.old) }
+    ensures puts { IfOk result (λ answer. answer ≤ length page.old) }
+    ensures failed { OnErr result (length page.new ≡ length page.old) }
 {
     let used = put(rt, page, used, b"segment highest missing\n")?;
     let used = put_segments(rt, list, spreads, rows, records, page, used)?;

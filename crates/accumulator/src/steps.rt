@@ -21,11 +21,9 @@ pub fn byte_step(acc: u16, byte: u8) -> u16
 {
     let mut a = acc;
     let mut d = (byte as u16) * 256;
-    let mut k: usize = 0;
-    while k < 8 {
+    for k in 0..8usize {
         a = bit_step(a, d >> 15);
         d = std::num::wrapping_add_u16(d, d);
-        k += 1;
     }
     a
 }

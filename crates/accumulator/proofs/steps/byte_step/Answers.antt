@@ -11,8 +11,7 @@ loop-k-init c = (omega arith, omega arith, refl)
 pub loop-k-preserved : goal.loop-k-preserved
 loop-k-preserved c =
     let at_top = c.loop-k.invariant.1 in
-    let left = c.loop-k-test.true in
     let byte = c.args.byte in
     let k = c.loop-k.k in
     let d = c.loop-k.d in
-    (omega arith, c.wrapping_add_u16-d.ensures.value ∙ doubled_top byte k d left at_top, ap (λ (a : ℕ). bit_steps a (bits (8 - (k + 1)) byte)) c.bit_step-a.ensures ∙ sym (one_bit byte k d left at_top c.loop-k.a) ∙ c.loop-k.invariant.2)
+    (omega arith, c.wrapping_add_u16-d.ensures.value ∙ doubled_top byte k d (omega arith) at_top, ap (λ (a : ℕ). bit_steps a (bits (8 - (k + 1)) byte)) c.bit_step-a.ensures ∙ sym (one_bit byte k d (omega arith) at_top c.loop-k.a) ∙ c.loop-k.invariant.2)

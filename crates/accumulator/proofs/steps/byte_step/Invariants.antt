@@ -6,6 +6,3 @@ use Rattle.accumulator.proofs.steps.byte_step.Given as goal
 abbrev pub invariant-loop-k : goal.invariant-loop-k
 invariant-loop-k l =
     (l.k ≤ 8) × AtTop l.byte l.k l.d × (bit_steps l.a (bits (8 - l.k) l.byte) ≡ byte_step l.acc l.byte)
-
-abbrev pub decreases-loop-k : goal.decreases-loop-k
-decreases-loop-k l = 8 - l.k

@@ -14,7 +14,6 @@ ghost use Rattle.batch.specs.Scratch.{DataReady, JudgedData, TookData};
 ghost use Rattle.stores.specs.Stores.{Room};
 
 use crate::scratch;
-use lookup::Found;
 use slots::Fronts;
 use state::{Checked, Judged, Refusal};
 
@@ -77,12 +76,12 @@ fn check_all(list: &[u8], spreads: &[u8], rows: &[u32], records: &[u64], batch: 
 }
 
 // Where a segment's records begin.
-fn fronts_in(list: &[u8], spreads: &[u8], segment: Found) -> Fronts
+fn fronts_in(list: &[u8], spreads: &[u8], segment: Option<usize>) -> Fronts
     ensures { InFront (lists list.now spreads.now) (place_of segment) result }
 {
     match segment {
-        Found::At(i) => slots::fronts_of(list, spreads, i),
-        Found::Nowhere => Fronts {
+        Some(i) => slots::fronts_of(list, spreads, i),
+        None => Fronts {
             contracts: 0,
             pairs: 0,
         },

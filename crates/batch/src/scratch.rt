@@ -6,27 +6,26 @@ ghost use Rattle.state.specs.Memory.{gap_row_cells};
 ghost use Rattle.state.specs.MemoryRows.{with_gap_row_in};
 ghost use Rattle.batch.specs.Scratch.{RowReady, ScratchRow};
 
-use lookup::Found;
 use sequence::CELLS;
 
 // The gap row of a segment, laid over another; where there is none, a row that nothing was taken in.
-pub(crate) fn copy_row_in(rows: &[u32], segment: Found, row: &mut [u32; CELLS])
+pub(crate) fn copy_row_in(rows: &[u32], segment: Option<usize>, row: &mut [u32; CELLS])
     requires { RowReady rows.now (place_of segment) × (length row.old ≡ gap_row_cells) }
     ensures { ScratchRow rows.now (place_of segment) row.new }
 {
     match segment {
-        Found::At(i) => state::copy_row(rows, i, row),
-        Found::Nowhere => sequence::start(row, 1),
+        Some(i) => state::copy_row(rows, i, row),
+        None => sequence::start(row, 1),
     }
 }
 
 // The gap row of a segment, put back.
-pub(crate) fn put_row_in(rows: &mut [u32], segment: Found, row: &[u32; CELLS])
+pub(crate) fn put_row_in(rows: &mut [u32], segment: Option<usize>, row: &[u32; CELLS])
     requires { RowReady rows.old (place_of segment) × (length row.now ≡ gap_row_cells) }
     ensures { rows.new ≡ with_gap_row_in rows.old row.now (place_of segment) }
 {
     match segment {
-        Found::At(i) => state::put_row(rows, i, row),
-        Found::Nowhere => {}
+        Some(i) => state::put_row(rows, i, row),
+        None => {}
     }
 }

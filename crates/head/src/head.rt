@@ -10,7 +10,6 @@ ghost use Rattle.head.specs.Rules.{first_fault};
 
 use crate::fields;
 use layout::{Named, Subject, Sum};
-use lookup::Found;
 
 const END: u8 = 13;
 
@@ -71,7 +70,7 @@ fn is_code(letter: u8, second: u8) -> bool
 }
 
 // The letter's segment was looked up once for the batch.
-fn coded(letter: u8, segment: Found, bytes: &[u8]) -> bool
+fn coded(letter: u8, segment: Option<usize>, bytes: &[u8]) -> bool
     ensures { result ≡ coded letter (place_of segment) bytes.now }
 {
     if fields::segment_letter_of(bytes) != letter {
@@ -80,10 +79,7 @@ fn coded(letter: u8, segment: Found, bytes: &[u8]) -> bool
     if !is_code(fields::letter_of(bytes), fields::second_of(bytes)) {
         return false;
     }
-    match segment {
-        Found::At(_) => true,
-        Found::Nowhere => false,
-    }
+    segment.is_some()
 }
 
 fn trailed(bytes: &[u8], whole: usize) -> bool
@@ -174,7 +170,7 @@ pub fn is_heartbeat(named: Named) -> bool
 }
 
 // The rules 5 to 7 in turn: the first broken one decides.
-pub fn judge_frame(letter: u8, segment: Found, bytes: &[u8]) -> Head
+pub fn judge_frame(letter: u8, segment: Option<usize>, bytes: &[u8]) -> Head
     ensures { head_numbers result ≡ head_numbers (first_fault (frame_rules letter (place_of segment) bytes.now)) }
 {
     if !framed(bytes) {

@@ -1,21 +1,19 @@
 -- The answers of this crate's lookups in the paper's numbers.
-use Rattle.std.specs.Prelude.{ℕ, ◌≤◌, ◌≡◌, List, [], ◌∷◌}
+use Rattle.std.specs.Prelude.{ℕ, ◌≤◌, ◌≡◌, List, [], ◌∷◌, Option as Found, Some, None}
 use Rattle.std.proofs.Math.Option.{Option, none, some}
-use Rattle.lookup.specs.declared.lookup.Found.{Found}
-use Rattle.lookup.specs.declared.lookup.Found.TheVariants.{At, Nowhere}
 use Rattle.lookup.specs.declared.lookup.Sought.{Sought}
 use Rattle.laws.specs.Refused.{contract_no}
 use Rattle.lookup.specs.Halving.{Halved, digits}
 
 -- a word of our own: the place that an answer gives, if it gives one
-abbrev pub place_of : Found → Option ℕ
-place_of (At place) = some place
-place_of Nowhere = none
+abbrev pub place_of : Found ℕ → Option ℕ
+place_of (Some place) = some place
+place_of None = none
 
 -- 01, the table's rows 6 and 13: 0 and the place where it is listed; else the row's number, 6 for a letter and 13 for a key
-abbrev pub found_numbers : ℕ → Found → List ℕ
-found_numbers refusal (At place) = 0 ∷ place ∷ []
-found_numbers refusal Nowhere = refusal ∷ []
+abbrev pub found_numbers : ℕ → Found ℕ → List ℕ
+found_numbers refusal (Some place) = 0 ∷ place ∷ []
+found_numbers refusal None = refusal ∷ []
 
 -- 01, the table's rows 6 and 13: the numbers that the place looked up gives
 abbrev pub looked_up : ℕ → Option ℕ → List ℕ

@@ -3,4 +3,4 @@
 
 mod lookup;
 
-pub use lookup::{Found, Sought, place_of, segment_of};
+pub use lookup::{Sought, place_of, segment_of};

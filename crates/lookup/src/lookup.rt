@@ -6,34 +6,26 @@ ghost use Rattle.lookup.specs.Lookup.{segment_of, lookup};
 
 use files::{Habit, Stands};
 
-// Where a letter or a key is listed.
-#[derive(Clone, Copy)]
-pub enum Found {
-    At(usize),
-    // 6 for a letter, 13 for a key.
-    Nowhere,
-}
-
-// A key that was looked up: where it is listed, and how many keys were compared with it.
+// A key that was looked up: where it is listed, 13 where it is nowhere, and how many keys were compared with it.
 #[derive(Clone, Copy)]
 pub struct Sought {
-    pub found: Found,
+    pub found: Option<usize>,
     pub compared: usize,
 }
 
-// The segment that has a letter.
-pub fn segment_of(list: &[u8], letter: u8) -> Found
+// The segment that has a letter: 6 where none has.
+pub fn segment_of(list: &[u8], letter: u8) -> Option<usize>
     ensures { found_numbers code_no result ≡ looked_up code_no (segment_of list.now letter) }
 {
     let listed = files::segments(list);
     let mut i = 0;
     while i < listed {
         if files::letter_at(list, i) == letter {
-            return Found::At(i);
+            return Some(i);
         }
         i += 1;
     }
-    Found::Nowhere
+    None
 }
 
 // The place of a key in a segment, by halving: `left` keys are left, the first of which is key `low`.
@@ -51,7 +43,7 @@ pub fn place_of(list: &[u8], habit: Habit, segment: usize, wanted: &[u8]) -> Sou
         match files::order_of(wanted, files::key_in(list, habit, offset, place)) {
             Stands::Same => {
                 return Sought {
-                    found: Found::At(place),
+                    found: Some(place),
                     compared,
                 };
             }
@@ -65,7 +57,7 @@ pub fn place_of(list: &[u8], habit: Habit, segment: usize, wanted: &[u8]) -> Sou
         }
     }
     Sought {
-        found: Found::Nowhere,
+        found: None,
         compared,
     }
 }

@@ -14,7 +14,7 @@ ghost use Rattle.message.specs.Reads.{rows_read, cells_read, contents_by, bare, 
 
 use head::{Fault, Head};
 use layout::{Form, Item, MOST_ROWS, Named, Subject, Verdict};
-use lookup::{Found, Sought};
+use lookup::Sought;
 
 #[derive(Clone, Copy)]
 pub enum What {
@@ -36,16 +36,16 @@ pub struct Outline {
 }
 
 // The place of a key in a segment of its file, where there is one.
-pub fn find(list: &[u8], spreads: &[u8], item: Item, segment: Found, key: &[u8]) -> Sought
+pub fn find(list: &[u8], spreads: &[u8], item: Item, segment: Option<usize>, key: &[u8]) -> Sought
     ensures { Seeks item (lists list.now spreads.now) key.now (place_of segment) result }
 {
     match segment {
-        Found::At(place) => match item {
+        Some(place) => match item {
             Item::Contract => lookup::place_of(list, files::CONTRACTS, place, key),
             Item::Pair => lookup::place_of(spreads, pairs::PAIRS, place, key),
         },
-        Found::Nowhere => Sought {
-            found: Found::Nowhere,
+        None => Sought {
+            found: None,
             compared: 0,
         },
     }
@@ -62,7 +62,7 @@ fn key_of(item: Item, data: &[u8]) -> &[u8]
 fn placed(
     list: &[u8],
     spreads: &[u8],
-    segment: Found,
+    segment: Option<usize>,
     data: &[u8],
     whole: usize,
     number: u32,
@@ -74,8 +74,8 @@ fn placed(
     let sought = find(list, spreads, item, segment, key_of(item, data));
     let found = sought.found;
     let what = match found {
-        Found::At(place) => What::Update(number, form, place),
-        Found::Nowhere => What::Bad(Fault::Contract),
+        Some(place) => What::Update(number, form, place),
+        None => What::Bad(Fault::Contract),
     };
     Outline {
         what,
@@ -98,7 +98,7 @@ fn updates(item: Item, data: &[u8]) -> bool
 fn acted(
     list: &[u8],
     spreads: &[u8],
-    segment: Found,
+    segment: Option<usize>,
     data: &[u8],
     whole: usize,
     number: u32,
@@ -134,7 +134,7 @@ fn bad(fault: Fault, bytes: &[u8]) -> Outline
 fn update(
     list: &[u8],
     spreads: &[u8],
-    segment: Found,
+    segment: Option<usize>,
     bytes: &[u8],
     whole: usize,
     form: Form,
@@ -158,7 +158,7 @@ fn update(
 fn contents(
     list: &[u8],
     spreads: &[u8],
-    segment: Found,
+    segment: Option<usize>,
     bytes: &[u8],
     named: Named,
     cells: &mut [u64; MOST_ROWS],
@@ -210,7 +210,7 @@ fn heartbeat(bytes: &[u8]) -> Outline
 fn formed(
     list: &[u8],
     spreads: &[u8],
-    segment: Found,
+    segment: Option<usize>,
     bytes: &[u8],
     named: Named,
     cells: &mut [u64; MOST_ROWS],
@@ -233,7 +233,7 @@ pub fn read(
     list: &[u8],
     spreads: &[u8],
     letter: u8,
-    segment: Found,
+    segment: Option<usize>,
     bytes: &[u8],
     cells: &mut [u64; MOST_ROWS],
 ) -> Outline

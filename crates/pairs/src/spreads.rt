@@ -1,6 +1,5 @@
 // The spread list beside the contract list: the same segments, and pairs of keys that are listed there.
 ghost use Rattle.std.specs.Prelude.{◌≡◌, ◌<◌};
-ghost use Rattle.lookup.specs.Answers.{place_of};
 ghost use Rattle.files.specs.File.{count_at};
 ghost use Rattle.pairs.specs.Inner.{part_fits, each_fits};
 ghost use Rattle.lookup.specs.Lookup.{place_in};
@@ -9,7 +8,6 @@ ghost use Rattle.pairs.specs.SpreadTests.{same_letter, is_found, pair_listed, pa
 use crate::habit::PAIRS;
 use contracts::Part;
 use files::CONTRACTS;
-use lookup::Found;
 
 fn same_letter(list: &[u8], spreads: &[u8], segment: usize) -> bool
     ensures { result ≡ same_letter list.now spreads.now segment }
@@ -17,21 +15,12 @@ fn same_letter(list: &[u8], spreads: &[u8], segment: usize) -> bool
     files::letter_at(spreads, segment) == files::letter_at(list, segment)
 }
 
-fn is_found(found: Found) -> bool
-    ensures { result ≡ is_found (place_of found) }
-{
-    match found {
-        Found::At(_) => true,
-        Found::Nowhere => false,
-    }
-}
-
 fn half_listed(list: &[u8], segment: usize, half: &[u8]) -> bool
     ensures { result ≡ is_found (place_in list.now segment half.now) }
 {
-    let sought = lookup::place_of(list, CONTRACTS, segment, half);
-    let found = sought.found;
-    is_found(found)
+    lookup::place_of(list, CONTRACTS, segment, half)
+        .found
+        .is_some()
 }
 
 // The halves of a pair are two contracts' keys.

@@ -2,7 +2,6 @@
 use crate::leaves;
 use crate::say::{say, say_bool, say_with};
 use files::{CONTRACTS, Habit};
-use lookup::Found;
 use std::io::Result;
 
 pub fn say_list(rt: &impl Print, list: &[u8]) -> Result<()> {
@@ -45,8 +44,8 @@ fn say_place(rt: &impl Print, list: &[u8], habit: Habit, segment: usize, key: &[
     let found = sought.found;
     say_with(rt, b"segment ", segment as u64)?;
     match found {
-        Found::Nowhere => say(rt, b" nowhere"),
-        Found::At(place) => say_with(rt, b" place ", place as u64),
+        None => say(rt, b" nowhere"),
+        Some(place) => say_with(rt, b" place ", place as u64),
     }?;
     say_with(rt, b" compared ", sought.compared as u64)
 }
@@ -59,7 +58,7 @@ pub fn say_key(rt: &impl Print, asked: &[u8], habit: Habit) -> Result<()> {
     }
     let list = &asked[end..];
     match lookup::segment_of(list, asked[0]) {
-        Found::Nowhere => say(rt, b"nowhere"),
-        Found::At(segment) => say_place(rt, list, habit, segment, &asked[1..end]),
+        None => say(rt, b"nowhere"),
+        Some(segment) => say_place(rt, list, habit, segment, &asked[1..end]),
     }
 }

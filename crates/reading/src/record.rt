@@ -10,7 +10,6 @@ ghost use Rattle.reading.specs.Record.{stamp_shown, cells_at, Finds, blank, blan
 ghost use Rattle.reading.specs.Reads.{ReadRecord, ReadSpread};
 
 use layout::{Form, Item, KEY_BYTES, KEY_ROWS, Level, MOST_ROWS, PAIR_BYTES, Session};
-use lookup::Found;
 use quote::Quote;
 use spread::SpreadQuote;
 use state::{Asked, Recorded, Refusal};
@@ -82,14 +81,14 @@ fn find_record(
 {
     match state::check_segment(list, spreads, rows, records, letter) {
         Asked::Segment(segment) => {
-            let sought = message::find(list, spreads, item, Found::At(segment), key);
+            let sought = message::find(list, spreads, item, Some(segment), key);
             let found = sought.found;
             match found {
-                Found::At(place) => {
+                Some(place) => {
                     let fronts = slots::fronts_of(list, spreads, segment);
                     Place::At(slots::record_at(fronts, item, place, level))
                 }
-                Found::Nowhere => Place::Refused(Refusal::Contract(0)),
+                None => Place::Refused(Refusal::Contract(0)),
             }
         }
         Asked::Refused(refusal) => Place::Refused(refusal),

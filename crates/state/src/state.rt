@@ -8,7 +8,6 @@ ghost use Rattle.state.specs.Answers.{checked_numbers, checked_by};
 ghost use Rattle.state.specs.State.{state_rules, memory_rules, Asks};
 
 use crate::refusal::Refusal;
-use lookup::Found;
 
 #[derive(Clone, Copy)]
 pub enum Checked {
@@ -87,8 +86,8 @@ pub fn check_segment(
 {
     match check_state(list, spreads, rows, records) {
         Checked::Good => match lookup::segment_of(list, letter) {
-            Found::At(segment) => Asked::Segment(segment),
-            Found::Nowhere => Asked::Refused(Refusal::Code(0)),
+            Some(segment) => Asked::Segment(segment),
+            None => Asked::Refused(Refusal::Code(0)),
         },
         Checked::Refused(refusal) => Asked::Refused(refusal),
     }

@@ -6,7 +6,6 @@ ghost use Rattle.sequence.specs.RowLaid.{sound_gap_row};
 ghost use Rattle.turns.specs.Acts.{counted, none, total, Ready, NumberActs, MessageActs, JudgedMessages, Turned};
 
 use layout::MOST_ROWS;
-use lookup::Found;
 use message::What;
 use slots::Fronts;
 use state::{Judged, Refusal};
@@ -61,7 +60,7 @@ fn message_acts(
     list: &[u8],
     spreads: &[u8],
     letter: u8,
-    segment: Found,
+    segment: Option<usize>,
     fronts: Fronts,
     row: &mut [u32; sequence::CELLS],
     stores: &mut [u64],
@@ -146,7 +145,7 @@ pub fn judge_messages(
     list: &[u8],
     spreads: &[u8],
     letter: u8,
-    segment: Found,
+    segment: Option<usize>,
     fronts: Fronts,
     row: &mut [u32; sequence::CELLS],
     stores: &mut [u64],

@@ -5,7 +5,7 @@ use Rattle.batch.specs.ScratchLaws.{row_started}
 use Rattle.batch.proofs.scratch.copy_row_in.Goals as goal
 
 pub copy_row-requires : goal.copy_row-requires
-copy_row-requires c = let s = c in ((s.requires.0 _ (ap place_of c.in-At.is)).0, s.requires.1)
+copy_row-requires c = let s = c in ((s.requires.0 _ (ap place_of c.in-Some.is)).0, s.requires.1)
 
-pub returns-in-Nowhere : goal.returns-in-Nowhere
-returns-in-Nowhere c = row_started _ _ (ap place_of c.in-Nowhere.is) _ c.start.ensures
+pub returns-in-None : goal.returns-in-None
+returns-in-None c = row_started _ _ (ap place_of c.in-None.is) _ c.start.ensures

@@ -6,4 +6,4 @@ use Rattle.batch.proofs.scratch.put_row_in.Goals as goal
 pub put_row-requires : goal.put_row-requires
 put_row-requires c =
     let s = c in
-    ((s.requires.0 _ (ap place_of c.in-At.is)).0, s.requires.1)
+    ((s.requires.0 _ (ap place_of c.in-Some.is)).0, s.requires.1)

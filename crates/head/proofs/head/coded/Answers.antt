@@ -1,7 +1,7 @@
 -- The first test that fails settles it.
 -- rule 6 by its parts
-use Rattle.std.proofs.Common.{◌≡◌, refl, ap, sym, ◌∙◌, Bool, true, false, ◌&&◌, eqb, eq-eqb, ne_eqb}
-use Rattle.lookup.specs.declared.lookup.Found.{Found}
+use Rattle.std.proofs.Common.{◌≡◌, refl, sym, ◌∙◌, Bool, true, false, ◌&&◌, eqb, eq-eqb, ne_eqb}
+use Rattle.std.specs.Prelude.{ℕ, Option as Found, Some, None, is_some as found_some}
 use Rattle.lookup.specs.Answers.{place_of}
 use Rattle.head.specs.Fields.{letter_of, segment_letter_of, second_of}
 use Rattle.head.specs.Tests.{is_code, is_some, coded}
@@ -27,14 +27,12 @@ returns-then-not-is_code c =
     in
     sym (parts (goal.at.returns-then-not-is_code c).After-segment_letter_of true false same-letter (second_is (goal.at.returns-then-not-is_code c).After-is_code false c.if-not-is_code.true))
 
-pub returns-in-At : goal.returns-in-At
-returns-in-At c =
-    let same-letter : eqb (segment_letter_of c.args.bytes.now) c.args.letter ≡ true = rw (← c.segment_letter_of.ensures) (eq-eqb _ _ c.if-segment_letter_of-letter.false) in
-    ap (λ (f : Found). is_some (place_of f)) (sym c.in-At.is)
-    ∙ sym (parts (goal.at.returns-in-At c).After-segment_letter_of true true same-letter (second_is (goal.at.returns-in-At c).After-is_code true c.if-not-is_code.false))
+found_is : (o : Found ℕ) → found_some o ≡ is_some (place_of o)
+found_is (Some i) = refl
+found_is None = refl
 
-pub returns-in-Nowhere : goal.returns-in-Nowhere
-returns-in-Nowhere c =
+pub returns : goal.returns
+returns c =
     let same-letter : eqb (segment_letter_of c.args.bytes.now) c.args.letter ≡ true = rw (← c.segment_letter_of.ensures) (eq-eqb _ _ c.if-segment_letter_of-letter.false) in
-    ap (λ (f : Found). is_some (place_of f)) (sym c.in-Nowhere.is)
-    ∙ sym (parts (goal.at.returns-in-Nowhere c).After-segment_letter_of true true same-letter (second_is (goal.at.returns-in-Nowhere c).After-is_code true c.if-not-is_code.false))
+    c.is_some.ensures ∙ found_is c.args.segment
+    ∙ sym (parts (goal.at.returns c).After-segment_letter_of true true same-letter (second_is (goal.at.returns c).After-is_code true c.if-not-is_code.false))

@@ -15,29 +15,29 @@ record_at-requires c =
     let lent = lends (lists a.list.now a.spreads.now) a.rows.now a.records.now in
     let asked = asked_segment lent a.letter _ (rw c.in-Segment.is at c.check_segment.ensures) in
     let looked = sym (found_told contract_no c.find-sought.result.found _ c.find-sought.ensures.place) in
-    (c.fronts_of-fronts.ensures.small a.item, place_few a.item lent a.letter a.key.now asked.0 c.in-Segment.segment asked.1 _ (rw c.in-At.is at looked))
+    (c.fronts_of-fronts.ensures.small a.item, place_few a.item lent a.letter a.key.now asked.0 c.in-Segment.segment asked.1 _ (rw c.in-Some.is at looked))
 
-pub returns-in-At : goal.returns-in-At
-returns-in-At c =
+pub returns-in-Some : goal.returns-in-Some
+returns-in-Some c =
     let a = c.args in
     let lent = lends (lists a.list.now a.spreads.now) a.rows.now a.records.now in
     let asked = asked_segment lent a.letter _ (rw c.in-Segment.is at c.check_segment.ensures) in
     let looked = sym (found_told contract_no c.find-sought.result.found _ c.find-sought.ensures.place) in
-    let found = rw c.in-At.is at looked in
-    let at = c.record_at.ensures ∙ ap (λ (n : ℕ). record_at a.item n c.in-At.place a.level) (c.fronts_of-fronts.ensures.are a.item) in
+    let found = rw c.in-Some.is at looked in
+    let at = c.record_at.ensures ∙ ap (λ (n : ℕ). record_at a.item n c.in-Some.place a.level) (c.fronts_of-fronts.ensures.are a.item) in
     finds_at a.item lent a.letter a.key.now a.level
     (key_holds a.item lent a.letter a.key.now asked.0 c.in-Segment.segment asked.1 _ found)
     (at ∙ record_found a.item lent a.letter a.key.now asked.0 c.in-Segment.segment asked.1 _ found a.level)
     (rw at (record_lent a.item lent a.letter a.key.now asked.0 c.in-Segment.segment asked.1 _ found a.level))
 
-pub returns-in-Nowhere : goal.returns-in-Nowhere
-returns-in-Nowhere c =
+pub returns-in-None : goal.returns-in-None
+returns-in-None c =
     let a = c.args in
     let lent = lends (lists a.list.now a.spreads.now) a.rows.now a.records.now in
     let asked = asked_segment lent a.letter _ (rw c.in-Segment.is at c.check_segment.ensures) in
     let looked = sym (found_told contract_no c.find-sought.result.found _ c.find-sought.ensures.place) in
     finds_refused a.item lent a.letter a.key.now a.level _
-    (key_broken a.item lent a.letter a.key.now asked.0 c.in-Segment.segment asked.1 (rw c.in-Nowhere.is at looked))
+    (key_broken a.item lent a.letter a.key.now asked.0 c.in-Segment.segment asked.1 (rw c.in-None.is at looked))
 
 pub returns-in-Refused : goal.returns-in-Refused
 returns-in-Refused c =

@@ -1,6 +1,6 @@
 -- A batch is refused by the first broken rule in document 01's order, and accepted exactly when it is good.
 use Prim.Native.Nat.{ℕ, zero, suc, ◌<◌}
-use Rattle.std.specs.Prelude.{◌≡◌, Bool, ◌↔◌, List, [], ◌∷◌, ◌++◌, leb, eqb, length, drop}
+use Rattle.std.specs.Prelude.{◌≡◌, Bool, ◌↔◌, List, [], ◌∷◌, ◌++◌, leb, eqb, length, drop, Ok, Err}
 use Rattle.std.proofs.Math.Path.{refl}
 use Rattle.std.proofs.Common.{ap, sym, ◌∙◌, ⊎_elim, arith}
 use Rattle.std.proofs.Math.Bool.{true, false, cond}
@@ -18,8 +18,7 @@ use Rattle.sequence.specs.RowLaid.{sound_gap_row}
 use Rattle.message.specs.declared.body.What.{What}
 use Rattle.message.specs.declared.body.What.TheVariants as what
 use Rattle.head.specs.declared.head.Fault.{Fault}
-use Rattle.head.specs.declared.head.Head.{Head}
-use Rattle.head.specs.declared.head.Head.TheVariants.{Good, Bad}
+use Rattle.head.specs.Faults.{Head}
 use Rattle.message.proofs.GoodLaws.{rules_exact}
 use Rattle.head.specs.Fields.{length_of}
 use Rattle.message.specs.Reads.{message_of}
@@ -49,8 +48,8 @@ use Rattle.batch.specs.StepLaws.{Went, Fell, good_goes}
 -- ---- the rules of one message
 
 abbrev as_option : ℕ → Head → Option Refusal
-as_option i Good = none
-as_option i (Bad fault) = some (of_fault fault i)
+as_option i (Ok _) = none
+as_option i (Err fault) = some (of_fault fault i)
 
 as_first : (i : ℕ) (rules : List (RuleOf Fault)) → first_broken (as_rules i rules) ≡ as_option i (first_fault rules)
 as_first i [] = refl
@@ -111,7 +110,7 @@ module _ (lists : Lists) (letter : ℕ) where
       Decided : Type 0
       Decided = refusal_of (messages_act (suc more) lists letter i box bytes) ≡ first_broken (own more i gaps bytes ++ behind more i gaps bytes)
 
-      good : Behind → (w : What) → (message_of lists letter bytes).what ≡ w → verdict_of w ≡ Good → Decided
+      good : Behind → (w : What) → (message_of lists letter bytes).what ≡ w → verdict_of w ≡ Ok tt → Decided
       good rest w e g =
           let holds = front_holds (own more i gaps bytes) (behind more i gaps bytes) (none_hold (own more i gaps bytes) (own_first more i gaps bytes w e ∙ ap (as_option i) g)) in
           ⊎_elim (λ (d : Went (records_wanted lists) box (message_acts lists letter box i bytes) (gaps_after (gaps_of box.row) bytes)).

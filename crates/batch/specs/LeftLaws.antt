@@ -1,5 +1,5 @@
 -- What an accepted batch leaves: as many messages counted as it has, and a state that is good again.
-use Rattle.std.specs.Prelude.{ℕ, zero, suc, ◌+◌, ◌*◌, ◌≤◌, ◌<◌, ◌≡◌, refl, true, List, length, drop}
+use Rattle.std.specs.Prelude.{ℕ, zero, suc, ◌+◌, ◌*◌, ◌≤◌, ◌<◌, ◌≡◌, refl, true, List, length, drop, Ok}
 use Rattle.std.proofs.Common.{ap, sym, ◌∙◌, ⊎_elim, arith}
 use Rattle.std.proofs.Math.Option.{Option, none, some}
 use Rattle.files.specs.File.{segments_of}
@@ -9,7 +9,6 @@ use Rattle.pairs.specs.Lists.{Lists, Headers}
 use Rattle.laws.specs.Order.{order}
 use Rattle.message.specs.declared.body.What.{What}
 use Rattle.message.specs.declared.body.What.TheVariants as what
-use Rattle.head.specs.declared.head.Head.TheVariants.{Good}
 use Rattle.head.specs.Fields.{length_of}
 use Rattle.message.specs.Reads.{message_of}
 use Rattle.message.specs.Numbers.{verdict_of}
@@ -56,7 +55,7 @@ module _ (lists : Lists) (letter : ℕ) where
       Behind : Type 0
       Behind = (box' : Box) → sound_gap_row box'.row ≡ true → messages_act more lists letter (suc i) box' (drop (length_of bytes) bytes) ≡ acted final → Leaves (records_wanted lists) more box' final
 
-      good : Behind → verdict_of (message_of lists letter bytes).what ≡ Good → Leaves (records_wanted lists) (suc more) box final
+      good : Behind → verdict_of (message_of lists letter bytes).what ≡ Ok tt → Leaves (records_wanted lists) (suc more) box final
       good rest g =
           ⊎_elim (λ (d : Went (records_wanted lists) box (message_acts lists letter box i bytes) (gaps_after (gaps_of box.row) bytes)).
           let l = rest d.box d.sound (sym (messages_next lists letter more i box bytes d.box d.acts) ∙ e) in

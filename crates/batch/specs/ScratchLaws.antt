@@ -1,5 +1,5 @@
 -- Laws of scratch rows: what is copied or started is one, and on one the messages of a batch do what they do.
-use Rattle.std.specs.Prelude.{ℕ, zero, suc, ◌<◌, ◌≡◌, refl, List, length}
+use Rattle.std.specs.Prelude.{ℕ, zero, suc, ◌<◌, ◌≡◌, refl, List, length, Ok}
 use Rattle.std.proofs.Common.{ap, ap₂, sym, ◌∙◌, arith}
 use Rattle.std.proofs.lemmas.Bool.{false≢true}
 use Rattle.std.proofs.Math.Option.{Option, none, some}
@@ -12,7 +12,6 @@ use Rattle.pairs.specs.Lists.{Lists, Headers}
 use Rattle.slots.specs.declared.records.Fronts.{Fronts}
 use Rattle.message.specs.declared.body.What.{What}
 use Rattle.message.specs.declared.body.What.TheVariants as what
-use Rattle.head.specs.declared.head.Head.TheVariants.{Good}
 use Rattle.head.specs.Fields.{segment_letter_of}
 use Rattle.head.specs.HeadLaws.{listed_exact}
 use Rattle.message.specs.Reads.{message_of}
@@ -42,7 +41,7 @@ use Rattle.stores.specs.Stores.{made, Room}
 
 module _ (lists : Lists) (letter : ℕ) (unlisted : segment_of lists.contracts letter ≡ none) where
   -- 5 or 6: where no segment has the letter no message is good
-  pub never_good : (bytes : List ℕ) → verdict_of (message_of lists letter bytes).what ≡ Good → ⊥
+  pub never_good : (bytes : List ℕ) → verdict_of (message_of lists letter bytes).what ≡ Ok tt → ⊥
   never_good bytes g =
       let l = (listed_exact lists.contracts letter).1 ((good_exact lists letter bytes).0 g).code.listed in
       false≢true (rw unlisted at l)

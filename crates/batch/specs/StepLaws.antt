@@ -1,5 +1,5 @@
 -- What one message of a batch does to gaps and counts.
-use Rattle.std.specs.Prelude.{ℕ, suc, ◌+◌, ◌≤◌, ◌≡◌, refl, Bool, true, false, cond, ◌⊎◌, List, [], ◌∷◌, leb, ltb, length, get_or, set, drop}
+use Rattle.std.specs.Prelude.{ℕ, suc, ◌+◌, ◌≤◌, ◌≡◌, refl, Bool, true, false, cond, ◌⊎◌, List, [], ◌∷◌, leb, ltb, length, get_or, set, drop, Ok}
 use Rattle.std.proofs.Common.{ap, sym, ◌∙◌, inl, inr, ⊎_elim, arith, le-leb, ltb-true, ltb-false, drop-set-lt}
 use Rattle.std.proofs.Math.Option.{Option, none, some}
 use Rattle.std.proofs.lemmas.Bool.{lt-leb}
@@ -26,7 +26,6 @@ use Rattle.forms.specs.declared.forms.Item.{Item}
 use Rattle.forms.specs.declared.forms.Named.{Named}
 use Rattle.forms.specs.declared.forms.Named.TheVariants as is
 use Rattle.forms.specs.Forms.{subject_of}
-use Rattle.head.specs.declared.head.Head.TheVariants.{Good}
 use Rattle.message.proofs.CallerLaws.{contents_good}
 use Rattle.head.specs.Fields.{form_in, number_of, data_of}
 use Rattle.message.specs.Message.{message_place, market_in, updates, acting_for, acting, acts_as, of_named, of_place, of_subject}
@@ -165,7 +164,7 @@ tells verdict.Good is.PassedOver market n p = ((λ g. refl), refl)
 tells (verdict.Field row) k market n p = tt
 tells (verdict.Range row) k market n p = tt
 
-module _ (lists : Lists) (headers : Headers lists) (letter : ℕ) (box : Box) (i : ℕ) (bytes : List ℕ) (good : verdict_of (message_of lists letter bytes).what ≡ Good) where
+module _ (lists : Lists) (headers : Headers lists) (letter : ℕ) (box : Box) (i : ℕ) (bytes : List ℕ) (good : verdict_of (message_of lists letter bytes).what ≡ Ok tt) where
   told : Tells (message_of lists letter bytes).what (arrived_as (form_in bytes)) (number_of bytes)
   unfolding contents_by acts_as
   told =

@@ -1,10 +1,8 @@
 -- The faults of a message in the paper's numbers.
-use Rattle.std.specs.Prelude.{ℕ, List, [], ◌∷◌}
+use Rattle.std.specs.Prelude.{ℕ, List, [], ◌∷◌, Ok, Err, Result}
 use Rattle.laws.specs.Refused.{frame_no, code_no, trailer_no, length_no, checksum_no, numbering_no, field_no, range_no, contract_no}
 use Rattle.head.specs.declared.head.Fault.{Fault}
 use Rattle.head.specs.declared.head.Fault.TheVariants.{Frame, Code, Trailer, Length, Checksum, Numbering, Field, Range, Contract}
-use Rattle.head.specs.declared.head.Head.{Head}
-use Rattle.head.specs.declared.head.Head.TheVariants as head
 
 -- 01, the table: the row's number, and the row of the data where it returns one
 abbrev pub fault_numbers : Fault → List ℕ
@@ -18,7 +16,11 @@ fault_numbers (Field row) = field_no ∷ row ∷ []
 fault_numbers (Range row) = range_no ∷ row ∷ []
 fault_numbers Contract = contract_no ∷ []
 
+-- 01, the order of checks: nothing where no rule is broken, or the fault of the first that is
+abbrev pub Head : Type 0
+Head = Result (Unit {0}) Fault
+
 -- 01, the table's rows 5 to 10: 0 where none of them is broken, or the fault's
 abbrev pub head_numbers : Head → List ℕ
-head_numbers head.Good = 0 ∷ []
-head_numbers (head.Bad fault) = fault_numbers fault
+head_numbers (Ok _) = 0 ∷ []
+head_numbers (Err fault) = fault_numbers fault

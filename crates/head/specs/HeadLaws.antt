@@ -1,5 +1,5 @@
 -- Laws of the head: each rule's test in the paper's words.
-use Rattle.std.specs.Prelude.{ℕ, ◌-◌, ◌≤◌, ◌≡◌, refl, Bool, true, false, cond, ◌&&◌, ◌||◌, ◌↔◌, eqb, length}
+use Rattle.std.specs.Prelude.{ℕ, ◌-◌, ◌≤◌, ◌≡◌, refl, Bool, true, false, cond, ◌&&◌, ◌||◌, ◌↔◌, eqb, length, Ok, Err}
 use Rattle.std.proofs.Math.Path.{ap}
 use Rattle.std.proofs.Common.{ap₂, ◌∙◌, inl, inr, ⊎_elim, arith, eqb-true, eq-eqb, ne_eqb}
 use Rattle.std.proofs.Math.Bool.{and-true, or-true, or-false}
@@ -26,8 +26,7 @@ use Rattle.forms.specs.Rows.{message_length}
 use Rattle.forms.specs.Forms.{rows_of, subject_of, session_of, is_stamped, forms_of, of_length, named_by, form_of}
 use Rattle.forms.specs.FormsLaws.{told_form, nothing_zero, stamped_code, session_code}
 use Rattle.head.specs.declared.head.Fault.{Fault}
-use Rattle.head.specs.declared.head.Head.{Head}
-use Rattle.head.specs.declared.head.Head.TheVariants.{Good, Bad}
+use Rattle.head.specs.Faults.{Head}
 use Rattle.head.specs.Rules.{first_fault, head_of}
 use Rattle.head.specs.RulesLaws.{good_hold, and_then, first_append}
 use Rattle.head.specs.GoodHead.{Framed, IsPreOpen, IsCode, Coded, LetterListed, HasLength, HasSum, NumberFor, HasNumber}
@@ -203,11 +202,11 @@ module _ (letter : ℕ) (segment : Option ℕ) (bytes : List ℕ) where
   unfolding head_of
   in_turn_lem frame e = first_append (frame_rules letter segment bytes) (form_rules bytes) ∙ ap (λ (h : Head). and_then h (first_fault (form_rules bytes))) e
 
-  pub good_frame : frame_here ≡ Good → (framed bytes ≡ true) × (head_of letter segment bytes ≡ first_fault (form_rules bytes))
-  good_frame e = ((good_hold (frame_rules letter segment bytes) e).0, in_turn_lem Good e)
+  pub good_frame : frame_here ≡ Ok tt → (framed bytes ≡ true) × (head_of letter segment bytes ≡ first_fault (form_rules bytes))
+  good_frame e = ((good_hold (frame_rules letter segment bytes) e).0, in_turn_lem (Ok tt) e)
 
-  pub bad_frame : (fault : Fault) → frame_here ≡ Bad fault → head_of letter segment bytes ≡ Bad fault
-  bad_frame fault e = in_turn_lem (Bad fault) e
+  pub bad_frame : (fault : Fault) → frame_here ≡ Err fault → head_of letter segment bytes ≡ Err fault
+  bad_frame fault e = in_turn_lem (Err fault) e
 
 -- what is named a heartbeat is a form that tells of nothing
 pub heartbeat_form : (named : Named) → is_heartbeat named ≡ true → (form : Form) × (named ≡ is.Form form) × (subject_of form ≡ Nothing)

@@ -19,6 +19,7 @@ pub const DATA: usize = 8;
 
 pub const TRAILER: usize = 3;
 
+#[tactic(auto, unfolding(crate::specs::Fields::letter_of))]
 pub(crate) fn letter_of(bytes: &[u8]) -> u8
     ensures { result ≡ letter_of bytes.now }
 {
@@ -26,6 +27,7 @@ pub(crate) fn letter_of(bytes: &[u8]) -> u8
 }
 
 // P counts as F.
+#[tactic(auto, unfolding(crate::specs::Fields::segment_letter_of))]
 pub fn segment_letter_of(bytes: &[u8]) -> u8
     ensures { result ≡ segment_letter_of bytes.now }
 {
@@ -36,24 +38,28 @@ pub fn segment_letter_of(bytes: &[u8]) -> u8
     letter
 }
 
+#[tactic(auto, unfolding(crate::specs::Fields::second_of))]
 pub(crate) fn second_of(bytes: &[u8]) -> u8
     ensures { result ≡ second_of bytes.now }
 {
     wire::u8_at(bytes, SECOND)
 }
 
+#[tactic(auto, unfolding(crate::specs::Fields::length_of))]
 pub fn length_of(bytes: &[u8]) -> usize
     ensures { result ≡ length_of bytes.now }
 {
     wire::u16_at(bytes, LENGTH) as usize
 }
 
+#[tactic(auto, unfolding(crate::specs::Fields::number_of))]
 pub fn number_of(bytes: &[u8]) -> u32
     ensures { result ≡ number_of bytes.now }
 {
     wire::u32_at(bytes, NUMBER)
 }
 
+#[tactic(auto, unfolding(crate::specs::Fields::form_in))]
 pub fn form_in(bytes: &[u8]) -> Named
     ensures { Tells named_numbers form_named (form_in bytes.now) result }
 {

@@ -27,13 +27,7 @@ pub enum Fault {
     Contract,
 }
 
-// The verdict on all of a message but its data.
-#[derive(Clone, Copy)]
-pub enum Head {
-    Good,
-    Bad(Fault),
-}
-
+#[tactic(auto, unfolding(crate::specs::Tests::framed))]
 fn framed(bytes: &[u8]) -> bool
     ensures { result ≡ framed bytes.now }
 {
@@ -50,14 +44,14 @@ fn framed(bytes: &[u8]) -> bool
 fn is_capital(second: u8) -> bool
     ensures { result ≡ is_capital second }
 {
-    b'A' <= second && second <= b'Z'
+    second.is_ascii_uppercase()
 }
 
 // The P codes that the paper prints.
 fn is_pre_open(second: u8) -> bool
     ensures { result ≡ is_pre_open second }
 {
-    (second == b'N') | ((second == b'O') | (second == b'C'))
+    matches!(second, b'N' | b'O' | b'C')
 }
 
 fn is_code(letter: u8, second: u8) -> bool
@@ -70,6 +64,7 @@ fn is_code(letter: u8, second: u8) -> bool
 }
 
 // The letter's segment was looked up once for the batch.
+#[tactic(auto, unfolding(crate::specs::Tests::coded))]
 fn coded(letter: u8, segment: Option<usize>, bytes: &[u8]) -> bool
     ensures { result ≡ coded letter (place_of segment) bytes.now }
 {
@@ -82,6 +77,7 @@ fn coded(letter: u8, segment: Option<usize>, bytes: &[u8]) -> bool
     segment.is_some()
 }
 
+#[tactic(auto, unfolding(crate::specs::Tests::trailed, crate::specs::Fields::end_byte))]
 fn trailed(bytes: &[u8], whole: usize) -> bool
     requires { Framed bytes.now × (whole ≡ length_of bytes.now) }
     ensures { result ≡ trailed bytes.now }
@@ -90,6 +86,7 @@ fn trailed(bytes: &[u8], whole: usize) -> bool
 }
 
 // Whether these two bytes are sent as the sum.
+#[tactic(auto, unfolding(crate::specs::Fields::sum_sent))]
 fn carries(bytes: &[u8], whole: usize, first: u8, second: u8) -> bool
     requires { Framed bytes.now × (whole ≡ length_of bytes.now) }
     ensures { result ≡ same_bytes (sum_sent bytes.now) (first ∷ second ∷ []) }
@@ -100,6 +97,7 @@ fn carries(bytes: &[u8], whole: usize, first: u8, second: u8) -> bool
     wire::u8_at(bytes, whole - 2) == second
 }
 
+#[tactic(auto, unfolding(crate::specs::Fields::right_sum))]
 fn carries_right(bytes: &[u8], whole: usize) -> bool
     requires { Framed bytes.now × (whole ≡ length_of bytes.now) }
     ensures { result ≡ same_bytes (sum_sent bytes.now) (right_sum bytes.now) }
@@ -112,14 +110,11 @@ fn carries_right(bytes: &[u8], whole: usize) -> bool
 fn takes_length(named: Named) -> bool
     ensures { result ≡ takes_length named }
 {
-    match named {
-        Named::Form(_) => true,
-        Named::NoLength => false,
-        Named::PassedOver => true,
-    }
+    !matches!(named, Named::NoLength)
 }
 
 // By the rule of its code. The sum is worked out only where zero doesn't settle it.
+#[tactic(auto, unfolding(crate::specs::Tests::summed, crate::specs::Fields::sum_in))]
 fn summed(bytes: &[u8], whole: usize) -> bool
     requires { Framed bytes.now × (whole ≡ length_of bytes.now) }
     ensures { result ≡ summed bytes.now }
@@ -151,8 +146,7 @@ pub fn takes_number(named: Named, number: u32) -> bool
 {
     match named {
         Named::Form(form) => numbers_subject(layout::subject_of(form), number),
-        Named::NoLength => 1 <= number,
-        Named::PassedOver => 1 <= number,
+        Named::NoLength | Named::PassedOver => 1 <= number,
     }
 }
 
@@ -160,58 +154,57 @@ pub fn is_heartbeat(named: Named) -> bool
     ensures { result ≡ is_heartbeat named }
 {
     match named {
-        Named::Form(form) => match layout::subject_of(form) {
-            Subject::Nothing => true,
-            Subject::Of(_, _) => false,
-        },
-        Named::NoLength => false,
-        Named::PassedOver => false,
+        Named::Form(form) => matches!(layout::subject_of(form), Subject::Nothing),
+        Named::NoLength | Named::PassedOver => false,
     }
 }
 
 // The rules 5 to 7 in turn: the first broken one decides.
-pub fn judge_frame(letter: u8, segment: Option<usize>, bytes: &[u8]) -> Head
+#[tactic(auto, using(crate::specs::HeadLaws::framed_exact))]
+pub fn judge_frame(letter: u8, segment: Option<usize>, bytes: &[u8]) -> Result<(), Fault>
     ensures { head_numbers result ≡ head_numbers (first_fault (frame_rules letter (place_of segment) bytes.now)) }
 {
     if !framed(bytes) {
-        return Head::Bad(Fault::Frame);
+        return Err(Fault::Frame);
     }
     if !coded(letter, segment, bytes) {
-        return Head::Bad(Fault::Code);
+        return Err(Fault::Code);
     }
     if !trailed(bytes, fields::length_of(bytes)) {
-        return Head::Bad(Fault::Trailer);
+        return Err(Fault::Trailer);
     }
-    Head::Good
+    Ok(())
 }
 
 // Where these hold, the rules 8 to 10 in turn.
-pub fn judge_form(bytes: &[u8], named: Named) -> Head
+#[tactic(auto, using(crate::specs::HeadLaws::framed_exact))]
+pub fn judge_form(bytes: &[u8], named: Named) -> Result<(), Fault>
     requires { (framed bytes.now ≡ true) × (named ≡ form_in bytes.now) }
     ensures { head_numbers result ≡ head_numbers (first_fault (form_rules bytes.now)) }
 {
     if !takes_length(named) {
-        return Head::Bad(Fault::Length);
+        return Err(Fault::Length);
     }
     if !summed(bytes, fields::length_of(bytes)) {
-        return Head::Bad(Fault::Checksum);
+        return Err(Fault::Checksum);
     }
     if !takes_number(named, fields::number_of(bytes)) {
-        return Head::Bad(Fault::Numbering);
+        return Err(Fault::Numbering);
     }
-    Head::Good
+    Ok(())
 }
 
 // The same for a heartbeat, of which both sum and number are zero: it needs no other word of the table.
-pub fn judge_heartbeat(bytes: &[u8]) -> Head
+#[tactic(auto, using(crate::specs::HeadLaws::framed_exact, crate::specs::HeadLaws::heartbeat_length, crate::specs::HeadLaws::heartbeat_sum, crate::specs::HeadLaws::heartbeat_number))]
+pub fn judge_heartbeat(bytes: &[u8]) -> Result<(), Fault>
     requires { (framed bytes.now ≡ true) × (is_heartbeat (form_in bytes.now) ≡ true) }
     ensures { head_numbers result ≡ head_numbers (first_fault (form_rules bytes.now)) }
 {
     if !carries(bytes, fields::length_of(bytes), 0, 0) {
-        return Head::Bad(Fault::Checksum);
+        return Err(Fault::Checksum);
     }
     if fields::number_of(bytes) != 0 {
-        return Head::Bad(Fault::Numbering);
+        return Err(Fault::Numbering);
     }
-    Head::Good
+    Ok(())
 }

@@ -5,4 +5,4 @@ mod fields;
 mod head;
 
 pub use fields::{DATA, TRAILER, form_in, length_of, number_of, segment_letter_of};
-pub use head::{Fault, Head, is_heartbeat, judge_form, judge_frame, judge_heartbeat, takes_number};
+pub use head::{Fault, is_heartbeat, judge_form, judge_frame, judge_heartbeat, takes_number};

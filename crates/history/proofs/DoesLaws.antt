@@ -1,5 +1,5 @@
 -- What a message of a segment does, by what it is. Of the laws on histories this one alone looks into an update.
-use Rattle.std.specs.Prelude.{ℕ, ◌<◌, ◌≡◌, refl, true, List, eqb}
+use Rattle.std.specs.Prelude.{ℕ, ◌<◌, ◌≡◌, refl, true, List, eqb, Ok}
 use Rattle.std.proofs.Common.{sym, ap, ap₂, subst, ◌∙◌}
 use Rattle.std.proofs.Math.Option.{Option, none, some}
 use Rattle.lookup.specs.Lookup.{segment_of}
@@ -28,7 +28,6 @@ use Rattle.pairs.specs.Items.{habit_of, file_of}
 use Rattle.message.specs.declared.body.What.{What}
 use Rattle.message.specs.declared.body.What.TheVariants as what
 use Rattle.head.specs.declared.head.Fault.{Fault}
-use Rattle.head.specs.declared.head.Head.TheVariants.{Good}
 use Rattle.message.proofs.CallerLaws.{update_told}
 use Rattle.head.specs.Fields.{form_in, segment_letter_of, data_of}
 use Rattle.head.specs.HeadLaws.{stamped_by}
@@ -86,7 +85,7 @@ module _ (lists : Lists) (letter i : ℕ) (bytes : List ℕ) where
 
   -- a message that is good and has a number
   abbrev Numbered : Type 0
-  Numbered = (is_numbered m.what ≡ true) × (verdict_of m.what ≡ Good)
+  Numbered = (is_numbered m.what ≡ true) × (verdict_of m.what ≡ Ok tt)
 
   pub data Does : Type 0 where
     is_bad : (fault : Fault) → m.what ≡ what.Bad fault → Does

@@ -1,6 +1,6 @@
 -- Demand 3, "A call is refused for gaps exactly when no earlier rule refuses it and over 64 runs would stand".
 use Prim.Native.Nat.{ℕ, zero, suc, ◌+◌, ◌≤◌}
-use Rattle.std.specs.Prelude.{◌≡◌, refl, Bool, true, false, cond, ◌&&◌, List, ◌∷◌, ◌↔◌, leb, ltb, eqb, length, drop}
+use Rattle.std.specs.Prelude.{◌≡◌, refl, Bool, true, false, cond, ◌&&◌, List, ◌∷◌, ◌↔◌, leb, ltb, eqb, length, drop, Ok}
 use Rattle.std.proofs.Common.{sym, subst, ◌∙◌, arith, ltb-true}
 use Rattle.std.proofs.Math.Path.{ap}
 use Rattle.std.proofs.Math.Option.{Option, none, some}
@@ -17,7 +17,6 @@ use Rattle.message.specs.declared.body.What.{What}
 use Rattle.message.specs.declared.body.What.TheVariants as what
 use Rattle.head.specs.declared.head.Fault.{Fault}
 use Rattle.head.specs.declared.head.Fault.TheVariants as fault
-use Rattle.head.specs.declared.head.Head.TheVariants.{Good}
 use Rattle.head.specs.Fields.{length_of}
 use Rattle.message.specs.Good.{GoodMessage}
 use Rattle.message.proofs.GoodLaws.{rules_exact, good_exact}
@@ -135,7 +134,7 @@ module _ (lists : Lists) (starts : List ℕ) (letter s : ℕ) (listed : segment_
       goes : (box' : Box) → message_acts lists letter box k bytes ≡ acted box' → GoodMessage lists letter bytes → BoxFits lists starts s later box' → Comes
       over : message_acts lists letter box k bytes ≡ refused (GapsOver k) → GoodMessage lists letter bytes → TooMany (standing later) → Comes
 
-    numbered_comes : (is_numbered m.what ≡ true) × (verdict_of m.what ≡ Good) → (changed : List ℕ → List ℕ)
+    numbered_comes : (is_numbered m.what ≡ true) × (verdict_of m.what ≡ Ok tt) → (changed : List ℕ → List ℕ)
         → message_acts lists letter box k bytes ≡ number_acts box k (sequence_number m) changed → Comes
     numbered_comes numbered changed is = go (message_acts lists letter box k bytes) refl
       where

@@ -1,5 +1,5 @@
 -- What a caller may rely on where a message has no fault.
-use Rattle.std.specs.Prelude.{ℕ, ◌≤◌, ◌≡◌, refl, List, length, take}
+use Rattle.std.specs.Prelude.{ℕ, ◌≤◌, ◌≡◌, refl, List, length, take, Ok, Err}
 use Rattle.std.proofs.Math.Path.{ap}
 use Rattle.std.proofs.Common.{sym, ◌∙◌, arith}
 use Rattle.std.proofs.lemmas.List.Edits.{sets}
@@ -14,8 +14,7 @@ use Rattle.forms.specs.Sizes.{most_rows}
 use Rattle.forms.specs.Forms.{rows_of}
 use Rattle.forms.specs.FormsLaws.{fits}
 use Rattle.message.specs.declared.body.What.TheVariants as what
-use Rattle.head.specs.declared.head.Head.{Head}
-use Rattle.head.specs.declared.head.Head.TheVariants.{Good, Bad}
+use Rattle.head.specs.Faults.{Head}
 use Rattle.message.specs.Good.{GoodMessage}
 use Rattle.head.specs.Fields.{form_in, number_of, data_of}
 use Rattle.head.specs.Rules.{head_of}
@@ -27,17 +26,17 @@ use Rattle.message.proofs.GoodLaws.{good_exact}
 use Rattle.head.specs.RulesLaws.{unlike}
 use Rattle.message.specs.CallerLaws.{IsUpdate, form_length, rows_pass, named_number, named_update, acts_as_lem, acts_number}
 
-module _ (lists : Lists) (letter : ℕ) (bytes : List ℕ) (good : verdict_of (message_of lists letter bytes).what ≡ Good) where
+module _ (lists : Lists) (letter : ℕ) (bytes : List ℕ) (good : verdict_of (message_of lists letter bytes).what ≡ Ok tt) where
   rules : GoodMessage lists letter bytes
   rules = (good_exact lists letter bytes).0 good
 
   -- its head is good, so that it is its contents
-  pub head_good : head_of letter (segment_of lists.contracts letter) bytes ≡ Good
+  pub head_good : head_of letter (segment_of lists.contracts letter) bytes ≡ Ok tt
   head_good = go (head_of letter (segment_of lists.contracts letter) bytes) refl
     where
-      go : (h : Head) → head_of letter (segment_of lists.contracts letter) bytes ≡ h → head_of letter (segment_of lists.contracts letter) bytes ≡ Good
-      go Good e = e
-      go (Bad fault) e = absurd (unlike (sym (ap (λ m. verdict_of m.what) (bad_head lists letter bytes fault e)) ∙ good))
+      go : (h : Head) → head_of letter (segment_of lists.contracts letter) bytes ≡ h → head_of letter (segment_of lists.contracts letter) bytes ≡ Ok tt
+      go (Ok _) e = e
+      go (Err fault) e = absurd (unlike (sym (ap (λ m. verdict_of m.what) (bad_head lists letter bytes fault e)) ∙ good))
 
   pub contents_good : message_of lists letter bytes ≡ contents_of lists letter bytes
   contents_good = good_head lists letter bytes head_good

@@ -1,5 +1,5 @@
 -- A message has no fault exactly when it is good.
-use Rattle.std.specs.Prelude.{ℕ, zero, suc, ◌≡◌, refl, true, ◌↔◌, List, [], ◌∷◌, take, drop}
+use Rattle.std.specs.Prelude.{ℕ, zero, suc, ◌≡◌, refl, true, ◌↔◌, List, [], ◌∷◌, take, drop, Ok, Err}
 use Rattle.std.proofs.Common.{ap, sym, subst, ◌∙◌, arith, drop-drop}
 use Rattle.std.proofs.lemmas.Bool.{false≢true}
 use Rattle.std.proofs.Math.Option.{Option, none, some}
@@ -28,8 +28,7 @@ use Rattle.head.specs.Head.{head_rules}
 use Rattle.head.specs.Rules.{head_of}
 use Rattle.head.specs.HeadLaws.{framed_exact, coded_exact, trailed_exact, length_exact, summed_exact, number_exact}
 use Rattle.message.specs.declared.body.What.{What}
-use Rattle.head.specs.declared.head.Head.{Head}
-use Rattle.head.specs.declared.head.Head.TheVariants.{Good, Bad}
+use Rattle.head.specs.Faults.{Head}
 use Rattle.message.specs.Message.{message_place, acts_as, rows_in, of_named}
 use Rattle.message.specs.Reads.{rows_read, of_verdict, contents_by, contents_of, of_head, message_of}
 use Rattle.message.specs.Order.{row_rules, subject_rules, key_rules, body_rules, message_rules}
@@ -129,7 +128,7 @@ module _ (lists : Lists) (letter : ℕ) (bytes : List ℕ) where
       )
 
   -- no fault is answered exactly when the message is good
-  pub good_exact : verdict_of (message_of lists letter bytes).what ≡ Good ↔ GoodMessage lists letter bytes
+  pub good_exact : verdict_of (message_of lists letter bytes).what ≡ Ok tt ↔ GoodMessage lists letter bytes
   good_exact = (
     (λ e. rules_exact.0 (good_hold (message_rules lists letter bytes) (sym (message_first lists letter bytes) ∙ e))),
     (λ g. message_first lists letter bytes ∙ hold_good (message_rules lists letter bytes) (rules_exact.1 g)),
@@ -144,12 +143,12 @@ good_what lists letter bytes g = by_head (head_of letter (segment_of lists.contr
     named : What
     named = of_named (acts_as bytes) (number_of bytes) (message_place lists letter bytes)
 
-    by_rows : (v : Verdict) → verdict_of (of_verdict v named) ≡ Good → of_verdict v named ≡ named
+    by_rows : (v : Verdict) → verdict_of (of_verdict v named) ≡ Ok tt → of_verdict v named ≡ named
     by_rows verdict.Good e = refl
     by_rows (verdict.Field row) e = cc
     by_rows (verdict.Range row) e = cc
 
-    by_head : (h : Head) → verdict_of (of_head h (length_of bytes) (contents_of lists letter bytes)).what ≡ Good
+    by_head : (h : Head) → verdict_of (of_head h (length_of bytes) (contents_of lists letter bytes)).what ≡ Ok tt
         → (of_head h (length_of bytes) (contents_of lists letter bytes)).what ≡ named
-    by_head Good e = by_rows (rows_read bytes).verdict e
-    by_head (Bad fault) e = cc
+    by_head (Ok _) e = by_rows (rows_read bytes).verdict e
+    by_head (Err fault) e = cc

@@ -1,6 +1,6 @@
 -- The fault that is answered is the first broken rule's, in document 01's order.
 use Prim.Native.Nat.{ℕ, suc}
-use Rattle.std.specs.Prelude.{◌≡◌, refl, ◌↔◌, List, [], ◌∷◌, take, drop}
+use Rattle.std.specs.Prelude.{◌≡◌, refl, ◌↔◌, List, [], ◌∷◌, take, drop, Ok, Err}
 use Rattle.std.proofs.Math.Path.{ap, ap₂, sym}
 use Rattle.std.proofs.Common.{◌∙◌}
 use Rattle.std.proofs.Math.Option.{Option, none, some}
@@ -22,8 +22,7 @@ use Rattle.message.specs.declared.body.What.{What}
 use Rattle.message.specs.declared.body.What.TheVariants as what
 use Rattle.head.specs.declared.head.Fault.{Fault}
 use Rattle.head.specs.declared.head.Fault.TheVariants.{Field, Range, Contract}
-use Rattle.head.specs.declared.head.Head.{Head}
-use Rattle.head.specs.declared.head.Head.TheVariants.{Good, Bad}
+use Rattle.head.specs.Faults.{Head}
 use Rattle.lookup.specs.Lookup.{segment_of}
 use Rattle.pairs.specs.Lists.{Lists}
 use Rattle.forms.specs.Forms.{subject_of}
@@ -39,9 +38,9 @@ use Rattle.head.specs.RulesLaws.{and_then, first_append, bad_broken, broken_bad}
 
 -- a verdict on rows as one on a message
 abbrev as_head : Verdict → Head
-as_head verdict.Good = Good
-as_head (verdict.Field row) = Bad (Field row)
-as_head (verdict.Range row) = Bad (Range row)
+as_head verdict.Good = Ok tt
+as_head (verdict.Field row) = Err (Field row)
+as_head (verdict.Range row) = Err (Range row)
 
 -- 11 and 12
 rows_first : (i : ℕ) (rows : List Row) (bytes : List ℕ) → as_head (read_rows i rows bytes).verdict ≡ first_fault (row_rules i rows bytes)
@@ -88,8 +87,8 @@ module _ (lists : Lists) (letter : ℕ) (bytes : List ℕ) where
   head_here = head_of letter (segment_of lists.contracts letter) bytes
 
   head_then : (h : Head) → verdict_of (of_head h (length_of bytes) (contents_of lists letter bytes)).what ≡ and_then h (verdict_of (contents_of lists letter bytes).what)
-  head_then Good = refl
-  head_then (Bad fault) = refl
+  head_then (Ok _) = refl
+  head_then (Err fault) = refl
 
   -- 5 to 13: the first broken rule decides
   pub message_first : verdict_of (message_of lists letter bytes).what ≡ first_fault (message_rules lists letter bytes)
@@ -104,12 +103,12 @@ module _ (lists : Lists) (letter : ℕ) (bytes : List ℕ) where
     (λ b. bad_is (message_of lists letter bytes).what (message_first ∙ broken_bad (message_rules lists letter bytes) fault b)),
   )
     where
-      bad_is : (w : What) → verdict_of w ≡ Bad fault → w ≡ what.Bad fault
+      bad_is : (w : What) → verdict_of w ≡ Err fault → w ≡ what.Bad fault
       bad_is what.Heartbeat e = cc
       bad_is (what.PassedOver number) e = cc
       bad_is (what.Update number form place) e = cc
       bad_is (what.Bad other) e = cc
 
-  pub head_exact : (fault : Fault) → head_here ≡ Bad fault ↔ Broken (head_rules letter (segment_of lists.contracts letter) bytes) fault
+  pub head_exact : (fault : Fault) → head_here ≡ Err fault ↔ Broken (head_rules letter (segment_of lists.contracts letter) bytes) fault
   unfolding head_of
   head_exact fault = (bad_broken (head_rules letter (segment_of lists.contracts letter) bytes) fault, broken_bad (head_rules letter (segment_of lists.contracts letter) bytes) fault)

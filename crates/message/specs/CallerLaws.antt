@@ -1,5 +1,5 @@
 -- What a caller may rely on where a message has no fault.
-use Rattle.std.specs.Prelude.{ℕ, ◌≡◌, refl, Bool, true, false, cond, List}
+use Rattle.std.specs.Prelude.{ℕ, ◌≡◌, refl, Bool, true, false, cond, List, Ok}
 use Rattle.std.proofs.Math.Path.{ap}
 use Rattle.std.proofs.Common.{sym, ◌∙◌, arith}
 use Rattle.std.proofs.Math.Option.{Option, none, some}
@@ -20,7 +20,6 @@ use Rattle.forms.specs.Forms.{rows_of, subject_of, forms_of, form_of}
 use Rattle.forms.specs.FormsLaws.{told_form}
 use Rattle.message.specs.declared.body.What.{What}
 use Rattle.message.specs.declared.body.What.TheVariants as what
-use Rattle.head.specs.declared.head.Head.TheVariants.{Good}
 use Rattle.message.specs.Good.{PlaceFor, HasContract}
 use Rattle.head.specs.GoodHead.{NumberFor, HasNumber}
 use Rattle.head.specs.Fields.{letter_of, segment_letter_of, second_of, form_in, length_of, number_of, data_of}
@@ -47,7 +46,7 @@ unfolding form_in form_of
 form_length bytes form e = (told_form (forms_of (letter_of bytes) (second_of bytes)) (length_of bytes) form e).1
 
 -- a verdict that leaves no fault is good
-pub rows_pass : (v : Verdict) (w : What) → verdict_of (of_verdict v w) ≡ Good → v ≡ verdict.Good
+pub rows_pass : (v : Verdict) (w : What) → verdict_of (of_verdict v w) ≡ Ok tt → v ≡ verdict.Good
 rows_pass verdict.Good w e = refl
 rows_pass (verdict.Field row) w e = absurd (unlike e)
 rows_pass (verdict.Range row) w e = absurd (unlike e)

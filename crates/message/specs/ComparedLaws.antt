@@ -1,6 +1,6 @@
 -- Laws of the keys that a message's lookup compares: none before 13, and never more than the binary digits of the most keys of a file,
 -- which are few beside the message's bytes.
-use Rattle.std.specs.Prelude.{ℕ, ◌*◌, ◌≤◌, ◌≡◌, true, false, List, length}
+use Rattle.std.specs.Prelude.{ℕ, ◌*◌, ◌≤◌, ◌≡◌, true, false, List, length, Ok, Err}
 use Rattle.std.proofs.Math.Path.{refl, subst}
 use Rattle.std.proofs.Common.{sym, ap, ◌∙◌, true≢false}
 use Rattle.std.proofs.Math.Option.{Option, none, some}
@@ -27,8 +27,7 @@ use Rattle.forms.specs.Forms.{named_rows, rows_of, subject_of}
 use Rattle.forms.specs.declared.forms.Form.TheVariants.{Heartbeat, LevelOne, LevelTwo, PairOne, PairTwo, FutureOne, FutureTwo, PreOpenOne, PreOpenTwo}
 use Rattle.forms.specs.Rows.{message_length}
 use Rattle.head.specs.declared.head.Fault.{Fault}
-use Rattle.head.specs.declared.head.Head.{Head}
-use Rattle.head.specs.declared.head.Head.TheVariants as head
+use Rattle.head.specs.Faults.{Head}
 use Rattle.head.specs.Fields.{length_of}
 use Rattle.head.specs.Head.{frame_rules, form_rules, head_rules}
 use Rattle.head.specs.HeadLaws.{framed_exact}
@@ -48,7 +47,7 @@ seeks item lists key segment r = record { place = r.place; steps = r.steps }
 
 -- ---- no rule before 13 comes behind the lookup
 
-first_early : (rules : List (Rule Fault)) → EachBroken (λ fault. key_sought fault ≡ false) rules → {fault : Fault} → first_fault rules ≡ head.Bad fault → key_sought fault ≡ false
+first_early : (rules : List (Rule Fault)) → EachBroken (λ fault. key_sought fault ≡ false) rules → {fault : Fault} → first_fault rules ≡ Err fault → key_sought fault ≡ false
 first_early rules early {fault} e = of_broken (λ fault. key_sought fault ≡ false) rules early fault (broken_some rules fault (bad_broken rules fault e))
 
 frame_rules_lem : (letter : ℕ) (segment : Option ℕ) (bytes : List ℕ) → EachBroken (λ fault. key_sought fault ≡ false) (frame_rules letter segment bytes)
@@ -57,10 +56,10 @@ frame_rules_lem letter segment bytes = ((λ broken. refl), ((λ broken. refl), (
 form_rules_lem : (bytes : List ℕ) → EachBroken (λ fault. key_sought fault ≡ false) (form_rules bytes)
 form_rules_lem bytes = ((λ broken. refl), ((λ broken. refl), ((λ broken. refl), tt)))
 
-pub frame_early : (letter : ℕ) (segment : Option ℕ) (bytes : List ℕ) {fault : Fault} → first_fault (frame_rules letter segment bytes) ≡ head.Bad fault → key_sought fault ≡ false
+pub frame_early : (letter : ℕ) (segment : Option ℕ) (bytes : List ℕ) {fault : Fault} → first_fault (frame_rules letter segment bytes) ≡ Err fault → key_sought fault ≡ false
 frame_early letter segment bytes = first_early (frame_rules letter segment bytes) (frame_rules_lem letter segment bytes)
 
-pub form_early : (bytes : List ℕ) {fault : Fault} → first_fault (form_rules bytes) ≡ head.Bad fault → key_sought fault ≡ false
+pub form_early : (bytes : List ℕ) {fault : Fault} → first_fault (form_rules bytes) ≡ Err fault → key_sought fault ≡ false
 form_early bytes = first_early (form_rules bytes) (form_rules_lem bytes)
 
 -- so a message that is refused behind its lookup has a good head, and lies within the bytes
@@ -69,8 +68,8 @@ unfolding head_of
 sought_inside lists letter bytes fault e sought = go (head_of letter (segment_of lists.contracts letter) bytes) refl
   where
     go : (h : Head) → head_of letter (segment_of lists.contracts letter) bytes ≡ h → length_of bytes ≤ length bytes
-    go head.Good f = ((framed_exact bytes).0 (good_hold (head_rules letter (segment_of lists.contracts letter) bytes) f).0).within
-    go (head.Bad other) f =
+    go (Ok _) f = ((framed_exact bytes).0 (good_hold (head_rules letter (segment_of lists.contracts letter) bytes) f).0).within
+    go (Err other) f =
         let early =
         first_early (head_rules letter (segment_of lists.contracts letter) bytes)
         (each_append (λ (f : Fault). key_sought f ≡ false) (frame_rules letter (segment_of lists.contracts letter) bytes) (form_rules bytes) (frame_rules_lem letter (segment_of lists.contracts letter) bytes) (form_rules_lem bytes)) f in

@@ -1,5 +1,5 @@
 -- Laws of what a message is.
-use Rattle.std.specs.Prelude.{ℕ, ◌≡◌, List, Bool, true, false, cond}
+use Rattle.std.specs.Prelude.{ℕ, ◌≡◌, List, Bool, true, false, cond, Ok, Err}
 use Rattle.std.proofs.Math.Path.{refl, sym}
 use Rattle.std.proofs.Common.{◌∙◌}
 use Rattle.std.proofs.Math.Option.{Option, none, some}
@@ -21,10 +21,8 @@ use Rattle.message.specs.declared.body.What.{What}
 use Rattle.message.specs.declared.body.What.TheVariants as what
 use Rattle.message.specs.declared.body.Outline.{Outline}
 use Rattle.head.specs.declared.head.Fault.{Fault}
-use Rattle.head.specs.declared.head.Head.{Head}
-use Rattle.head.specs.declared.head.Head.TheVariants as head
+use Rattle.head.specs.Faults.{Head, head_numbers}
 use Rattle.head.specs.Fields.{form_in, length_of, number_of, data_of}
-use Rattle.head.specs.Faults.{head_numbers}
 use Rattle.head.proofs.FaultsTold.{head_told}
 use Rattle.head.specs.Head.{form_rules}
 use Rattle.head.specs.Rules.{head_of, first_fault}
@@ -132,11 +130,11 @@ module _ (place : Item → Option ℕ) (keys : Item → ℕ) (bytes cells : List
   form_is : {h : Head} → judged ≡ h → first_fault (form_rules bytes) ≡ h
   form_is e = sym (head_told judged (first_fault (form_rules bytes)) told) ∙ e
 
-  pub good_form : {answer : Outline} {cells' : List ℕ} → judged ≡ head.Good → ReadsMessage (contents_by place bytes) (compared_as (acts_as bytes) keys) (rows_read bytes).cells cells answer cells'
+  pub good_form : {answer : Outline} {cells' : List ℕ} → judged ≡ Ok tt → ReadsMessage (contents_by place bytes) (compared_as (acts_as bytes) keys) (rows_read bytes).cells cells answer cells'
       → ReadsFormed place keys bytes cells answer cells'
   good_form e reads = rw (form_is e) reads
 
-  pub bad_form : {answer : Outline} {f : Fault} → judged ≡ head.Bad f → ((compared : ℕ) → Outlines (bare (what.Bad f) (length_of bytes)) compared answer)
+  pub bad_form : {answer : Outline} {f : Fault} → judged ≡ Err f → ((compared : ℕ) → Outlines (bare (what.Bad f) (length_of bytes)) compared answer)
       → ReadsFormed place keys bytes cells answer cells
   bad_form e outlines = rw (form_is e) (record { told = outlines _; stored = refl })
 
@@ -145,11 +143,11 @@ module _ (lists : Lists) (letter : ℕ) (bytes : List ℕ) where
   head_here = head_of letter (segment_of lists.contracts letter) bytes
 
   -- a good head leaves the message to its contents
-  pub good_head : head_here ≡ head.Good → message_of lists letter bytes ≡ contents_of lists letter bytes
+  pub good_head : head_here ≡ Ok tt → message_of lists letter bytes ≡ contents_of lists letter bytes
   unfolding message_of
   good_head e = rw e
 
-  pub bad_head : (fault : Fault) → head_here ≡ head.Bad fault → message_of lists letter bytes ≡ bare (what.Bad fault) (length_of bytes)
+  pub bad_head : (fault : Fault) → head_here ≡ Err fault → message_of lists letter bytes ≡ bare (what.Bad fault) (length_of bytes)
   unfolding message_of
   bad_head fault e = rw e
 
@@ -159,5 +157,5 @@ module _ (lists : Lists) (letter : ℕ) (bytes : List ℕ) where
   length_is = go (head_here) refl
     where
       go : (h : Head) → head_here ≡ h → (message_of lists letter bytes).length ≡ length_of bytes
-      go head.Good e = rw e
-      go (head.Bad fault) e = rw e
+      go (Ok _) e = rw e
+      go (Err fault) e = rw e

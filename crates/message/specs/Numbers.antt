@@ -1,14 +1,12 @@
 -- The answers of this crate in the paper's numbers.
-use Rattle.std.specs.Prelude.{ℕ, List, [], ◌∷◌}
+use Rattle.std.specs.Prelude.{ℕ, List, [], ◌∷◌, Ok, Err}
 use Rattle.std.proofs.Math.Option.{Option, none, some}
 use Rattle.forms.specs.declared.forms.Form.{Form}
 use Rattle.forms.specs.Answers.{Tells, subject_level}
 use Rattle.forms.specs.Forms.{subject_of}
 use Rattle.message.specs.declared.body.What.{What}
 use Rattle.message.specs.declared.body.What.TheVariants.{Heartbeat, PassedOver, Update, Bad}
-use Rattle.head.specs.declared.head.Head.{Head}
-use Rattle.head.specs.declared.head.Head.TheVariants as head
-use Rattle.head.specs.Faults.{fault_numbers}
+use Rattle.head.specs.Faults.{Head, fault_numbers}
 
 -- 01 "The message": 0 for a message with no fault; then the number by which it counts in the sequence, an update's level and
 -- its place
@@ -31,10 +29,10 @@ TellsWhat = Tells what_numbers form_told
 
 -- 01, the table of refusals: the fault of a message, if it has one
 abbrev pub verdict_of : What → Head
-verdict_of Heartbeat = head.Good
-verdict_of (PassedOver number) = head.Good
-verdict_of (Update number form place) = head.Good
-verdict_of (Bad fault) = head.Bad fault
+verdict_of Heartbeat = Ok tt
+verdict_of (PassedOver number) = Ok tt
+verdict_of (Update number form place) = Ok tt
+verdict_of (Bad fault) = Err fault
 
 -- 01 "Sequence and gaps": a heartbeat has number 0
 abbrev pub number_in : What → ℕ

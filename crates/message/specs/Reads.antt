@@ -1,6 +1,6 @@
 -- What the bytes of a message are read as, and what reading promises: `good_what`, `good_exact` (GoodLaws) and `fault_exact` (OrderLaws)
 -- say it in the words of `Good`.
-use Rattle.std.specs.Prelude.{ℕ, ◌≡◌, List, []}
+use Rattle.std.specs.Prelude.{ℕ, ◌≡◌, List, [], Ok, Err}
 use Rattle.std.proofs.Math.Option.{Option}
 use Rattle.std.proofs.lemmas.List.Edits.{sets}
 use Rattle.pairs.specs.Lists.{Lists}
@@ -14,8 +14,7 @@ use Rattle.message.specs.declared.body.What.{What}
 use Rattle.message.specs.declared.body.What.TheVariants as what
 use Rattle.message.specs.declared.body.Outline.{Outline}
 use Rattle.head.specs.declared.head.Fault.TheVariants as fault
-use Rattle.head.specs.declared.head.Head.{Head}
-use Rattle.head.specs.declared.head.Head.TheVariants as head
+use Rattle.head.specs.Faults.{Head}
 use Rattle.head.specs.Fields.{form_in, length_of, number_of, data_of}
 use Rattle.head.specs.Head.{form_rules}
 use Rattle.head.specs.Rules.{head_of, first_fault}
@@ -52,8 +51,8 @@ bare what length = record { what = what; length = length; cells = zeros_behind [
 
 -- 01, the order of checks: 5 to 10, and then 11 to 13
 abbrev pub of_head : Head → ℕ → Message → Message
-of_head head.Good length contents = contents
-of_head (head.Bad fault) length contents = bare (what.Bad fault) length
+of_head (Ok _) length contents = contents
+of_head (Err fault) length contents = bare (what.Bad fault) length
 
 -- 01, the table's rows 5 to 13 in their order: what the bytes begin with
 unfoldable pub message_of : Lists → ℕ → List ℕ → Message
@@ -62,8 +61,8 @@ message_of lists letter bytes =
 
 -- 01, the order of checks: the cells of the rows that are read: none where the head is bad
 abbrev pub cells_by : Head → List ℕ → List ℕ
-cells_by head.Good bytes = (rows_read bytes).cells
-cells_by (head.Bad fault) bytes = []
+cells_by (Ok _) bytes = (rows_read bytes).cells
+cells_by (Err fault) bytes = []
 
 -- 01, the order of checks: the cells of the rows that are read, with the head judged
 unfoldable pub cells_read : Lists → ℕ → List ℕ → List ℕ

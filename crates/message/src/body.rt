@@ -12,7 +12,7 @@ ghost use Rattle.message.specs.Message.{TellsOf, place_there, places_in, places_
 ghost use Rattle.message.specs.Compared.{compared_there, keys_in, keys_there, compared_as, message_compared, key_sought, Seeks};
 ghost use Rattle.message.specs.Reads.{rows_read, cells_read, contents_by, bare, message_of, Outlines, ReadsMessage, ReadsFormed};
 
-use head::{Fault, Head};
+use head::Fault;
 use layout::{Form, Item, MOST_ROWS, Named, Subject, Verdict};
 use lookup::Sought;
 
@@ -197,12 +197,12 @@ fn heartbeat(bytes: &[u8]) -> Outline
     ensures { (place : Item → Option ℕ) (keys : Item → ℕ) (cells : List ℕ) → ReadsFormed place keys bytes.now cells result cells }
 {
     match head::judge_heartbeat(bytes) {
-        Head::Good => Outline {
+        Ok(()) => Outline {
             what: What::Heartbeat,
             length: head::length_of(bytes),
             compared: 0,
         },
-        Head::Bad(fault) => bad(fault, bytes),
+        Err(fault) => bad(fault, bytes),
     }
 }
 
@@ -222,8 +222,8 @@ fn formed(
         return heartbeat(bytes);
     }
     match head::judge_form(bytes, named) {
-        Head::Good => contents(list, spreads, segment, bytes, named, cells),
-        Head::Bad(fault) => bad(fault, bytes),
+        Ok(()) => contents(list, spreads, segment, bytes, named, cells),
+        Err(fault) => bad(fault, bytes),
     }
 }
 
@@ -241,7 +241,7 @@ pub fn read(
     ensures { ReadsMessage (message_of (lists list.now spreads.now) letter bytes.now) (message_compared (lists list.now spreads.now) letter bytes.now) (cells_read (lists list.now spreads.now) letter bytes.now) cells.old result cells.new }
 {
     match head::judge_frame(letter, segment, bytes) {
-        Head::Good => formed(list, spreads, segment, bytes, head::form_in(bytes), cells),
-        Head::Bad(fault) => bad(fault, bytes),
+        Ok(()) => formed(list, spreads, segment, bytes, head::form_in(bytes), cells),
+        Err(fault) => bad(fault, bytes),
     }
 }

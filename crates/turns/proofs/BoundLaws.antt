@@ -1,11 +1,10 @@
 -- M-102, the worst case: the lookups of messages compare at most 13 keys for each 204 bytes.
-use Rattle.std.specs.Prelude.{ℕ, zero, suc, ◌+◌, ◌*◌, ◌≤◌, ◌<◌, ◌≡◌, refl, Bool, true, false, cond, List, length, drop}
+use Rattle.std.specs.Prelude.{ℕ, zero, suc, ◌+◌, ◌*◌, ◌≤◌, ◌<◌, ◌≡◌, refl, Bool, true, false, cond, List, length, drop, Ok}
 use Rattle.std.proofs.Common.{ap, sym, ◌∙◌, ⊎_elim, arith, length-drop}
 use Rattle.laws.specs.Order.{order}
 use Rattle.forms.specs.Forms.{subject_of}
 use Rattle.lookup.specs.Lookup.{segment_of}
 use Rattle.pairs.specs.Lists.{Lists, Headers}
-use Rattle.head.specs.declared.head.Head.TheVariants.{Good}
 use Rattle.head.specs.Fields.{length_of}
 use Rattle.message.specs.declared.body.What.{What}
 use Rattle.message.specs.declared.body.What.TheVariants as what
@@ -28,7 +27,7 @@ module _ (lists : Lists) (headers : Headers lists) (letter : ℕ) where
   -- ---- one message
 
   module _ (bytes : List ℕ) where
-    inside : verdict_of (message_of lists letter bytes).what ≡ Good → length_of bytes ≤ length bytes
+    inside : verdict_of (message_of lists letter bytes).what ≡ Ok tt → length_of bytes ≤ length bytes
     inside good = omega (arith, all_there lists letter bytes good, length_is lists letter bytes)
 
     one_fits : (k : ℕ) → k ≡ 1 → length_of bytes ≤ length bytes → 204 * compared_in k lists letter bytes ≤ 13 * length bytes
@@ -60,7 +59,7 @@ module _ (lists : Lists) (headers : Headers lists) (letter : ℕ) where
           sought false h = absurd (omega arith)
 
   -- what has acted has no fault
-  passes : (w : What) (box : Box) (i : ℕ) (cells : List ℕ) {box' : Box} → what_acts lists letter box i w cells ≡ acted box' → verdict_of w ≡ Good
+  passes : (w : What) (box : Box) (i : ℕ) (cells : List ℕ) {box' : Box} → what_acts lists letter box i w cells ≡ acted box' → verdict_of w ≡ Ok tt
   passes what.Heartbeat box i cells e = refl
   passes (what.PassedOver number) box i cells e = refl
   passes (what.Update number form place) box i cells e = refl

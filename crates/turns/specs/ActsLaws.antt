@@ -1,5 +1,5 @@
 -- Laws of acting: what a number and a message do, by what was answered of them.
-use Rattle.std.specs.Prelude.{ℕ, ◌*◌, ◌≤◌, ◌≡◌, refl, true, List, length}
+use Rattle.std.specs.Prelude.{ℕ, ◌*◌, ◌≤◌, ◌≡◌, refl, true, List, length, Ok}
 use Rattle.std.proofs.Common.{ap, sym, ◌∙◌}
 use Rattle.std.proofs.lemmas.Bool.{false≢true}
 use Rattle.pairs.specs.Lists.{Lists}
@@ -16,7 +16,6 @@ use Rattle.turns.specs.declared.act.Act.TheVariants as act
 use Rattle.message.specs.declared.body.What.{What}
 use Rattle.message.specs.declared.body.What.TheVariants as what
 use Rattle.head.specs.declared.head.Fault.{Fault}
-use Rattle.head.specs.declared.head.Head.TheVariants.{Good}
 use Rattle.message.proofs.CallerLaws.{all_there}
 use Rattle.head.specs.Fields.{length_of}
 use Rattle.message.specs.Compared.{message_compared, so_far}
@@ -75,12 +74,12 @@ module _ (lists : Lists) (letter : ℕ) (bytes : List ℕ) (message : Message) (
   at_steps : steps_done ≡ so_far (message_of lists letter bytes).what (message_compared lists letter bytes)
   at_steps = ap (λ (m : Message). so_far m.what (message_compared lists letter bytes)) is
 
-  inside : verdict_of w ≡ Good → message.length ≤ length bytes
+  inside : verdict_of w ≡ Ok tt → message.length ≤ length bytes
   inside g = rw is (all_there lists letter bytes (ap verdict_of what_is ∙ g))
 
   module _ (row stores : List ℕ) (kept i : ℕ) where
     -- a message that is numbered
-    pub numbered : (a : Act) (number : ℕ) (changed : List ℕ → List ℕ) → verdict_of w ≡ Good
+    pub numbered : (a : Act) (number : ℕ) (changed : List ℕ → List ℕ) → verdict_of w ≡ Ok tt
         → ((box : Box) → what_acts lists letter box i w message.cells ≡ number_acts box i number changed)
         → (row' : List ℕ) → NumberActs row i number a row'
         → (kept' : ℕ) (stores' : List ℕ) → Keeps (records_wanted lists) message.length stores kept (changed_by a changed) kept' stores'

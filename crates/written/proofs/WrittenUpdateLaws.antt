@@ -1,7 +1,7 @@
 -- A message that was written: its rows are good, it stands in front of the lent bytes, and a heartbeat, where its segment is listed,
 -- and an update, where its contract or pair is, are what they were written from.
 use Prim.Native.Nat.{ℕ, ◌+◌, ◌^◌, ◌≤◌, ◌<◌}
-use Rattle.std.specs.Prelude.{◌≡◌, Bool, cond, length, take, drop}
+use Rattle.std.specs.Prelude.{◌≡◌, Bool, cond, length, take, drop, Ok}
 use Rattle.std.proofs.Math.Path.{refl, ap, sym}
 use Rattle.std.proofs.Common.{◌∙◌, get_or-take, get_or-drop}
 use Rattle.std.proofs.Math.Bool.{true, false}
@@ -38,7 +38,6 @@ use Rattle.compose.specs.WriteLaws.{good_length}
 use Rattle.message.specs.declared.body.Outline.{Outline}
 use Rattle.message.specs.declared.body.What.{What}
 use Rattle.message.specs.declared.body.What.TheVariants as what
-use Rattle.head.specs.declared.head.Head.TheVariants as head
 use Rattle.head.specs.Fields.{segment_letter, length_of, number_of, data_of, form_in}
 use Rattle.head.specs.Head.{head_rules}
 use Rattle.head.specs.Rules.{head_of}
@@ -119,7 +118,7 @@ module _ (item : Item) (code : Code) (level : Level) (number : ℕ) (key : List 
     -- where its segment is listed
     module _ (few : number < 2 ^ 32) (lists : Lists) (letter_listed : is_some (segment_of lists.contracts (segment_letter code.0)) ≡ true) where
       -- it breaks no rule before those of its rows and its key
-      head_good : head_of (segment_letter code.0) (segment_of lists.contracts (segment_letter code.0)) written ≡ head.Good
+      head_good : head_of (segment_letter code.0) (segment_of lists.contracts (segment_letter code.0)) written ≡ Ok tt
       unfolding head_of coded
       head_good =
           let letter : ℕ = segment_letter code.0 in

@@ -3,14 +3,14 @@ use Rattle.head.specs.HeadLaws.{heartbeat_form}
 use Rattle.message.specs.MessageLaws.{heartbeat_reads, good_form, bad_form}
 use Rattle.message.proofs.body.heartbeat.Goals as goal
 
-pub returns-in-Good : goal.returns-in-Good
-returns-in-Good c place keys cells =
+pub returns-in-Ok : goal.returns-in-Ok
+returns-in-Ok c place keys cells =
     let start = c in
     let bytes = start.args.bytes.now in
     let (form, named, nothing) = heartbeat_form _ start.requires.1 in
-    good_form place keys bytes cells _ c.judge_heartbeat.ensures c.in-Good.is
+    good_form place keys bytes cells _ c.judge_heartbeat.ensures c.in-Ok.is
     (heartbeat_reads place keys bytes _ c.length_of.ensures cells form named nothing)
 
-pub returns-in-Bad : goal.returns-in-Bad
-returns-in-Bad c place keys cells =
-    bad_form place keys _ cells _ c.judge_heartbeat.ensures c.in-Bad.is c.bad.ensures
+pub returns-in-Err : goal.returns-in-Err
+returns-in-Err c place keys cells =
+    bad_form place keys _ cells _ c.judge_heartbeat.ensures c.in-Err.is c.bad.ensures

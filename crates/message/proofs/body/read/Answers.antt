@@ -4,7 +4,7 @@ use Rattle.std.proofs.Common.{ℕ, ◌≡◌, refl, sym, ◌∙◌, List}
 use Rattle.lookup.specs.Answers.{place_of}
 use Rattle.pairs.specs.Lists.{Lists, lists}
 use Rattle.lookup.specs.Lookup.{segment_of}
-use Rattle.head.specs.declared.head.Head.{Head}
+use Rattle.head.specs.Faults.{Head}
 use Rattle.head.specs.Head.{frame_rules}
 use Rattle.head.proofs.FaultsTold.{head_told}
 use Rattle.head.specs.Rules.{first_fault}
@@ -27,16 +27,16 @@ module _ (c : After-judge_frame) where
   frame_is : {h : Head} → c.judge_frame.result ≡ h → first_fault (frame_rules letter (segment_of both.contracts letter) bytes) ≡ h
   frame_is e = rw c.requires at (sym (head_told c.judge_frame.result (first_fault (frame_rules letter (place_of c.args.segment) bytes)) c.judge_frame.ensures) ∙ e)
 
-pub returns-in-Good : goal.returns-in-Good
+pub returns-in-Ok : goal.returns-in-Ok
 unfolding cells_read message_of
-returns-in-Good c =
-    let d = (goal.at.returns-in-Good c).After-judge_frame in
-    let h = (good_frame (letter d) (segment_of (both d).contracts (letter d)) (bytes d) (frame_is d c.in-Good.is)).1 in
+returns-in-Ok c =
+    let d = (goal.at.returns-in-Ok c).After-judge_frame in
+    let h = (good_frame (letter d) (segment_of (both d).contracts (letter d)) (bytes d) (frame_is d c.in-Ok.is)).1 in
     rw (h, ← places_by_segment (both d) (letter d) (bytes d) d.requires, ← keys_by_segment (both d) (letter d) (bytes d) d.requires) c.formed.ensures
 
-pub returns-in-Bad : goal.returns-in-Bad
+pub returns-in-Err : goal.returns-in-Err
 unfolding cells_read
-returns-in-Bad c =
-    let d = (goal.at.returns-in-Bad c).After-judge_frame in
-    let h = bad_frame (letter d) (segment_of (both d).contracts (letter d)) (bytes d) _ (frame_is d c.in-Bad.is) in
+returns-in-Err c =
+    let d = (goal.at.returns-in-Err c).After-judge_frame in
+    let h = bad_frame (letter d) (segment_of (both d).contracts (letter d)) (bytes d) _ (frame_is d c.in-Err.is) in
     rw (bad_head (both d) (letter d) (bytes d) _ h, h) (record { told = c.bad.ensures _; stored = refl })

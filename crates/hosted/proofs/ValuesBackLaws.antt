@@ -1,5 +1,5 @@
 -- The values of what was written are those that were handed, from the first row behind the key on; minus zero is zero.
-use Rattle.std.specs.Prelude.{ℕ, ◌+◌, ◌-◌, ◌≤◌, ◌<◌, ◌^◌, ◌≡◌, Bool, true, false, List, eqb, leb, ltb, length, drop}
+use Rattle.std.specs.Prelude.{ℕ, ◌+◌, ◌-◌, ◌≤◌, ◌<◌, ◌^◌, ◌≡◌, Bool, true, false, List, eqb, leb, ltb, length, drop, Option, Some, None}
 use Rattle.std.proofs.Math.Path.{refl}
 use Rattle.std.proofs.Common.{subst, ⊎_elim, arith, lt-ltb, le-ltb, ne_eqb, get_or-drop}
 use Rattle.std.proofs.Math.ListN.{get_or}
@@ -20,8 +20,7 @@ use Rattle.layout.specs.Read.{is_market_type, is_status}
 use Rattle.compose.specs.Write.{letter_text, row_text, write_rows, write_refusal}
 use Rattle.compose.specs.FirstBad.{refusal_written}
 use Rattle.compose.specs.FirstBadLaws.{write_first}
-use Rattle.spread.specs.declared.spread.DifferenceCell.{DifferenceCell}
-use Rattle.spread.specs.declared.spread.DifferenceCell.TheVariants as difference
+use Rattle.amount.specs.declared.difference.Difference.{Difference}
 use Rattle.quote.specs.Quote.{price_of, quantity_of, turnover_of, values_of, seen_quote}
 use Rattle.spread.specs.Spread.{difference_of, plain_zero, seen_spread}
 use Rattle.quote.specs.Shows.{held_price, held_quantity, held_turnover}
@@ -33,9 +32,9 @@ use Rattle.layout.specs.PlainLaws.{value_back_lem}
 use Rattle.values.specs.Values.{first, value_rows, row_values, quote_in, spread_values, spread_in}
 use Rattle.hosted.specs.HostReadBack.{rows_in}
 
-seen_difference : (d : DifferenceCell) → held_difference (plain_zero d) ≡ held_difference d
-seen_difference difference.None = refl
-seen_difference (difference.Amount amount) = go amount.0 (eqb amount.1 0) refl
+seen_difference : (d : Option Difference) → held_difference (plain_zero d) ≡ held_difference d
+seen_difference None = refl
+seen_difference (Some amount) = go amount.0 (eqb amount.1 0) refl
   where
     go : (below none : Bool) → eqb amount.1 0 ≡ none → sided (below_zero below amount.1) amount.1 ≡ sided below amount.1
     go true true t = rw t

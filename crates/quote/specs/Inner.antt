@@ -1,14 +1,16 @@
 -- What the contracts of inner functions cite: the quote and its values by the numbers of the rows.
-use Rattle.std.specs.Prelude.{ℕ, suc, ◌+◌, ◌≤◌, cond, List, [], ◌∷◌, map, ltb, get_or}
+use Rattle.std.specs.Prelude.{ℕ, suc, ◌+◌, ◌≤◌, false, cond, List, [], ◌∷◌, map, ltb, get_or, Option, Some, None}
 use Rattle.std.proofs.lemmas.List.Edits.{sets}
 use Rattle.forms.specs.declared.forms.Form.{Form}
 use Rattle.forms.specs.declared.forms.Form.TheVariants.{Heartbeat, LevelOne, LevelTwo, PairOne, PairTwo, FutureOne, FutureTwo, PreOpenOne, PreOpenTwo}
-use Rattle.layout.specs.Cells.{none, byte_in}
+use Rattle.layout.specs.declared.cells.Held.TheVariants.{Units}
+use Rattle.layout.specs.Cells.{none, held_in, byte_in}
+use Rattle.layout.specs.Plain.{value_of}
 use Rattle.forms.specs.Sizes.{most_rows, key_row_count, pair_row_count}
 use Rattle.quote.specs.declared.quote.Order.{Order}
 use Rattle.quote.specs.declared.quote.Quote.{Quote}
 use Rattle.quote.specs.declared.quote.Places.{Places}
-use Rattle.quote.specs.Quote.{price_in, quantity_in, turnover_in, value_of_price, value_of_quantity, value_of_turnover, order_in}
+use Rattle.quote.specs.Quote.{unsigned_of, price_in, quantity_in, turnover_in, value_of_price, value_of_quantity, value_of_turnover, order_in}
 
 -- ---- where rows stand
 
@@ -145,6 +147,10 @@ pub record Room (at : Places) : Type 0 where
 abbrev pub cell_from : List ℕ → ℕ → ℕ
 cell_from cells row = cond (ltb row most_rows) (get_or cells row 0) none
 
+-- a word of our own: the amount that a cell holds, whatever its kind; none is below zero
+abbrev pub units_in : ℕ → Option ℕ
+units_in cell = unsigned_of None Some (held_in false cell)
+
 -- a word of our own: the orders of a side, each a price and a quantity in turn: the first, and those from another row on
 abbrev pub side_at : {A : Type 0} → (ℕ → ℕ → A) → ℕ → ℕ → List ℕ → List A
 side_at order first more cells =
@@ -172,6 +178,11 @@ quote_at at cells =
     }
 
 -- ---- writing
+
+-- a word of our own: the value of an amount, whatever its kind
+abbrev pub value_of_units : Option ℕ → ℕ
+value_of_units None = none
+value_of_units (Some n) = value_of false (Units n)
 
 -- a word of our own: values with one stored, where it has a row
 abbrev pub put_at : List ℕ → ℕ → ℕ → List ℕ

@@ -1,5 +1,5 @@
 -- A number through what it holds, through its cell and through its value, whatever its kind.
-use Rattle.std.specs.Prelude.{ℕ, ◌-◌, ◌<◌, ◌≡◌, refl, Bool, true, false, List, ◌⊎◌}
+use Rattle.std.specs.Prelude.{ℕ, ◌-◌, ◌<◌, ◌≡◌, refl, Bool, true, false, List, ◌⊎◌, Option, Some, None}
 use Rattle.std.proofs.Common.{ap, ◌∙◌, inl, inr, ⊎_elim, arith}
 use Rattle.std.proofs.lemmas.Bool.{false≢true}
 use Rattle.laws.specs.Order.{same}
@@ -12,12 +12,9 @@ use Rattle.layout.specs.CellsLaws.{MayHold, holds_so, stored_held}
 use Rattle.layout.specs.Plain.{no_room, value_of}
 use Rattle.layout.specs.PlainLaws.{held_back}
 use Rattle.layout.specs.Says.{HeldSays}
-use Rattle.quote.specs.declared.quote.PriceCell.{PriceCell}
-use Rattle.quote.specs.declared.quote.PriceCell.TheVariants as price
-use Rattle.quote.specs.declared.quote.QuantityCell.{QuantityCell}
-use Rattle.quote.specs.declared.quote.QuantityCell.TheVariants as quantity
-use Rattle.quote.specs.declared.quote.TurnoverCell.{TurnoverCell}
-use Rattle.quote.specs.declared.quote.TurnoverCell.TheVariants as turnover
+use Rattle.amount.specs.declared.price.Price.{Price}
+use Rattle.amount.specs.declared.quantity.Quantity.{Quantity}
+use Rattle.amount.specs.declared.turnover.Turnover.{Turnover}
 use Rattle.quote.specs.Quote.{unsigned_of, price_of, quantity_of, turnover_of}
 use Rattle.quote.specs.Shows.{held_price, held_quantity, held_turnover}
 
@@ -67,26 +64,26 @@ unsigned_number {A} nothing amount held none_held amount_held cases = record { h
     again : (a : A) → unsigned_of nothing amount (held a) ≡ a
     again a = ⊎_elim (λ (e : a ≡ nothing). rw (e, none_held)) (λ (e : (n : ℕ) × (a ≡ amount n)). rw (e.1, amount_held e.0)) (cases a)
 
-price_cases : (p : PriceCell) → (p ≡ price.None) ⊎ ((n : ℕ) × (p ≡ price.Amount (record { 0 = n })))
-price_cases price.None = inl refl
-price_cases (price.Amount amount) = inr (amount.0, refl)
+price_cases : (p : Option Price) → (p ≡ None) ⊎ ((n : ℕ) × (p ≡ Some (record { 0 = n })))
+price_cases None = inl refl
+price_cases (Some amount) = inr (amount.0, refl)
 
 pub price_number : IsNumber false price_of held_price (λ p. p)
-price_number = unsigned_number price.None (λ n. price.Amount (record { 0 = n })) held_price refl (λ n. refl) price_cases
+price_number = unsigned_number None (λ n. Some (record { 0 = n })) held_price refl (λ n. refl) price_cases
 
-quantity_cases : (q : QuantityCell) → (q ≡ quantity.None) ⊎ ((n : ℕ) × (q ≡ quantity.Amount (record { 0 = n })))
-quantity_cases quantity.None = inl refl
-quantity_cases (quantity.Amount amount) = inr (amount.0, refl)
+quantity_cases : (q : Option Quantity) → (q ≡ None) ⊎ ((n : ℕ) × (q ≡ Some (record { 0 = n })))
+quantity_cases None = inl refl
+quantity_cases (Some amount) = inr (amount.0, refl)
 
 pub quantity_number : IsNumber false quantity_of held_quantity (λ q. q)
-quantity_number = unsigned_number quantity.None (λ n. quantity.Amount (record { 0 = n })) held_quantity refl (λ n. refl) quantity_cases
+quantity_number = unsigned_number None (λ n. Some (record { 0 = n })) held_quantity refl (λ n. refl) quantity_cases
 
-turnover_cases : (t : TurnoverCell) → (t ≡ turnover.None) ⊎ ((n : ℕ) × (t ≡ turnover.Amount (record { 0 = n })))
-turnover_cases turnover.None = inl refl
-turnover_cases (turnover.Amount amount) = inr (amount.0, refl)
+turnover_cases : (t : Option Turnover) → (t ≡ None) ⊎ ((n : ℕ) × (t ≡ Some (record { 0 = n })))
+turnover_cases None = inl refl
+turnover_cases (Some amount) = inr (amount.0, refl)
 
 pub turnover_number : IsNumber false turnover_of held_turnover (λ t. t)
-turnover_number = unsigned_number turnover.None (λ n. turnover.Amount (record { 0 = n })) held_turnover refl (λ n. refl) turnover_cases
+turnover_number = unsigned_number None (λ n. Some (record { 0 = n })) held_turnover refl (λ n. refl) turnover_cases
 
 -- ---- what a field says
 

@@ -2,7 +2,7 @@ ghost use Rattle.std.specs.Prelude.{◌≡◌, [], ◌∷◌, ◌+◌, ◌≤◌
 ghost use Rattle.layout.specs.Cells.{byte_in};
 ghost use Rattle.quote.specs.Quote.{price_in, quantity_in, turnover_in, value_of_price, value_of_quantity, value_of_turnover, order_in, quote_of, values_of};
 ghost use Rattle.quote.specs.Shows.{no_order};
-ghost use Rattle.quote.specs.Inner.{Room, near, places_of, cell_from, put_at, puts, side_at, put_side, order_values, put_trades, put_own};
+ghost use Rattle.quote.specs.Inner.{Room, near, places_of, cell_from, units_in, value_of_units, put_at, puts, side_at, put_side, order_values, put_trades, put_own};
 
 use amount::{Price, Quantity, Turnover};
 use layout::{Form, Held, KEY_ROWS, MOST_ROWS, PAIR_ROWS};
@@ -10,49 +10,31 @@ use layout::{Form, Held, KEY_ROWS, MOST_ROWS, PAIR_ROWS};
 // The most orders of a side.
 pub const MOST_ORDERS: usize = 5;
 
-// A number of its own kind, or "none", which is not zero.
-#[derive(Clone, Copy)]
-pub enum PriceCell {
-    None,
-    Amount(Price),
-}
-
-#[derive(Clone, Copy)]
-pub enum QuantityCell {
-    None,
-    Amount(Quantity),
-}
-
-#[derive(Clone, Copy)]
-pub enum TurnoverCell {
-    None,
-    Amount(Turnover),
-}
-
+// A price and a quantity: each an amount of its own kind, or "none", which is not zero.
 #[derive(Clone, Copy)]
 pub struct Order {
-    pub price: PriceCell,
-    pub quantity: QuantityCell,
+    pub price: Option<Price>,
+    pub quantity: Option<Quantity>,
 }
 
 // The rows of an update behind its key. What a form has no row for reads as none, and is not looked at in writing.
 #[derive(Clone, Copy)]
 pub struct Quote {
     pub market_type: u8,
-    pub time_stamp: QuantityCell,
+    pub time_stamp: Option<Quantity>,
     pub buy: [Order; MOST_ORDERS],
     pub sell: [Order; MOST_ORDERS],
-    pub last: PriceCell,
-    pub traded: QuantityCell,
+    pub last: Option<Price>,
+    pub traded: Option<Quantity>,
     pub status: u8,
-    pub opening: PriceCell,
-    pub high: PriceCell,
-    pub low: PriceCell,
-    pub close: PriceCell,
-    pub average: PriceCell,
-    pub buyers: QuantityCell,
-    pub sellers: QuantityCell,
-    pub turnover: TurnoverCell,
+    pub opening: Option<Price>,
+    pub high: Option<Price>,
+    pub low: Option<Price>,
+    pub close: Option<Price>,
+    pub average: Option<Price>,
+    pub buyers: Option<Quantity>,
+    pub sellers: Option<Quantity>,
+    pub turnover: Option<Turnover>,
 }
 
 // Where the rows of a form stand: one that it has not stands behind the last. Behind the first order of a side the others stand in
@@ -91,22 +73,18 @@ const NO_PLACES: Places = Places {
 
 const LEVEL_ONE: Places = Places {
     market_type: KEY_ROWS,
-    time_stamp: MOST_ROWS,
     buy: 6,
-    more_buy: MOST_ROWS,
     sell: 8,
-    more_sell: MOST_ROWS,
     last: 10,
     status: 12,
     opening: 13,
     close: 16,
-    totals: MOST_ROWS,
     turnover: 18,
+    ..NO_PLACES
 };
 
 const LEVEL_TWO: Places = Places {
     market_type: KEY_ROWS,
-    time_stamp: MOST_ROWS,
     buy: 6,
     more_buy: 8,
     sell: 16,
@@ -117,21 +95,20 @@ const LEVEL_TWO: Places = Places {
     close: 32,
     totals: 34,
     turnover: 36,
+    ..NO_PLACES
 };
 
 const FUTURE_ONE: Places = Places {
     market_type: KEY_ROWS,
     time_stamp: 6,
     buy: 7,
-    more_buy: MOST_ROWS,
     sell: 9,
-    more_sell: MOST_ROWS,
     last: 11,
     status: 13,
     opening: 14,
     close: 17,
-    totals: MOST_ROWS,
     turnover: 19,
+    ..NO_PLACES
 };
 
 const FUTURE_TWO: Places = Places {
@@ -147,36 +124,26 @@ const FUTURE_TWO: Places = Places {
     close: 33,
     totals: 35,
     turnover: 37,
+    ..NO_PLACES
 };
 
 const PAIR_ONE: Places = Places {
-    market_type: MOST_ROWS,
-    time_stamp: MOST_ROWS,
     buy: PAIR_ROWS,
-    more_buy: MOST_ROWS,
     sell: 12,
-    more_sell: MOST_ROWS,
     last: 14,
-    status: MOST_ROWS,
     opening: 16,
-    close: MOST_ROWS,
-    totals: MOST_ROWS,
-    turnover: MOST_ROWS,
+    ..NO_PLACES
 };
 
 const PAIR_TWO: Places = Places {
-    market_type: MOST_ROWS,
-    time_stamp: MOST_ROWS,
     buy: PAIR_ROWS,
     more_buy: 12,
     sell: 20,
     more_sell: 22,
     last: 30,
-    status: MOST_ROWS,
     opening: 32,
-    close: MOST_ROWS,
     totals: 35,
-    turnover: MOST_ROWS,
+    ..NO_PLACES
 };
 
 pub fn places_of(form: Form) -> Places
@@ -188,20 +155,15 @@ pub fn places_of(form: Form) -> Places
         Form::LevelTwo => LEVEL_TWO,
         Form::PairOne => PAIR_ONE,
         Form::PairTwo => PAIR_TWO,
-        Form::FutureOne => FUTURE_ONE,
-        Form::FutureTwo => FUTURE_TWO,
-        Form::PreOpenOne => FUTURE_ONE,
-        Form::PreOpenTwo => FUTURE_TWO,
+        Form::FutureOne | Form::PreOpenOne => FUTURE_ONE,
+        Form::FutureTwo | Form::PreOpenTwo => FUTURE_TWO,
     }
 }
 
 pub fn cell_from(cells: &[u64; MOST_ROWS], row: usize) -> u64
     ensures { result ≡ cell_from cells.now row }
 {
-    if row < MOST_ROWS {
-        return cells[row];
-    }
-    layout::NONE
+    cells.get(row).copied().unwrap_or(layout::NONE)
 }
 
 fn letter_at(cells: &[u64; MOST_ROWS], row: usize) -> u8
@@ -210,61 +172,56 @@ fn letter_at(cells: &[u64; MOST_ROWS], row: usize) -> u8
     layout::byte_in(cell_from(cells, row))
 }
 
-fn price_at(cells: &[u64; MOST_ROWS], row: usize) -> PriceCell
+// An amount, whatever its kind; none of them is below zero.
+fn units_at(cells: &[u64; MOST_ROWS], row: usize) -> Option<u64>
+    ensures { result ≡ units_in (cell_from cells.now row) }
+{
+    match layout::held_in(false, cell_from(cells, row)) {
+        Held::Units(units) => Some(units),
+        Held::Nothing | Held::Below(_) => None,
+    }
+}
+
+fn price_at(cells: &[u64; MOST_ROWS], row: usize) -> Option<Price>
     ensures { result ≡ price_in (cell_from cells.now row) }
 {
-    match layout::held_in(false, cell_from(cells, row)) {
-        Held::Nothing => PriceCell::None,
-        Held::Units(units) => PriceCell::Amount(Price::of(units)),
-        Held::Below(units) => PriceCell::None,
-    }
+    units_at(cells, row).map(Price)
 }
 
-pub fn quantity_at(cells: &[u64; MOST_ROWS], row: usize) -> QuantityCell
+pub fn quantity_at(cells: &[u64; MOST_ROWS], row: usize) -> Option<Quantity>
     ensures { result ≡ quantity_in (cell_from cells.now row) }
 {
-    match layout::held_in(false, cell_from(cells, row)) {
-        Held::Nothing => QuantityCell::None,
-        Held::Units(units) => QuantityCell::Amount(Quantity::of(units)),
-        Held::Below(units) => QuantityCell::None,
-    }
+    units_at(cells, row).map(Quantity)
 }
 
-fn turnover_at(cells: &[u64; MOST_ROWS], row: usize) -> TurnoverCell
+fn turnover_at(cells: &[u64; MOST_ROWS], row: usize) -> Option<Turnover>
     ensures { result ≡ turnover_in (cell_from cells.now row) }
 {
-    match layout::held_in(false, cell_from(cells, row)) {
-        Held::Nothing => TurnoverCell::None,
-        Held::Units(units) => TurnoverCell::Amount(Turnover::of(units)),
-        Held::Below(units) => TurnoverCell::None,
-    }
+    units_at(cells, row).map(Turnover)
 }
 
-fn price_value(price: PriceCell) -> u64
+fn units_value(units: Option<u64>) -> u64
+    ensures { result ≡ value_of_units units }
+{
+    units.map_or(layout::NONE, |n| layout::value_of(false, Held::Units(n)))
+}
+
+fn price_value(price: Option<Price>) -> u64
     ensures { result ≡ value_of_price price }
 {
-    match price {
-        PriceCell::None => layout::NONE,
-        PriceCell::Amount(amount) => layout::value_of(false, Held::Units(amount.0)),
-    }
+    units_value(price.map(|p| p.0))
 }
 
-pub fn quantity_value(quantity: QuantityCell) -> u64
+pub fn quantity_value(quantity: Option<Quantity>) -> u64
     ensures { result ≡ value_of_quantity quantity }
 {
-    match quantity {
-        QuantityCell::None => layout::NONE,
-        QuantityCell::Amount(amount) => layout::value_of(false, Held::Units(amount.0)),
-    }
+    units_value(quantity.map(|q| q.0))
 }
 
-fn turnover_value(turnover: TurnoverCell) -> u64
+fn turnover_value(turnover: Option<Turnover>) -> u64
     ensures { result ≡ value_of_turnover turnover }
 {
-    match turnover {
-        TurnoverCell::None => layout::NONE,
-        TurnoverCell::Amount(amount) => layout::value_of(false, Held::Units(amount.0)),
-    }
+    units_value(turnover.map(|t| t.0))
 }
 
 pub fn put_value(value: u64, row: usize, values: &mut [u64; MOST_ROWS])
@@ -322,25 +279,21 @@ pub fn quote_of(form: Form, cells: &[u64; MOST_ROWS]) -> Quote
     ensures { result ≡ quote_of form cells.now }
 {
     let at = places_of(form);
-    let last = at.last;
-    let opening = at.opening;
-    let close = at.close;
-    let totals = at.totals;
     Quote {
         market_type: letter_at(cells, at.market_type),
         time_stamp: quantity_at(cells, at.time_stamp),
         buy: side_at(cells, at.buy, at.more_buy),
         sell: side_at(cells, at.sell, at.more_sell),
-        last: price_at(cells, last),
-        traded: quantity_at(cells, last + 1),
+        last: price_at(cells, at.last),
+        traded: quantity_at(cells, at.last + 1),
         status: letter_at(cells, at.status),
-        opening: price_at(cells, opening),
-        high: price_at(cells, opening + 1),
-        low: price_at(cells, opening + 2),
-        close: price_at(cells, close),
-        average: price_at(cells, close + 1),
-        buyers: quantity_at(cells, totals),
-        sellers: quantity_at(cells, totals + 1),
+        opening: price_at(cells, at.opening),
+        high: price_at(cells, at.opening + 1),
+        low: price_at(cells, at.opening + 2),
+        close: price_at(cells, at.close),
+        average: price_at(cells, at.close + 1),
+        buyers: quantity_at(cells, at.totals),
+        sellers: quantity_at(cells, at.totals + 1),
         turnover: turnover_at(cells, at.turnover),
     }
 }
@@ -349,9 +302,12 @@ fn put_order(order: Order, row: usize, values: &mut [u64; MOST_ROWS])
     requires { row ≤ near }
     ensures { values.new ≡ puts values.old row (order_values order) }
 {
-    let price = order.price;
-    let quantity = order.quantity;
-    put_two(price_value(price), quantity_value(quantity), row, values);
+    put_two(
+        price_value(order.price),
+        quantity_value(order.quantity),
+        row,
+        values,
+    );
 }
 
 fn put_side(orders: [Order; MOST_ORDERS], first: usize, more: usize, values: &mut [u64; MOST_ROWS])
@@ -370,24 +326,22 @@ fn put_trades(quote: Quote, at: Places, values: &mut [u64; MOST_ROWS])
     requires { Room at }
     ensures { values.new ≡ put_trades at quote values.old }
 {
-    let last = quote.last;
-    let traded = quote.traded;
-    let opening = quote.opening;
-    let high = quote.high;
-    let low = quote.low;
-    let buyers = quote.buyers;
-    let sellers = quote.sellers;
-    put_two(price_value(last), quantity_value(traded), at.last, values);
+    put_two(
+        price_value(quote.last),
+        quantity_value(quote.traded),
+        at.last,
+        values,
+    );
     put_three(
-        price_value(opening),
-        price_value(high),
-        price_value(low),
+        price_value(quote.opening),
+        price_value(quote.high),
+        price_value(quote.low),
         at.opening,
         values,
     );
     put_two(
-        quantity_value(buyers),
-        quantity_value(sellers),
+        quantity_value(quote.buyers),
+        quantity_value(quote.sellers),
         at.totals,
         values,
     );
@@ -398,15 +352,16 @@ fn put_own(quote: Quote, at: Places, values: &mut [u64; MOST_ROWS])
     requires { Room at }
     ensures { values.new ≡ put_own at quote values.old }
 {
-    let time_stamp = quote.time_stamp;
-    let close = quote.close;
-    let average = quote.average;
-    let turnover = quote.turnover;
-    put_value(quote.market_type as u64, at.market_type, values);
-    put_value(quantity_value(time_stamp), at.time_stamp, values);
-    put_value(quote.status as u64, at.status, values);
-    put_two(price_value(close), price_value(average), at.close, values);
-    put_value(turnover_value(turnover), at.turnover, values);
+    put_value(u64::from(quote.market_type), at.market_type, values);
+    put_value(quantity_value(quote.time_stamp), at.time_stamp, values);
+    put_value(u64::from(quote.status), at.status, values);
+    put_two(
+        price_value(quote.close),
+        price_value(quote.average),
+        at.close,
+        values,
+    );
+    put_value(turnover_value(quote.turnover), at.turnover, values);
 }
 
 // The values that a message of that form is written from.
@@ -414,11 +369,9 @@ pub fn values_of(form: Form, quote: Quote) -> [u64; MOST_ROWS]
     ensures { result ≡ values_of form quote }
 {
     let at = places_of(form);
-    let buy = quote.buy;
-    let sell = quote.sell;
     let mut values = [0u64; MOST_ROWS];
-    put_side(buy, at.buy, at.more_buy, &mut values);
-    put_side(sell, at.sell, at.more_sell, &mut values);
+    put_side(quote.buy, at.buy, at.more_buy, &mut values);
+    put_side(quote.sell, at.sell, at.more_sell, &mut values);
     put_trades(quote, at, &mut values);
     put_own(quote, at, &mut values);
     values

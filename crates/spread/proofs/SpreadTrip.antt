@@ -1,6 +1,6 @@
 -- A pair's quote through the data of an update: what was read can be written again, and what is written reads back as the form sees
 -- it.
-use Rattle.std.specs.Prelude.{ℕ, ◌-◌, ◌≡◌, refl, true, List, replicate}
+use Rattle.std.specs.Prelude.{ℕ, ◌-◌, ◌≡◌, refl, true, List, replicate, Option}
 use Rattle.std.proofs.Common.{ap, ◌∙◌}
 use Rattle.std.proofs.lemmas.Bool.{false≢true}
 use Rattle.std.proofs.Math.ListN.{length}
@@ -16,7 +16,7 @@ use Rattle.compose.specs.Write.{write_rows}
 use Rattle.quote.specs.Quote.{of_pair, values_by}
 use Rattle.quote.specs.NumberLaws.{value_again}
 use Rattle.quote.proofs.QuoteTrip.{read, as_read, read_again, all_held, cells_again}
-use Rattle.spread.specs.declared.spread.DifferenceCell.{DifferenceCell}
+use Rattle.amount.specs.declared.difference.Difference.{Difference}
 use Rattle.spread.specs.declared.spread.SpreadQuote.{SpreadQuote}
 use Rattle.spread.specs.Spread.{value_of_difference, spread_quote_of, spread_field_value, spread_values_of, seen_spread}
 use Rattle.spread.proofs.NumberLaws.{difference_number}
@@ -31,7 +31,7 @@ spread_read_kept form bytes good is = spread_cells_back form is (read form bytes
 
 -- ---- what is written
 
-difference_again : (d : DifferenceCell) → value_of true (held_in true (value_of_difference d)) ≡ value_of_difference d
+difference_again : (d : Option Difference) → value_of true (held_in true (value_of_difference d)) ≡ value_of_difference d
 difference_again = value_again difference_number
 
 own_spread_values : (form : Form) → of_pair (subject_of form) ≡ true → (quote : SpreadQuote)

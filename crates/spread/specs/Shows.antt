@@ -1,30 +1,28 @@
 -- What a pair's quote shows of an update's data, each of its fields from the field of the same name: demand 2, M-100, 000 sections
 -- 4.6 and 4.7, 003 sections 4.3 and 4.4.
-use Rattle.std.specs.Prelude.{ℕ, ◌<◌, List, get_or}
-use Rattle.std.proofs.Math.Option.{Option}
+use Rattle.std.specs.Prelude.{ℕ, ◌<◌, List, get_or, Option, Some, None}
+use Rattle.std.proofs.Math.Option.{Option as Maybe}
 use Rattle.decimal.specs.Kinds.{quantity, difference}
 use Rattle.layout.specs.declared.cells.Held.{Held}
 use Rattle.layout.specs.declared.cells.Held.TheVariants.{Nothing}
 use Rattle.layout.specs.Cells.{sided}
 use Rattle.forms.specs.Names.{Name, buy_price, buy_quantity, sell_price, sell_quantity, last_price, traded_quantity, opening_price, high_price, low_price, all_buyers, all_sellers}
-use Rattle.quote.specs.declared.quote.QuantityCell.TheVariants as quantity
 use Rattle.quote.specs.Shows.{held_quantity, most_orders, Shows}
-use Rattle.spread.specs.declared.spread.DifferenceCell.{DifferenceCell}
-use Rattle.spread.specs.declared.spread.DifferenceCell.TheVariants as difference
+use Rattle.amount.specs.declared.difference.Difference.{Difference}
 use Rattle.spread.specs.declared.spread.SpreadOrder.{SpreadOrder}
 use Rattle.spread.specs.declared.spread.SpreadQuote.{SpreadQuote}
 
 -- M-100: the number of a price difference, above or below zero, or none; minus zero is zero
-abbrev pub held_difference : DifferenceCell → Held
-held_difference difference.None = Nothing
-held_difference (difference.Amount amount) = sided amount.0 amount.1
+abbrev pub held_difference : Option Difference → Held
+held_difference None = Nothing
+held_difference (Some amount) = sided amount.0 amount.1
 
 -- M-100: a pair's order whose price difference and quantity are none
 abbrev pub no_spread_order : SpreadOrder
-no_spread_order = record { price = difference.None; quantity = quantity.None }
+no_spread_order = record { price = None; quantity = None }
 
 -- M-100, 000 sections 4.6 and 4.7, 003 sections 4.3 and 4.4: every field of a pair's quote beside the text of its name
-pub record ShowsSpreadFields (text : Name → Option (List ℕ)) (quote : SpreadQuote) : Type 0 where
+pub record ShowsSpreadFields (text : Name → Maybe (List ℕ)) (quote : SpreadQuote) : Type 0 where
   pub buy_price_shown : (k : ℕ) → k < most_orders → Shows difference (text (buy_price k)) (held_difference (get_or quote.buy k no_spread_order).price)
   pub buy_quantity_shown : (k : ℕ) → k < most_orders → Shows quantity (text (buy_quantity k)) (held_quantity (get_or quote.buy k no_spread_order).quantity)
   pub sell_price_shown : (k : ℕ) → k < most_orders → Shows difference (text (sell_price k)) (held_difference (get_or quote.sell k no_spread_order).price)

@@ -1,9 +1,7 @@
 -- M-100: the quote that a pair's cells hold, and its values, each row by its name.
-use Rattle.std.specs.Prelude.{ℕ, true, false, List, get_or}
+use Rattle.std.specs.Prelude.{ℕ, true, false, List, get_or, Option, Some, None}
 use Rattle.decimal.specs.Denotes.{below_zero}
-use Rattle.quote.specs.declared.quote.QuantityCell.TheVariants as quantity
-use Rattle.spread.specs.declared.spread.DifferenceCell.{DifferenceCell}
-use Rattle.spread.specs.declared.spread.DifferenceCell.TheVariants as difference
+use Rattle.amount.specs.declared.difference.Difference.{Difference}
 use Rattle.spread.specs.declared.spread.SpreadOrder.{SpreadOrder}
 use Rattle.spread.specs.declared.spread.SpreadQuote.{SpreadQuote}
 use Rattle.layout.specs.declared.cells.Held.{Held}
@@ -19,23 +17,23 @@ use Rattle.spread.specs.Shows.{held_difference, no_spread_order}
 -- ---- a price difference
 
 -- M-100: a price difference, above or below zero, or "none"
-abbrev pub difference_of : Held → DifferenceCell
-difference_of Nothing = difference.None
-difference_of (Units n) = difference.Amount (record { 0 = false; 1 = n })
-difference_of (Below n) = difference.Amount (record { 0 = true; 1 = n })
+abbrev pub difference_of : Held → Option Difference
+difference_of Nothing = None
+difference_of (Units n) = Some (record { 0 = false; 1 = n })
+difference_of (Below n) = Some (record { 0 = true; 1 = n })
 
 -- lent memory: the price difference that a cell holds
-abbrev pub difference_in : ℕ → DifferenceCell
+abbrev pub difference_in : ℕ → Option Difference
 difference_in cell = difference_of (held_in true cell)
 
 -- the host's header: the value of a price difference
-abbrev pub value_of_difference : DifferenceCell → ℕ
+abbrev pub value_of_difference : Option Difference → ℕ
 value_of_difference d = value_of true (held_difference d)
 
 -- M-100: minus zero is zero
-abbrev pub plain_zero : DifferenceCell → DifferenceCell
-plain_zero difference.None = difference.None
-plain_zero (difference.Amount amount) = difference.Amount (record { 0 = below_zero amount.0 amount.1; 1 = amount.1 })
+abbrev pub plain_zero : Option Difference → Option Difference
+plain_zero None = None
+plain_zero (Some amount) = Some (record { 0 = below_zero amount.0 amount.1; 1 = amount.1 })
 
 -- ---- the quote
 
@@ -102,7 +100,7 @@ spread_values_of form quote = zeros_behind (values_by (named_rows form) (spread_
 -- M-100: an order, where the form has its rows
 abbrev pub seen_spread_order : List NamedRow → Name → Name → SpreadOrder → SpreadOrder
 seen_spread_order rows price_name quantity_name order =
-    record { price = where_named rows price_name (plain_zero order.price) difference.None; quantity = where_named rows quantity_name order.quantity quantity.None }
+    record { price = where_named rows price_name (plain_zero order.price) None; quantity = where_named rows quantity_name order.quantity None }
 
 -- M-100: what rows hold of a pair's quote
 abbrev pub seen_spread_by : List NamedRow → SpreadQuote → SpreadQuote
@@ -110,13 +108,13 @@ seen_spread_by rows quote =
     record {
       buy = seen_side (seen_spread_order rows) no_spread_order buy_price buy_quantity quote.buy;
       sell = seen_side (seen_spread_order rows) no_spread_order sell_price sell_quantity quote.sell;
-      last = where_named rows last_price (plain_zero quote.last) difference.None;
-      traded = where_named rows traded_quantity quote.traded quantity.None;
-      opening = where_named rows opening_price (plain_zero quote.opening) difference.None;
-      high = where_named rows high_price (plain_zero quote.high) difference.None;
-      low = where_named rows low_price (plain_zero quote.low) difference.None;
-      buyers = where_named rows all_buyers quote.buyers quantity.None;
-      sellers = where_named rows all_sellers quote.sellers quantity.None;
+      last = where_named rows last_price (plain_zero quote.last) None;
+      traded = where_named rows traded_quantity quote.traded None;
+      opening = where_named rows opening_price (plain_zero quote.opening) None;
+      high = where_named rows high_price (plain_zero quote.high) None;
+      low = where_named rows low_price (plain_zero quote.low) None;
+      buyers = where_named rows all_buyers quote.buyers None;
+      sellers = where_named rows all_sellers quote.sellers None;
     }
 
 -- M-100: what a pair's quote's message of that form holds of it

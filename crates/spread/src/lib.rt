@@ -3,4 +3,4 @@
 
 mod spread;
 
-pub use spread::{DifferenceCell, SpreadOrder, SpreadQuote, spread_quote_of, spread_values_of};
+pub use spread::{SpreadOrder, SpreadQuote, spread_quote_of, spread_values_of};

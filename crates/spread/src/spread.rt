@@ -4,21 +4,15 @@ ghost use Rattle.spread.specs.Inner.{spread_order_values, put_differences};
 ghost use Rattle.spread.specs.Spread.{difference_in, value_of_difference, spread_order_in, spread_quote_of, spread_values_of};
 ghost use Rattle.spread.specs.Shows.{no_spread_order};
 
-use amount::Difference;
+use amount::{Difference, Quantity};
 use layout::{Form, Held, MOST_ROWS};
-use quote::{MOST_ORDERS, Places, QuantityCell};
+use quote::{MOST_ORDERS, Places};
 
-// A price difference, or "none", which is not zero.
-#[derive(Clone, Copy)]
-pub enum DifferenceCell {
-    None,
-    Amount(Difference),
-}
-
+// A price difference and a quantity: each an amount, or "none", which is not zero.
 #[derive(Clone, Copy)]
 pub struct SpreadOrder {
-    pub price: DifferenceCell,
-    pub quantity: QuantityCell,
+    pub price: Option<Difference>,
+    pub quantity: Option<Quantity>,
 }
 
 // The rows of an update of a pair behind its key, as a quote has a contract's. Minus zero is zero.
@@ -26,32 +20,32 @@ pub struct SpreadOrder {
 pub struct SpreadQuote {
     pub buy: [SpreadOrder; MOST_ORDERS],
     pub sell: [SpreadOrder; MOST_ORDERS],
-    pub last: DifferenceCell,
-    pub traded: QuantityCell,
-    pub opening: DifferenceCell,
-    pub high: DifferenceCell,
-    pub low: DifferenceCell,
-    pub buyers: QuantityCell,
-    pub sellers: QuantityCell,
+    pub last: Option<Difference>,
+    pub traded: Option<Quantity>,
+    pub opening: Option<Difference>,
+    pub high: Option<Difference>,
+    pub low: Option<Difference>,
+    pub buyers: Option<Quantity>,
+    pub sellers: Option<Quantity>,
 }
 
-fn difference_at(cells: &[u64; MOST_ROWS], row: usize) -> DifferenceCell
+fn difference_at(cells: &[u64; MOST_ROWS], row: usize) -> Option<Difference>
     ensures { result ≡ difference_in (cell_from cells.now row) }
 {
     match layout::held_in(true, quote::cell_from(cells, row)) {
-        Held::Nothing => DifferenceCell::None,
-        Held::Units(units) => DifferenceCell::Amount(Difference::of(false, units)),
-        Held::Below(units) => DifferenceCell::Amount(Difference::of(true, units)),
+        Held::Nothing => None,
+        Held::Units(units) => Some(Difference(false, units)),
+        Held::Below(units) => Some(Difference(true, units)),
     }
 }
 
-fn difference_value(difference: DifferenceCell) -> u64
+fn difference_value(difference: Option<Difference>) -> u64
     ensures { result ≡ value_of_difference difference }
 {
-    match difference {
-        DifferenceCell::None => layout::NONE,
-        DifferenceCell::Amount(amount) => layout::value_of(true, layout::sided(amount.0, amount.1)),
-    }
+    difference.map_or(
+        layout::NONE,
+        |d| layout::value_of(true, layout::sided(d.0, d.1)),
+    )
 }
 
 fn spread_order_at(cells: &[u64; MOST_ROWS], row: usize) -> SpreadOrder
@@ -82,19 +76,16 @@ pub fn spread_quote_of(form: Form, cells: &[u64; MOST_ROWS]) -> SpreadQuote
     ensures { result ≡ spread_quote_of form cells.now }
 {
     let at = quote::places_of(form);
-    let last = at.last;
-    let opening = at.opening;
-    let totals = at.totals;
     SpreadQuote {
         buy: spread_side_at(cells, at.buy, at.more_buy),
         sell: spread_side_at(cells, at.sell, at.more_sell),
-        last: difference_at(cells, last),
-        traded: quote::quantity_at(cells, last + 1),
-        opening: difference_at(cells, opening),
-        high: difference_at(cells, opening + 1),
-        low: difference_at(cells, opening + 2),
-        buyers: quote::quantity_at(cells, totals),
-        sellers: quote::quantity_at(cells, totals + 1),
+        last: difference_at(cells, at.last),
+        traded: quote::quantity_at(cells, at.last + 1),
+        opening: difference_at(cells, at.opening),
+        high: difference_at(cells, at.opening + 1),
+        low: difference_at(cells, at.opening + 2),
+        buyers: quote::quantity_at(cells, at.totals),
+        sellers: quote::quantity_at(cells, at.totals + 1),
     }
 }
 
@@ -102,11 +93,9 @@ fn put_spread_order(order: SpreadOrder, row: usize, values: &mut [u64; MOST_ROWS
     requires { row ≤ near }
     ensures { values.new ≡ puts values.old row (spread_order_values order) }
 {
-    let price = order.price;
-    let quantity = order.quantity;
     quote::put_two(
-        difference_value(price),
-        quote::quantity_value(quantity),
+        difference_value(order.price),
+        quote::quantity_value(order.quantity),
         row,
         values,
     );
@@ -133,29 +122,22 @@ fn put_differences(quote: SpreadQuote, at: Places, values: &mut [u64; MOST_ROWS]
     requires { Room at }
     ensures { values.new ≡ put_differences at quote values.old }
 {
-    let last = quote.last;
-    let traded = quote.traded;
-    let opening = quote.opening;
-    let high = quote.high;
-    let low = quote.low;
-    let buyers = quote.buyers;
-    let sellers = quote.sellers;
     quote::put_two(
-        difference_value(last),
-        quote::quantity_value(traded),
+        difference_value(quote.last),
+        quote::quantity_value(quote.traded),
         at.last,
         values,
     );
     quote::put_three(
-        difference_value(opening),
-        difference_value(high),
-        difference_value(low),
+        difference_value(quote.opening),
+        difference_value(quote.high),
+        difference_value(quote.low),
         at.opening,
         values,
     );
     quote::put_two(
-        quote::quantity_value(buyers),
-        quote::quantity_value(sellers),
+        quote::quantity_value(quote.buyers),
+        quote::quantity_value(quote.sellers),
         at.totals,
         values,
     );
@@ -166,11 +148,9 @@ pub fn spread_values_of(form: Form, quote: SpreadQuote) -> [u64; MOST_ROWS]
     ensures { result ≡ spread_values_of form quote }
 {
     let at = quote::places_of(form);
-    let buy = quote.buy;
-    let sell = quote.sell;
     let mut values = [0u64; MOST_ROWS];
-    put_spread_side(buy, at.buy, at.more_buy, &mut values);
-    put_spread_side(sell, at.sell, at.more_sell, &mut values);
+    put_spread_side(quote.buy, at.buy, at.more_buy, &mut values);
+    put_spread_side(quote.sell, at.sell, at.more_sell, &mut values);
     put_differences(quote, at, &mut values);
     values
 }

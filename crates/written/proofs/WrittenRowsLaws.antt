@@ -1,5 +1,5 @@
 -- A row is refused 11 exactly where it is malformed, and 12 exactly where it is out of range.
-use Rattle.std.specs.Prelude.{ℕ, zero, suc, ◌+◌, ◌-◌, ◌≤◌, ◌<◌, ◌≡◌, refl, Bool, true, false, cond, ◌&&◌, ◌⊎◌, ◌↔◌, List, [], ◌∷◌, ◌++◌, map, leb, eqb, length, get_or, take}
+use Rattle.std.specs.Prelude.{ℕ, zero, suc, ◌+◌, ◌-◌, ◌≤◌, ◌<◌, ◌≡◌, refl, Bool, true, false, cond, ◌&&◌, ◌⊎◌, ◌↔◌, List, [], ◌∷◌, ◌++◌, map, leb, eqb, length, get_or, take, Option, Some, None}
 use Rattle.std.proofs.Common.{ap, sym, subst, ◌∙◌, true≢false, inl, inr, ⊎_elim, arith, le-leb, lt-ltb, le-ltb, ne_eqb, lit<, length-drop, get_or-take, length-take-le}
 use Rattle.std.proofs.lemmas.Bool.{false≢true, lt-leb, eqb-false}
 use Rattle.std.proofs.Math.Logic.Iff
@@ -15,14 +15,10 @@ use Rattle.print.specs.WriteLaws.{Refused, sideless}
 use Rattle.layout.specs.declared.cells.Held.{Held}
 use Rattle.layout.specs.declared.cells.Held.TheVariants.{Nothing, Units, Below}
 use Rattle.quote.specs.declared.quote.Quote.{Quote}
-use Rattle.quote.specs.declared.quote.PriceCell.{PriceCell}
-use Rattle.quote.specs.declared.quote.PriceCell.TheVariants as price_cell
-use Rattle.quote.specs.declared.quote.QuantityCell.{QuantityCell}
-use Rattle.quote.specs.declared.quote.QuantityCell.TheVariants as quantity_cell
-use Rattle.quote.specs.declared.quote.TurnoverCell.{TurnoverCell}
-use Rattle.quote.specs.declared.quote.TurnoverCell.TheVariants as turnover_cell
-use Rattle.spread.specs.declared.spread.DifferenceCell.{DifferenceCell}
-use Rattle.spread.specs.declared.spread.DifferenceCell.TheVariants as difference_cell
+use Rattle.amount.specs.declared.price.Price.{Price}
+use Rattle.amount.specs.declared.quantity.Quantity.{Quantity}
+use Rattle.amount.specs.declared.turnover.Turnover.{Turnover}
+use Rattle.amount.specs.declared.difference.Difference.{Difference}
 use Rattle.spread.specs.declared.spread.SpreadQuote.{SpreadQuote}
 use Rattle.forms.specs.declared.rows.Level.{Level}
 use Rattle.forms.specs.declared.forms.Form.{Form}
@@ -95,21 +91,21 @@ plains_at form given values behind e k h =
     ∙ get_or-map plain (named_rows form) k (named instrument (Key 0))
     ∙ ap (λ (row : Row). plain_in row (value_at form given k)) (sym (get_or-map (λ (row : NamedRow). row.row) (named_rows form) k (named instrument (Key 0))))
 
-price_given_lem : (p : PriceCell) → value_of_price p ≡ value_of false (held_of (price_given p))
-price_given_lem price_cell.None = refl
-price_given_lem (price_cell.Amount units) = refl
+price_given_lem : (p : Option Price) → value_of_price p ≡ value_of false (held_of (price_given p))
+price_given_lem None = refl
+price_given_lem (Some units) = refl
 
-quantity_given_lem : (q : QuantityCell) → value_of_quantity q ≡ value_of false (held_of (quantity_given q))
-quantity_given_lem quantity_cell.None = refl
-quantity_given_lem (quantity_cell.Amount units) = refl
+quantity_given_lem : (q : Option Quantity) → value_of_quantity q ≡ value_of false (held_of (quantity_given q))
+quantity_given_lem None = refl
+quantity_given_lem (Some units) = refl
 
-turnover_given_lem : (t : TurnoverCell) → value_of_turnover t ≡ value_of false (held_of (turnover_given t))
-turnover_given_lem turnover_cell.None = refl
-turnover_given_lem (turnover_cell.Amount units) = refl
+turnover_given_lem : (t : Option Turnover) → value_of_turnover t ≡ value_of false (held_of (turnover_given t))
+turnover_given_lem None = refl
+turnover_given_lem (Some units) = refl
 
-difference_given_lem : (d : DifferenceCell) → value_of_difference d ≡ value_of true (held_of (difference_given d))
-difference_given_lem difference_cell.None = refl
-difference_given_lem (difference_cell.Amount units) = refl
+difference_given_lem : (d : Option Difference) → value_of_difference d ≡ value_of true (held_of (difference_given d))
+difference_given_lem None = refl
+difference_given_lem (Some units) = refl
 
 contract_plain : (form : Form) (level : Level) → is_asked (subject_of form) Contract level ≡ true → (quote : Quote)
     → (total key_used (rows_of form) ≤ key_bytes_of Contract) × (values_by (named_rows form) (field_value quote) ≡ plain_given form (field_given quote))

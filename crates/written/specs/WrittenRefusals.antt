@@ -1,17 +1,13 @@
 -- What the writer refuses row by row, in the terms of the key and the quote: 01, the table's rows 11 and 12, M-100, M-104.
-use Rattle.std.specs.Prelude.{ℕ, ◌<◌, Bool, false, ◌⊎◌, List, length, get_or, take, drop}
+use Rattle.std.specs.Prelude.{ℕ, ◌<◌, Bool, false, ◌⊎◌, List, length, get_or, take, drop, Option, Some, None}
 use Rattle.decimal.specs.declared.Kind.{Kind}
 use Rattle.decimal.specs.Kinds as kind
 use Rattle.print.specs.Write.{NoText}
 use Rattle.quote.specs.declared.quote.Quote.{Quote}
-use Rattle.quote.specs.declared.quote.PriceCell.{PriceCell}
-use Rattle.quote.specs.declared.quote.PriceCell.TheVariants as price
-use Rattle.quote.specs.declared.quote.QuantityCell.{QuantityCell}
-use Rattle.quote.specs.declared.quote.QuantityCell.TheVariants as quantity
-use Rattle.quote.specs.declared.quote.TurnoverCell.{TurnoverCell}
-use Rattle.quote.specs.declared.quote.TurnoverCell.TheVariants as turnover
-use Rattle.spread.specs.declared.spread.DifferenceCell.{DifferenceCell}
-use Rattle.spread.specs.declared.spread.DifferenceCell.TheVariants as difference
+use Rattle.amount.specs.declared.price.Price.{Price}
+use Rattle.amount.specs.declared.quantity.Quantity.{Quantity}
+use Rattle.amount.specs.declared.turnover.Turnover.{Turnover}
+use Rattle.amount.specs.declared.difference.Difference.{Difference}
 use Rattle.spread.specs.declared.spread.SpreadQuote.{SpreadQuote}
 use Rattle.forms.specs.declared.forms.Form.{Form}
 use Rattle.forms.specs.declared.rows.Row.{Row}
@@ -32,24 +28,24 @@ pub data Value : Type 0 where
   amount : Bool → ℕ → Value
 
 -- 01 "Numbers in text": a price, or "none"
-abbrev pub price_given : PriceCell → Value
-price_given price.None = nothing
-price_given (price.Amount units) = amount false units.0
+abbrev pub price_given : Option Price → Value
+price_given None = nothing
+price_given (Some units) = amount false units.0
 
 -- 01 "Numbers in text": a quantity, or "none"
-abbrev pub quantity_given : QuantityCell → Value
-quantity_given quantity.None = nothing
-quantity_given (quantity.Amount units) = amount false units.0
+abbrev pub quantity_given : Option Quantity → Value
+quantity_given None = nothing
+quantity_given (Some units) = amount false units.0
 
 -- 01 "Numbers in text": a turnover, or "none"
-abbrev pub turnover_given : TurnoverCell → Value
-turnover_given turnover.None = nothing
-turnover_given (turnover.Amount units) = amount false units.0
+abbrev pub turnover_given : Option Turnover → Value
+turnover_given None = nothing
+turnover_given (Some units) = amount false units.0
 
 -- M-100: a price difference, or "none"
-abbrev pub difference_given : DifferenceCell → Value
-difference_given difference.None = nothing
-difference_given (difference.Amount units) = amount units.0 units.1
+abbrev pub difference_given : Option Difference → Value
+difference_given None = nothing
+difference_given (Some units) = amount units.0 units.1
 
 -- 01 "The message", M-104: each field of a quote; the key is none of it
 abbrev pub field_given : Quote → Name → Value

@@ -4,8 +4,7 @@ use Rattle.quote.proofs.quote.quote_of.Goals as goal
 
 pub returns : goal.returns
 returns c =
-    let s = c in
-    rw (← quote_laid s.args.form s.args.cells.now, ← c.places_of-at.ensures.0)
+    rw (← quote_laid c.args.form c.args.cells.now, ← c.places_of-at.ensures.0)
     (λ i.
     record {
       market_type = c.letter_at.ensures i;

@@ -4,6 +4,5 @@ use Rattle.quote.proofs.quote.values_of.Goals as goal
 
 pub returns : goal.returns
 returns c =
-    let a = c.args in
     rw (c.put_own.ensures, c.put_trades.ensures, c.put_side-2.ensures, c.put_side.ensures, c.places_of-at.ensures.0)
-    (values_laid_lem a.form a.quote)
+    (values_laid_lem c.args.form c.args.quote)

@@ -4,8 +4,7 @@ use Rattle.spread.proofs.spread.spread_quote_of.Goals as goal
 
 pub returns : goal.returns
 returns c =
-    let s = c in
-    rw (← spread_laid s.args.form s.args.cells.now, ← c.places_of-at.ensures.0)
+    rw (← spread_laid c.args.form c.args.cells.now, ← c.places_of-at.ensures.0)
     (λ i.
     record {
       buy = c.spread_side_at.ensures i;

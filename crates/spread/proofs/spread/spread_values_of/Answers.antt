@@ -4,6 +4,5 @@ use Rattle.spread.proofs.spread.spread_values_of.Goals as goal
 
 pub returns : goal.returns
 returns c =
-    let a = c.args in
     rw (c.put_differences.ensures, c.put_spread_side-2.ensures, c.put_spread_side.ensures, c.places_of-at.ensures.0)
-    (spread_values_laid_lem a.form a.quote)
+    (spread_values_laid_lem c.args.form c.args.quote)

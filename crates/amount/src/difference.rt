@@ -1,14 +1,11 @@
 // Numbers in text: a price difference.
 ghost use Rattle.std.specs.Prelude.{◌≡◌, length};
 ghost use Rattle.decimal.specs.Kinds.{difference};
-ghost use Rattle.scan.specs.Answers.{number_numbers};
 ghost use Rattle.scan.specs.Read.{read_as};
 ghost use Rattle.print.specs.Write.{written_as, Wrote};
 
 use crate::price::Price;
-use decimal::Kind;
-use print::Put;
-use scan::Number;
+use decimal::{FieldFault, Held, Kind};
 
 // Whether below zero, and how many ten-millionths.
 #[derive(Clone, Copy)]
@@ -33,13 +30,13 @@ impl Difference {
         Difference(below, units)
     }
 
-    pub fn read(text: &[u8]) -> Number
-        ensures { number_numbers result ≡ number_numbers (read_as difference text.now) }
+    pub fn read(text: &[u8]) -> Result<Held, FieldFault>
+        ensures { result ≡ read_as difference text.now }
     {
         scan::read(text, Difference::KIND)
     }
 
-    pub fn write(self, field: &mut [u8]) -> Put
+    pub fn write(self, field: &mut [u8]) -> Result<(), FieldFault>
         ensures { Wrote (written_as difference (length field.old) self.0 self.1) field.old result field.new }
     {
         print::write(self.0, self.1, Difference::KIND, field)

@@ -6,10 +6,9 @@ mod price;
 mod quantity;
 mod turnover;
 
-pub use decimal::Kind;
+pub use decimal::{FieldFault, Held, Kind};
 pub use difference::Difference;
 pub use price::Price;
-pub use print::{Put, blank, write};
+pub use print::{blank, write};
 pub use quantity::Quantity;
-pub use scan::Number;
 pub use turnover::Turnover;

@@ -1,13 +1,10 @@
 // Numbers in text: a price.
 ghost use Rattle.std.specs.Prelude.{◌≡◌, false, length};
 ghost use Rattle.decimal.specs.Kinds.{price};
-ghost use Rattle.scan.specs.Answers.{number_numbers};
 ghost use Rattle.scan.specs.Read.{read_as};
 ghost use Rattle.print.specs.Write.{written_as, Wrote};
 
-use decimal::Kind;
-use print::Put;
-use scan::Number;
+use decimal::{FieldFault, Held, Kind};
 
 // A count of ten-millionths.
 #[derive(Clone, Copy)]
@@ -32,13 +29,13 @@ impl Price {
         Price(units)
     }
 
-    pub fn read(text: &[u8]) -> Number
-        ensures { number_numbers result ≡ number_numbers (read_as price text.now) }
+    pub fn read(text: &[u8]) -> Result<Held, FieldFault>
+        ensures { result ≡ read_as price text.now }
     {
         scan::read(text, Price::KIND)
     }
 
-    pub fn write(self, field: &mut [u8]) -> Put
+    pub fn write(self, field: &mut [u8]) -> Result<(), FieldFault>
         ensures { Wrote (written_as price (length field.old) false self.0) field.old result field.new }
     {
         print::write(false, self.0, Price::KIND, field)

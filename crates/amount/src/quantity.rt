@@ -1,13 +1,10 @@
 // Numbers in text: a quantity.
 ghost use Rattle.std.specs.Prelude.{◌≡◌, false, length};
 ghost use Rattle.decimal.specs.Kinds.{quantity};
-ghost use Rattle.scan.specs.Answers.{number_numbers};
 ghost use Rattle.scan.specs.Read.{read_as};
 ghost use Rattle.print.specs.Write.{written_as, Wrote};
 
-use decimal::Kind;
-use print::Put;
-use scan::Number;
+use decimal::{FieldFault, Held, Kind};
 
 // A count of contracts or units.
 #[derive(Clone, Copy)]
@@ -32,13 +29,13 @@ impl Quantity {
         Quantity(units)
     }
 
-    pub fn read(text: &[u8]) -> Number
-        ensures { number_numbers result ≡ number_numbers (read_as quantity text.now) }
+    pub fn read(text: &[u8]) -> Result<Held, FieldFault>
+        ensures { result ≡ read_as quantity text.now }
     {
         scan::read(text, Quantity::KIND)
     }
 
-    pub fn write(self, field: &mut [u8]) -> Put
+    pub fn write(self, field: &mut [u8]) -> Result<(), FieldFault>
         ensures { Wrote (written_as quantity (length field.old) false self.0) field.old result field.new }
     {
         print::write(false, self.0, Quantity::KIND, field)

@@ -1,13 +1,10 @@
 // Numbers in text: turnover.
 ghost use Rattle.std.specs.Prelude.{◌≡◌, false, length};
 ghost use Rattle.decimal.specs.Kinds.{turnover};
-ghost use Rattle.scan.specs.Answers.{number_numbers};
 ghost use Rattle.scan.specs.Read.{read_as};
 ghost use Rattle.print.specs.Write.{written_as, Wrote};
 
-use decimal::Kind;
-use print::Put;
-use scan::Number;
+use decimal::{FieldFault, Held, Kind};
 
 // A count of hundredths.
 #[derive(Clone, Copy)]
@@ -32,13 +29,13 @@ impl Turnover {
         Turnover(units)
     }
 
-    pub fn read(text: &[u8]) -> Number
-        ensures { number_numbers result ≡ number_numbers (read_as turnover text.now) }
+    pub fn read(text: &[u8]) -> Result<Held, FieldFault>
+        ensures { result ≡ read_as turnover text.now }
     {
         scan::read(text, Turnover::KIND)
     }
 
-    pub fn write(self, field: &mut [u8]) -> Put
+    pub fn write(self, field: &mut [u8]) -> Result<(), FieldFault>
         ensures { Wrote (written_as turnover (length field.old) false self.0) field.old result field.new }
     {
         print::write(false, self.0, Turnover::KIND, field)

@@ -3,9 +3,8 @@ use Rattle.std.specs.Prelude.{ℕ, ◌≤◌, ◌<◌, ◌≡◌, refl, Bool, tr
 use Rattle.std.proofs.Common.{ap, sym, ◌∙◌, append-nil, arith, le-leb, drop_of_length-le, take_all}
 use Rattle.std.proofs.lemmas.Bool.{lt-leb}
 use Rattle.laws.specs.Refused.{field_no, range_no}
-use Rattle.print.specs.declared.text.Put.{Put}
-use Rattle.print.specs.Write.{Written, filled, refused, Wrote, put_number}
-use Rattle.layout.specs.declared.cells.Held.{Held}
+use Rattle.print.specs.Write.{Written, filled, refused, Put, Wrote, put_number}
+use Rattle.decimal.specs.declared.Held.{Held}
 use Rattle.forms.specs.declared.rows.Row.{Row}
 use Rattle.compose.specs.declared.write.RowPut.{RowPut}
 use Rattle.compose.specs.declared.write.RowPut.TheVariants.{Fits, Field}

@@ -7,8 +7,8 @@ use Rattle.wire.specs.Number.{number_at}
 use Rattle.amount.specs.ReadBack.{reads_back, none_reads_back}
 use Rattle.print.specs.Write.{blank_text}
 use Rattle.print.proofs.WriteTexts.{fills_right}
-use Rattle.layout.specs.declared.cells.Held.{Held}
-use Rattle.layout.specs.declared.cells.Held.TheVariants.{Nothing, Units, Below}
+use Rattle.decimal.specs.declared.Held.{Held}
+use Rattle.decimal.specs.declared.Held.TheVariants.{Nothing, Units, Below}
 use Rattle.forms.specs.declared.rows.Row.{Row}
 use Rattle.forms.specs.declared.rows.Row.TheVariants.{Key, MarketType, Status, Price, Quantity, Turnover, Difference}
 use Rattle.layout.specs.declared.read.RowRead.TheVariants.{Cell}

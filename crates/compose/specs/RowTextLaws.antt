@@ -7,8 +7,8 @@ use Rattle.laws.specs.Tests.{eqb_is, or_is}
 use Rattle.decimal.specs.Denotes.{space}
 use Rattle.print.specs.Write.{Written, filled, refused, blank_text}
 use Rattle.print.proofs.WriteTexts.{fills_right}
-use Rattle.layout.specs.declared.cells.Held.{Held}
-use Rattle.layout.specs.declared.cells.Held.TheVariants.{Nothing, Units, Below}
+use Rattle.decimal.specs.declared.Held.{Held}
+use Rattle.decimal.specs.declared.Held.TheVariants.{Nothing, Units, Below}
 use Rattle.forms.specs.declared.rows.Markets.{Markets}
 use Rattle.forms.specs.declared.rows.Markets.TheVariants.{Normal, Any}
 use Rattle.forms.specs.declared.rows.Row.{Row}

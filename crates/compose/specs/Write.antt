@@ -3,8 +3,8 @@ use Rattle.std.specs.Prelude.{ℕ, suc, ◌≡◌, Bool, true, false, cond, ◌&
 use Rattle.laws.specs.Refused.{field_no, range_no}
 use Rattle.wire.specs.Bytes.{all_printable}
 use Rattle.print.specs.Write.{blank_text, Written, filled, refused, written_as}
-use Rattle.layout.specs.declared.cells.Held.{Held}
-use Rattle.layout.specs.declared.cells.Held.TheVariants.{Nothing, Units, Below}
+use Rattle.decimal.specs.declared.Held.{Held}
+use Rattle.decimal.specs.declared.Held.TheVariants.{Nothing, Units, Below}
 use Rattle.forms.specs.declared.rows.Row.{Row}
 use Rattle.forms.specs.declared.rows.Row.TheVariants.{Key, MarketType, Status, Price, Quantity, Turnover, Difference}
 use Rattle.layout.specs.declared.read.Verdict.{Verdict}

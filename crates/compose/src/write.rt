@@ -8,7 +8,7 @@ ghost use Rattle.layout.specs.Read.{is_market_type, is_status};
 ghost use Rattle.compose.specs.Write.{text, key_text, letter_text, held_text, row_text, PutsRow, over_front, write_rows, WritesRows, WritesUpdate};
 ghost use Rattle.layout.specs.Cells.{key_used};
 
-use amount::{Difference, Kind, Price, Put, Quantity, Turnover};
+use amount::{Difference, FieldFault, Kind, Price, Quantity, Turnover};
 use forms::{Form, MOST_DATA, MOST_ROWS, Markets, Row};
 use layout::{Held, Verdict};
 
@@ -69,12 +69,13 @@ fn put_none(field: &mut [u8]) -> RowPut
     RowPut::Fits
 }
 
-fn of_put(put: Put) -> RowPut
+fn of_put(put: Result<(), FieldFault>) -> RowPut
     ensures { row_put_number result ≡ put_number put }
 {
     match put {
-        Put::Fits => RowPut::Fits,
-        Put::OutOfRange => RowPut::Range,
+        Ok(()) => RowPut::Fits,
+        Err(FieldFault::Malformed) => RowPut::Field,
+        Err(FieldFault::OutOfRange) => RowPut::Range,
     }
 }
 

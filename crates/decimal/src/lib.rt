@@ -9,3 +9,18 @@ pub struct Kind {
     pub most: u64,
     pub signed: bool,
 }
+
+// A number: "none", which is not zero, so many of its kind's unit, or so many below zero.
+#[derive(Clone, Copy, Debug, PartialEq, Eq)]
+pub enum Held {
+    Nothing,
+    Units(u64),
+    Below(u64),
+}
+
+// What is wrong with a field: 01's refusals 11 and 12. Its text is no number, or the number is none of its kind: too fine or too large.
+#[derive(Clone, Copy, Debug, PartialEq, Eq)]
+pub enum FieldFault {
+    Malformed,
+    OutOfRange,
+}

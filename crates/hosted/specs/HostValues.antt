@@ -12,7 +12,7 @@ use Rattle.forms.specs.declared.forms.Subject.TheVariants.{Of}
 use Rattle.forms.specs.declared.rows.Level.{Level}
 use Rattle.forms.specs.Names.{Name, NamedRow, instrument, symbol, expiry, strike, option_type, second_instrument, second_symbol, second_expiry, second_strike, second_option_type, market_type, time_stamp, buy_price, buy_quantity, sell_price, sell_quantity, last_price, traded_quantity, status, opening_price, high_price, low_price, close_price, average_price, all_buyers, all_sellers, turnover as turnover_name}
 use Rattle.forms.specs.Forms.{named_rows, subject_of}
-use Rattle.layout.specs.declared.cells.Held.{Held}
+use Rattle.decimal.specs.declared.Held.{Held}
 use Rattle.layout.specs.Cells.{session_cell}
 use Rattle.layout.specs.Plain.{value_of}
 use Rattle.quote.specs.Shows.{field_named, Shows, ShowsLetter}

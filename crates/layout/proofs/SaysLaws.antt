@@ -1,23 +1,21 @@
 -- A row's field is read as each answer exactly where what that answer says of the field is so: demand 2 for one row.
-use Rattle.std.specs.Prelude.{ℕ, ◌≡◌, refl, Bool, true, false, cond, List, ◌↔◌}
+use Rattle.std.specs.Prelude.{ℕ, ◌≡◌, refl, Bool, true, false, cond, List, ◌↔◌, Ok, Err}
 use Rattle.std.proofs.Common.{sym, ap, subst, ◌∙◌, ⊎_elim}
 use Rattle.std.proofs.lemmas.Bool.{false≢true}
 use Rattle.laws.specs.Choice.{clash, either}
 use Rattle.laws.specs.Tests.{eqb_is, or_is}
 use Rattle.decimal.specs.declared.Kind.{Kind}
 use Rattle.decimal.specs.Kinds.{price, quantity, turnover, difference}
-use Rattle.scan.specs.declared.Number.{Number}
-use Rattle.scan.specs.declared.Number.TheVariants as number
-use Rattle.scan.specs.declared.Number.TheVariants.{None, Amount, Malformed, OutOfRange}
-use Rattle.scan.specs.Answers.{Says}
+use Rattle.decimal.specs.declared.FieldFault.TheVariants.{Malformed, OutOfRange}
+use Rattle.scan.specs.Answers.{Number, Says}
 use Rattle.scan.specs.Read.{read_as}
 use Rattle.scan.specs.ReadLaws.{reads_exactly}
 use Rattle.forms.specs.declared.rows.Markets.{Markets}
 use Rattle.forms.specs.declared.rows.Markets.TheVariants.{Normal, Any}
 use Rattle.forms.specs.declared.rows.Row.{Row}
 use Rattle.forms.specs.declared.rows.Row.TheVariants.{Key, MarketType, Status, Price, Quantity, Turnover, Difference}
-use Rattle.layout.specs.declared.cells.Held.{Held}
-use Rattle.layout.specs.declared.cells.Held.TheVariants.{Nothing, Units, Below}
+use Rattle.decimal.specs.declared.Held.{Held}
+use Rattle.decimal.specs.declared.Held.TheVariants.{Nothing, Units, Below}
 use Rattle.layout.specs.declared.read.RowRead.{RowRead}
 use Rattle.layout.specs.declared.read.RowRead.TheVariants.{Cell, Field, Range}
 use Rattle.layout.specs.Cells.{cell_of}
@@ -43,21 +41,21 @@ module _ (taken : ℕ → Bool) (Takes : ℕ → Type 0) (is : (letter : ℕ) �
 
 module _ (kind : Kind) (field : List ℕ) where
   number_says : (r : Number) → Says kind field r → NumberSays kind field (of_number r)
-  number_says None h = (Nothing, h, refl)
-  number_says (Amount n) h = (Units n, h, refl)
-  number_says (number.Below n) h = (Below n, h, refl)
-  number_says Malformed h = h
-  number_says OutOfRange h = h
+  number_says (Ok Nothing) h = (Nothing, h, refl)
+  number_says (Ok (Units n)) h = (Units n, h, refl)
+  number_says (Ok (Below n)) h = (Below n, h, refl)
+  number_says (Err Malformed) h = h
+  number_says (Err OutOfRange) h = h
 
   held_said : (held : Held) → HeldSays kind field held → number_cell kind field ≡ Cell (cell_of held)
-  held_said Nothing h = ap of_number ((reads_exactly kind field None).1 h)
-  held_said (Units n) h = ap of_number ((reads_exactly kind field (Amount n)).1 h)
-  held_said (Below n) h = ap of_number ((reads_exactly kind field (number.Below n)).1 h)
+  held_said Nothing h = ap of_number ((reads_exactly kind field (Ok Nothing)).1 h)
+  held_said (Units n) h = ap of_number ((reads_exactly kind field (Ok (Units n))).1 h)
+  held_said (Below n) h = ap of_number ((reads_exactly kind field (Ok (Below n))).1 h)
 
   number_said : (answer : RowRead) → NumberSays kind field answer → number_cell kind field ≡ answer
   number_said (Cell cell) h = held_said h.0 h.1 ∙ ap Cell (sym h.2)
-  number_said Field h = ap of_number ((reads_exactly kind field Malformed).1 h)
-  number_said Range h = ap of_number ((reads_exactly kind field OutOfRange).1 h)
+  number_said Field h = ap of_number ((reads_exactly kind field (Err Malformed)).1 h)
+  number_said Range h = ap of_number ((reads_exactly kind field (Err OutOfRange)).1 h)
 
   number_exactly : (answer : RowRead) → number_cell kind field ≡ answer ↔ NumberSays kind field answer
   number_exactly answer =

@@ -2,8 +2,8 @@
 use Rattle.std.specs.Prelude.{ℕ, ◌+◌, ◌^◌, ◌-◌, ◌<◌, Bool, true, cond, List, ◌++◌, eqb, leb, ltb, length, replicate}
 use Rattle.decimal.specs.Denotes.{below_zero}
 use Rattle.forms.specs.Sizes.{most_rows}
-use Rattle.layout.specs.declared.cells.Held.{Held}
-use Rattle.layout.specs.declared.cells.Held.TheVariants.{Nothing, Units, Below}
+use Rattle.decimal.specs.declared.Held.{Held}
+use Rattle.decimal.specs.declared.Held.TheVariants.{Nothing, Units, Below}
 use Rattle.forms.specs.declared.forms.Session.{Session}
 use Rattle.forms.specs.declared.forms.Session.TheVariants.{Normal, PreOpen}
 use Rattle.forms.specs.declared.rows.Row.{Row}

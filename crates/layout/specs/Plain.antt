@@ -1,8 +1,8 @@
 -- A number as a plain one: the value that a host is told and hands in, and that a writer writes a row from. Any amount has one, in
 -- range or not: the writer judges it at its row, and makes no cell of it.
 use Rattle.std.specs.Prelude.{ℕ, ◌+◌, ◌^◌, ◌-◌, Bool, true, cond, List, [], ◌∷◌, eqb, leb, ltb, get_or, drop}
-use Rattle.layout.specs.declared.cells.Held.{Held}
-use Rattle.layout.specs.declared.cells.Held.TheVariants.{Nothing, Units, Below}
+use Rattle.decimal.specs.declared.Held.{Held}
+use Rattle.decimal.specs.declared.Held.TheVariants.{Nothing, Units, Below}
 use Rattle.forms.specs.declared.rows.Row.{Row}
 use Rattle.forms.specs.declared.rows.Row.TheVariants.{Key, MarketType, Status, Price, Quantity, Turnover, Difference}
 use Rattle.layout.specs.Cells.{sided}

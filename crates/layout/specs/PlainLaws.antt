@@ -3,8 +3,8 @@ use Rattle.std.specs.Prelude.{ℕ, ◌+◌, ◌-◌, ◌≤◌, ◌<◌, ◌≡�
 use Rattle.std.proofs.lemmas.Bool.{false≢true}
 use Rattle.std.proofs.Common.{⊎_elim, arith, lt-ltb, le-ltb, ne_eqb}
 use Rattle.laws.specs.Order.{order, same}
-use Rattle.layout.specs.declared.cells.Held.{Held}
-use Rattle.layout.specs.declared.cells.Held.TheVariants.{Nothing, Units, Below}
+use Rattle.decimal.specs.declared.Held.{Held}
+use Rattle.decimal.specs.declared.Held.TheVariants.{Nothing, Units, Below}
 use Rattle.layout.specs.Cells.{Small, cell_of}
 use Rattle.layout.specs.CellsLaws.{MayHold}
 use Rattle.layout.specs.Plain.{no_value, minus_value, no_room, value_of, held_of}

@@ -1,11 +1,9 @@
 -- Reading the data of an update into cells: 01 "The message", and its order of checks: rows in turn, 11 before 12.
-use Rattle.std.specs.Prelude.{ℕ, suc, ◌≡◌, Bool, cond, ◌||◌, List, [], ◌∷◌, eqb, take, drop}
+use Rattle.std.specs.Prelude.{ℕ, suc, ◌≡◌, Bool, cond, ◌||◌, List, [], ◌∷◌, eqb, take, drop, Ok, Err}
 use Rattle.std.proofs.lemmas.List.Edits.{sets}
 use Rattle.wire.specs.Number.{number_at}
-use Rattle.scan.specs.declared.Number.{Number}
-use Rattle.scan.specs.declared.Number.TheVariants.{None, Amount, Below, Malformed, OutOfRange}
-use Rattle.layout.specs.declared.cells.Held.TheVariants as held
-use Rattle.layout.specs.declared.cells.Held.TheVariants.{Nothing, Units}
+use Rattle.decimal.specs.declared.FieldFault.TheVariants.{Malformed, OutOfRange}
+use Rattle.scan.specs.Answers.{Number}
 use Rattle.forms.specs.declared.rows.Markets.{Markets}
 use Rattle.forms.specs.declared.rows.Markets.TheVariants.{Normal, Any}
 use Rattle.forms.specs.declared.rows.Row.{Row}
@@ -23,19 +21,14 @@ use Rattle.layout.specs.Cells.{Small, cell_of}
 
 -- 01, the table's rows 11 and 12: a number's cell, where the text is one
 abbrev pub of_number : Number → RowRead
-of_number None = Cell (cell_of Nothing)
-of_number (Amount units) = Cell (cell_of (Units units))
-of_number (Below units) = Cell (cell_of (held.Below units))
-of_number Malformed = Field
-of_number OutOfRange = Range
+of_number (Ok held) = Cell (cell_of held)
+of_number (Err Malformed) = Field
+of_number (Err OutOfRange) = Range
 
 -- a word of our own: what was read has a cell
 abbrev pub SmallRead : Number → Type 0
-SmallRead None = Small Nothing
-SmallRead (Amount units) = Small (Units units)
-SmallRead (Below units) = Small (held.Below units)
-SmallRead Malformed = Unit {0}
-SmallRead OutOfRange = Unit {0}
+SmallRead (Ok held) = Small held
+SmallRead (Err fault) = Unit {0}
 
 -- 01 "The message": market type 'N'; M-104: 'N', 'O', 'S' or 'A'
 abbrev pub is_market_type : Markets → ℕ → Bool

@@ -2,6 +2,7 @@ ghost use Rattle.std.specs.Prelude.{◌≡◌};
 ghost use Rattle.layout.specs.Cells.{sided, side_in, held_in, Small, cell_of, session_cell, session_in, byte_in};
 ghost use Rattle.layout.specs.Plain.{value_of, held_of};
 
+use decimal::Held;
 use forms::Session;
 
 // What a cell holds for "none".
@@ -12,14 +13,6 @@ const MINUS: u64 = 0x8000_0000_0000_0000;
 
 // The value of an amount that has none of its own: it is as far out of every kind's range.
 const NO_ROOM: u64 = NONE - 1;
-
-// What a number's cell or value means: "none", which is not zero, so many of the kind's unit, or so many below zero.
-#[derive(Clone, Copy)]
-pub enum Held {
-    Nothing,
-    Units(u64),
-    Below(u64),
-}
 
 // Minus zero is zero.
 pub fn sided(below: bool, units: u64) -> Held

@@ -5,8 +5,7 @@ ghost use Rattle.layout.specs.Answers.{row_numbers};
 ghost use Rattle.layout.specs.Read.{read_row, SmallRead, of_number, is_market_type, is_status, letter_cell, ReadsRows};
 
 use crate::cells;
-use crate::cells::Held;
-use amount::{Difference, Number, Price, Quantity, Turnover};
+use amount::{Difference, FieldFault, Held, Price, Quantity, Turnover};
 use forms::{Form, MOST_ROWS, Markets, Row};
 
 // A row's field as read: its cell, or what is wrong with it.
@@ -26,16 +25,14 @@ pub enum Verdict {
 }
 
 // Only an amount in range has a cell.
-fn of_number(number: Number) -> RowRead
+fn of_number(number: Result<Held, FieldFault>) -> RowRead
     requires { SmallRead number }
     ensures { row_numbers result ≡ row_numbers (of_number number) }
 {
     match number {
-        Number::None => RowRead::Cell(cells::cell_of(Held::Nothing)),
-        Number::Amount(units) => RowRead::Cell(cells::cell_of(Held::Units(units))),
-        Number::Below(units) => RowRead::Cell(cells::cell_of(Held::Below(units))),
-        Number::Malformed => RowRead::Field,
-        Number::OutOfRange => RowRead::Range,
+        Ok(held) => RowRead::Cell(cells::cell_of(held)),
+        Err(FieldFault::Malformed) => RowRead::Field,
+        Err(FieldFault::OutOfRange) => RowRead::Range,
     }
 }
 

@@ -1,6 +1,6 @@
 -- What is written denotes the amount, no text that denotes it is shorter, and the writer refuses exactly where none fits. These
 -- laws rest on the layout of a text, so that an edit that lays it out otherwise leaves specs/ readable.
-use Rattle.std.specs.Prelude.{ℕ, ◌+◌, ◌-◌, ◌*◌, ◌/◌, ◌%◌, ◌^◌, ◌<◌, ◌≤◌, ◌≡◌, refl, Bool, true, false, not, ◌&&◌, List, [], ◌∷◌, ◌++◌, ◌↔◌, ◌⊎◌, eqb, length, replicate}
+use Rattle.std.specs.Prelude.{ℕ, ◌+◌, ◌-◌, ◌*◌, ◌/◌, ◌%◌, ◌^◌, ◌<◌, ◌≤◌, ◌≡◌, refl, Bool, true, false, not, ◌&&◌, List, [], ◌∷◌, ◌++◌, ◌↔◌, ◌⊎◌, eqb, length, replicate, Err}
 use Rattle.std.proofs.Common.{zero-le, sym, ap, ◌∙◌, true≢false, append-nil, inl, inr, le_refl, add-le-add, div-add-mod', arith, length-append}
 use Rattle.std.proofs.Math.Bool.{and_self}
 use Rattle.std.proofs.Math.Arith.{digits_div}
@@ -9,10 +9,9 @@ use Rattle.laws.specs.Choice.{either}
 use Rattle.laws.specs.Order.{order}
 use Rattle.decimal.specs.Denotes.{space, digit_char, value, Digits, pointed, sign, below_zero, Denotes}
 use Rattle.decimal.specs.DenotesLaws.{below_signed}
-use Rattle.print.specs.Write.{last_digits, size, digits, trimmed, text_of, signed_text, Written, filled, refused, has_side, written_as, refusal, put_number, Wrote}
+use Rattle.print.specs.Write.{last_digits, size, digits, trimmed, text_of, signed_text, Written, filled, refused, has_side, written_as, refusal, Put, put_number, Wrote}
 use Rattle.decimal.specs.declared.Kind.{Kind}
-use Rattle.print.specs.declared.text.Put.{Put}
-use Rattle.print.specs.declared.text.Put.TheVariants.{OutOfRange}
+use Rattle.decimal.specs.declared.FieldFault.TheVariants.{OutOfRange}
 use Rattle.print.specs.ValueLaws.{digits_append, digits_zeros, value_zeros, value_lt}
 use Rattle.print.specs.WriteDigitLaws.{length_last, digits_last, value_last, value_digits, last_value, size_pos, size_least, trimmed_zeros, trimmed_shorter, digits_trimmed, value_trimmed}
 use Rattle.print.specs.WriteLaws.{text_length, sideless, over, within, narrow, fitting, spaced_length, Right, Refused, put_number_apart}
@@ -203,13 +202,13 @@ module _
     (before after : List ℕ)
     (answer : Put)
     (p : Wrote (written_as kind (length before) below n) before answer after) where
-  pub refused_exactly : (answer ≡ OutOfRange) ↔ Refused kind (length before) below n
+  pub refused_exactly : (answer ≡ Err OutOfRange) ↔ Refused kind (length before) below n
   refused_exactly = (
     why (written_as kind (length before) below n) (outcome kind (length before) below n) p,
-    λ h. put_number_apart answer OutOfRange (p.answers ∙ ap refusal ((refuses kind (length before) below n).1 h)),
+    λ h. put_number_apart answer (Err OutOfRange) (p.answers ∙ ap refusal ((refuses kind (length before) below n).1 h)),
   )
     where
-      why : (w : Written) → Outcome kind (length before) below n w → Wrote w before answer after → answer ≡ OutOfRange
+      why : (w : Written) → Outcome kind (length before) below n w → Wrote w before answer after → answer ≡ Err OutOfRange
           → Refused kind (length before) below n
       why _ (fills h) q e = absurd (omega (arith, ap put_number e, q.answers))
       why _ (stops h) q e = h

@@ -1,10 +1,10 @@
 -- How a number is written: 01 "Numbers in text", the writer. A text is its characters' codes, a digit is its value, 0 to 9.
-use Rattle.std.specs.Prelude.{ℕ, zero, suc, ◌-◌, ◌/◌, ◌%◌, ◌^◌, ◌≡◌, Bool, cond, not, ◌&&◌, ◌||◌, List, [], ◌∷◌, ◌++◌, map, leb, ltb, length, replicate}
-use Rattle.laws.specs.Refused.{range_no}
+use Rattle.std.specs.Prelude.{ℕ, zero, suc, ◌-◌, ◌/◌, ◌%◌, ◌^◌, ◌≡◌, Bool, cond, not, ◌&&◌, ◌||◌, List, [], ◌∷◌, ◌++◌, map, leb, ltb, length, replicate, Result, Ok, Err}
+use Rattle.laws.specs.Refused.{field_no, range_no}
 use Rattle.decimal.specs.Denotes.{space, digit_char, pointed, sign, below_zero, Denotes}
 use Rattle.decimal.specs.declared.Kind.{Kind}
-use Rattle.print.specs.declared.text.Put.{Put}
-use Rattle.print.specs.declared.text.Put.TheVariants.{Fits, OutOfRange}
+use Rattle.decimal.specs.declared.FieldFault.{FieldFault}
+use Rattle.decimal.specs.declared.FieldFault.TheVariants.{Malformed, OutOfRange}
 
 -- 01 "Numbers in text": the digits of n at its last k places, the highest place first
 abbrev pub last_digits : ℕ → ℕ → List ℕ
@@ -86,10 +86,15 @@ abbrev pub refusal : Written → ℕ
 refusal (filled text) = 0
 refusal refused = range
 
--- 01, the table's row 12: the number of the writer's answer
+-- 01, the table's row 12: the writer's answer: the text fills the field, or what is wrong with the number
+abbrev pub Put : Type 0
+Put = Result (Unit {0}) FieldFault
+
+-- 01, the table's rows 11 and 12: the number of the writer's answer
 abbrev pub put_number : Put → ℕ
-put_number Fits = 0
-put_number OutOfRange = range
+put_number (Ok done) = 0
+put_number (Err Malformed) = field_no
+put_number (Err OutOfRange) = range
 
 -- 01 "What may be asked": the field afterwards: a refusal leaves it as it was
 abbrev pub field_after : Written → List ℕ → List ℕ

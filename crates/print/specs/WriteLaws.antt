@@ -1,14 +1,13 @@
 -- How long a text is, when a field is filled and when it is refused, and what the writer promises then.
-use Rattle.std.specs.Prelude.{ℕ, ◌+◌, ◌/◌, ◌^◌, ◌<◌, ◌≤◌, ◌≡◌, refl, Bool, true, false, List, map, ◌⊎◌, length}
+use Rattle.std.specs.Prelude.{ℕ, ◌+◌, ◌/◌, ◌^◌, ◌<◌, ◌≤◌, ◌≡◌, refl, Bool, true, false, List, map, ◌⊎◌, length, Ok, Err}
 use Rattle.std.proofs.Common.{arith, length-append, le-leb}
 use Rattle.std.proofs.lemmas.List.{length-replicate, length-map}
 use Rattle.std.proofs.lemmas.Bool.{lt-leb}
 use Rattle.laws.specs.Tests.{and_false}
 use Rattle.decimal.specs.Denotes.{digit_char, pointed, below_zero, Denotes, AllSpaces}
-use Rattle.print.specs.Write.{last_digits, size, trimmed, text_of, signed_text, Written, filled, refused, spaced, in_field, has_side, written_as, blank_text, NoText, put_number, Wrote}
+use Rattle.print.specs.Write.{last_digits, size, trimmed, text_of, signed_text, Written, filled, refused, spaced, in_field, has_side, written_as, blank_text, NoText, Put, put_number, Wrote}
 use Rattle.decimal.specs.declared.Kind.{Kind}
-use Rattle.print.specs.declared.text.Put.{Put}
-use Rattle.print.specs.declared.text.Put.TheVariants.{Fits, OutOfRange}
+use Rattle.decimal.specs.declared.FieldFault.TheVariants.{Malformed, OutOfRange}
 use Rattle.print.specs.WriteDigitLaws.{length_last}
 
 -- the digits at the last k places, as characters
@@ -56,18 +55,23 @@ Refused kind width below n = (kind.most < n) ⊎ NoText kind width below n
 
 -- ---- the promise
 
-pub wrote_refused : {w : Written} (before : List ℕ) → w ≡ refused → Wrote w before OutOfRange before
+pub wrote_refused : {w : Written} (before : List ℕ) → w ≡ refused → Wrote w before (Err OutOfRange) before
 wrote_refused before e = rw e (record { answers = refl; leaves = refl })
 
 pub wrote_filled : {w : Written} {text : List ℕ} (before : List ℕ) {after : List ℕ} → w ≡ filled text → after ≡ text →
-    Wrote w before Fits after
+    Wrote w before (Ok tt) after
 wrote_filled before e filling = rw e (record { answers = refl; leaves = filling })
 
 pub put_number_apart : (a b : Put) → put_number a ≡ put_number b → a ≡ b
-put_number_apart Fits Fits e = refl
-put_number_apart Fits OutOfRange e = absurd (omega arith)
-put_number_apart OutOfRange Fits e = absurd (omega arith)
-put_number_apart OutOfRange OutOfRange e = refl
+put_number_apart (Ok a) (Ok b) e = refl
+put_number_apart (Ok a) (Err Malformed) e = absurd (omega arith)
+put_number_apart (Ok a) (Err OutOfRange) e = absurd (omega arith)
+put_number_apart (Err Malformed) (Ok b) e = absurd (omega arith)
+put_number_apart (Err Malformed) (Err Malformed) e = refl
+put_number_apart (Err Malformed) (Err OutOfRange) e = absurd (omega arith)
+put_number_apart (Err OutOfRange) (Ok b) e = absurd (omega arith)
+put_number_apart (Err OutOfRange) (Err Malformed) e = absurd (omega arith)
+put_number_apart (Err OutOfRange) (Err OutOfRange) e = refl
 
 -- ---- none
 

@@ -3,4 +3,4 @@
 
 mod text;
 
-pub use text::{Put, blank, write};
+pub use text::{blank, write};

@@ -4,14 +4,7 @@ ghost use Rattle.decimal.specs.Denotes.{sign};
 ghost use Rattle.print.specs.Write.{written_as, Wrote, in_field, signed_text, blank_text, size};
 ghost use Rattle.print.specs.WriteSteps.{Stripped, digits_in, behind_in, whole_in};
 
-use decimal::Kind;
-
-// What writing a number answers: the text fills the field, or 01's refusal 12 and the field is as it was.
-#[derive(Clone, Copy)]
-pub enum Put {
-    Fits,
-    OutOfRange,
-}
+use decimal::{FieldFault, Kind};
 
 // So many units of a kind with so many places behind the point.
 #[derive(Clone, Copy)]
@@ -124,7 +117,7 @@ fn put_whole(minus: bool, n: u64, count: usize, field: &mut [u8])
 }
 
 // A number behind its sign, with so many digits behind the point, the last of them not zero.
-fn lay(minus: bool, n: u64, behind: usize, field: &mut [u8]) -> Put
+fn lay(minus: bool, n: u64, behind: usize, field: &mut [u8]) -> Result<(), FieldFault>
     requires { 0 < behind → 0 < n % 10 }
     ensures { Wrote (in_field (length field.old) (signed_text minus behind n)) field.old result field.new }
 {
@@ -132,31 +125,32 @@ fn lay(minus: bool, n: u64, behind: usize, field: &mut [u8]) -> Put
     let count = front_size(minus, front);
     let width = field.len();
     if width < count {
-        return Put::OutOfRange;
+        return Err(FieldFault::OutOfRange);
     }
     if behind == 0 {
         put_whole(minus, front, count, field);
-        return Put::Fits;
+        return Ok(());
     }
     if width - count <= behind {
-        return Put::OutOfRange;
+        return Err(FieldFault::OutOfRange);
     }
     let point = width - behind - 1;
     put_whole(minus, front, count, &mut field[..point]);
     put_behind(b'.', n, &mut field[point..]);
-    Put::Fits
+    Ok(())
 }
 
-// So many units of any kind, below zero or not. Minus zero is zero.
-pub fn write(below: bool, units: u64, kind: Kind, field: &mut [u8]) -> Put
+// So many units of any kind, below zero or not. Minus zero is zero. The text fills the field, or 01's refusal 12 and the field is as
+// it was.
+pub fn write(below: bool, units: u64, kind: Kind, field: &mut [u8]) -> Result<(), FieldFault>
     ensures { Wrote (written_as kind (length field.old) below units) field.old result field.new }
 {
     let minus = below & (units != 0);
     if minus & !kind.signed {
-        return Put::OutOfRange;
+        return Err(FieldFault::OutOfRange);
     }
     if kind.most < units {
-        return Put::OutOfRange;
+        return Err(FieldFault::OutOfRange);
     }
     let bare = stripped(units, kind.places);
     lay(minus, bare.units, bare.places, field)

@@ -2,8 +2,8 @@
 use Rattle.std.specs.Prelude.{ℕ, zero, suc, ◌+◌, ◌<◌, ◌≡◌, refl, Bool, true, false, List, [], ◌∷◌, ◌++◌, map, length, get_or, drop}
 use Rattle.std.proofs.Common.{ap, sym, ◌∙◌, arith, get_or-drop, drop-drop}
 use Rattle.std.proofs.Math.Option.{Option, none, some}
-use Rattle.layout.specs.declared.cells.Held.{Held}
-use Rattle.layout.specs.declared.cells.Held.TheVariants.{Nothing}
+use Rattle.decimal.specs.declared.Held.{Held}
+use Rattle.decimal.specs.declared.Held.TheVariants.{Nothing}
 use Rattle.forms.specs.declared.rows.Row.{Row}
 use Rattle.forms.specs.Names.{Name, NamedRow}
 use Rattle.forms.specs.SameName.{same_name}

@@ -18,7 +18,7 @@ use Rattle.forms.specs.NamesLaws.{same_name_lem}
 use Rattle.forms.specs.Forms.{named_rows, rows_of, subject_of}
 use Rattle.forms.specs.Rows.{width_of}
 use Rattle.wire.specs.Number.{number_at}
-use Rattle.layout.specs.declared.cells.Held.{Held}
+use Rattle.decimal.specs.declared.Held.{Held}
 use Rattle.layout.specs.declared.read.RowRead.{RowRead}
 use Rattle.layout.specs.declared.read.RowRead.TheVariants.{Cell, Field, Range}
 use Rattle.layout.specs.declared.read.Verdict.TheVariants.{Good}

@@ -5,8 +5,8 @@ use Rattle.std.proofs.lemmas.Bool.{false≢true}
 use Rattle.laws.specs.Order.{same}
 use Rattle.decimal.specs.declared.Kind.{Kind}
 use Rattle.decimal.specs.DenotesLaws.{below_signed, below_some}
-use Rattle.layout.specs.declared.cells.Held.{Held}
-use Rattle.layout.specs.declared.cells.Held.TheVariants.{Nothing, Units, Below}
+use Rattle.decimal.specs.declared.Held.{Held}
+use Rattle.decimal.specs.declared.Held.TheVariants.{Nothing, Units, Below}
 use Rattle.layout.specs.Cells.{minus, held_in, Small, cell_of}
 use Rattle.layout.specs.CellsLaws.{MayHold, holds_so, stored_held}
 use Rattle.layout.specs.Plain.{no_room, value_of}

@@ -1,5 +1,5 @@
 -- No largest amount reaches the ceiling, so that a capped amount reads on as the amount itself.
-use Rattle.std.specs.Prelude.{◌≡◌, ℕ, suc, ◌+◌, ◌-◌, ◌*◌, ◌^◌, ◌<◌, ◌≤◌, cond, nat_le}
+use Rattle.std.specs.Prelude.{◌≡◌, ℕ, suc, ◌+◌, ◌-◌, ◌*◌, ◌^◌, ◌<◌, ◌≤◌, cond, nat_le, Err}
 use Rattle.std.proofs.Common.{sym, ◌∙◌, ap, ⊎_elim, add-zero, le-mul_of_pos_right, mul_assoc, arith}
 use Rattle.std.proofs.Math.Nat.{min-eq_left, min-eq_right, one-le-pow, pow-succ'}
 use Rattle.std.proofs.lemmas.Bool.{lt-leb}
@@ -7,8 +7,8 @@ use Rattle.laws.specs.Order.{order}
 use Rattle.scan.specs.Parts.{cap}
 use Rattle.scan.specs.Read.{in_range, ranged}
 use Rattle.decimal.specs.declared.Kind.{Kind}
-use Rattle.scan.specs.declared.Number.{Number}
-use Rattle.scan.specs.declared.Number.TheVariants.{OutOfRange}
+use Rattle.decimal.specs.declared.FieldFault.TheVariants.{OutOfRange}
+use Rattle.scan.specs.Answers.{Number}
 
 -- ## The ceiling
 
@@ -53,4 +53,4 @@ ranged_cap kind h n k =
     let p : ℕ = 10 ^ (kind.places - k) in
     let alike : cap (cap n * p) ≡ cap (n * p) = cap_scaled n p (one-le-pow (kind.places - k) 10 (omega arith)) in
     let capped : in_range kind (cap (cap n * p)) ≡ in_range kind (cap (n * p)) = ap (in_range kind) alike in
-    ap (λ (r : Number). cond (nat_le k kind.places) r OutOfRange) (sym (in_range_cap kind (cap n * p) h) ∙ capped ∙ in_range_cap kind (n * p) h)
+    ap (λ (r : Number). cond (nat_le k kind.places) r (Err OutOfRange)) (sym (in_range_cap kind (cap n * p) h) ∙ capped ∙ in_range_cap kind (n * p) h)

@@ -1,11 +1,10 @@
 -- Words of inner contracts only: what a part of the walk passes, what the rest of a text makes of it, and no amount above a ceiling.
-use Rattle.std.specs.Prelude.{◌≡◌, ℕ, ◌+◌, ◌-◌, ◌*◌, ◌^◌, ◌<◌, ◌≤◌, min, Bool, true, false, cond, not, ◌&&◌, ◌⊎◌, List, ◌++◌, map, length, drop, replicate, ◌==◌, nat_lt, slice_index}
+use Rattle.std.specs.Prelude.{◌≡◌, ℕ, ◌+◌, ◌-◌, ◌*◌, ◌^◌, ◌<◌, ◌≤◌, min, Bool, true, false, cond, not, ◌&&◌, ◌⊎◌, List, ◌++◌, map, length, drop, replicate, ◌==◌, nat_lt, slice_index, Err}
 use Rattle.decimal.specs.Denotes.{space, point, digit_char, value, Digits}
 use Rattle.decimal.specs.declared.Kind.{Kind}
-use Rattle.scan.specs.Answers.{number_numbers}
+use Rattle.scan.specs.Answers.{Number}
 use Rattle.scan.specs.Read.{State, Before, Minus, Behind, walk, answer, with_sign}
-use Rattle.scan.specs.declared.Number.{Number}
-use Rattle.scan.specs.declared.Number.TheVariants.{Malformed}
+use Rattle.decimal.specs.declared.FieldFault.TheVariants.{Malformed}
 use Rattle.scan.specs.declared.text.Walked.{Walked}
 
 -- a word of our own: all amounts from the cell of all ones on are one: over every largest amount
@@ -66,15 +65,15 @@ begun minus = cond minus Minus Before
 
 -- a word of our own: nothing but a digit may stand at the place, after a minus or after none
 abbrev pub WantsDigit : Kind → List ℕ → ℕ → Bool → Type 0
-WantsDigit kind text at minus = (at < length text → NoDigit (slice_index text at)) → read_on kind (begun minus) (drop at text) ≡ Malformed
+WantsDigit kind text at minus = (at < length text → NoDigit (slice_index text at)) → read_on kind (begun minus) (drop at text) ≡ Err Malformed
 
 -- a word of our own: what the text is by its rest from the first digit on, but for the sign: whichever was read before
 abbrev pub Unsigned : Kind → List ℕ → ℕ → Number → Type 0
 Unsigned kind text first r =
     (minus : Bool) → WantsDigit kind text first minus
-    → number_numbers (with_sign minus r) ≡ number_numbers (read_on kind (begun minus) (drop first text))
+    → with_sign minus r ≡ read_on kind (begun minus) (drop first text)
 
 -- a word of our own: what the text is by its rest behind the last digit, but for the sign
 abbrev pub UnsignedBehind : Kind → ℕ → ℕ → List ℕ → Number → Type 0
 UnsignedBehind kind amount digits rest r =
-    (minus : Bool) → number_numbers (with_sign minus r) ≡ number_numbers (read_on kind (Behind minus amount digits) rest)
+    (minus : Bool) → with_sign minus r ≡ read_on kind (Behind minus amount digits) rest

@@ -1,5 +1,5 @@
 -- What the parts of the walk pass, one character after another, and what the text is by the places that they come to.
-use Rattle.std.specs.Prelude.{◌≡◌, ℕ, suc, ◌+◌, ◌-◌, ◌*◌, ◌^◌, ◌<◌, ◌≤◌, Bool, true, false, not, ◌&&◌, List, [], ◌∷◌, map, length, drop, replicate, ◌==◌, ◌≢◌, slice_index}
+use Rattle.std.specs.Prelude.{◌≡◌, ℕ, suc, ◌+◌, ◌-◌, ◌*◌, ◌^◌, ◌<◌, ◌≤◌, Bool, true, false, not, ◌&&◌, List, [], ◌∷◌, map, length, drop, replicate, ◌==◌, ◌≢◌, slice_index, Ok, Err}
 use Rattle.std.proofs.Math.Path.{refl}
 use Rattle.std.proofs.Common.{sym, ◌∙◌, ap, ⊎_elim, mul-one, add-zero, zero-add, zero-mul, add-one, arith, drop_of_length-le, drop-cons, lt-ltb, le-ltb, eqb-true}
 use Rattle.std.proofs.lemmas.Bool.{false≢true, not-true}
@@ -57,8 +57,9 @@ use Rattle.scan.specs.WalkLaws.{
   walk_nil,
   whole_behind,
 }
-use Rattle.scan.specs.declared.Number.{Number}
-use Rattle.scan.specs.declared.Number.TheVariants.{None, Amount, Below, Malformed, OutOfRange}
+use Rattle.decimal.specs.declared.FieldFault.TheVariants.{Malformed}
+use Rattle.decimal.specs.declared.Held.TheVariants.{Nothing, Units, Below}
+use Rattle.scan.specs.Answers.{Number}
 use Rattle.scan.specs.declared.text.Walked.{Walked}
 
 -- ## Amounts up to the ceiling
@@ -134,11 +135,10 @@ point_there places text at e = ⊎_elim
 
 -- no sign leaves a number as it is
 pub no_sign : (r : Number) → with_sign false r ≡ r
-no_sign None = refl
-no_sign (Amount n) = refl
-no_sign (Below n) = refl
-no_sign Malformed = refl
-no_sign OutOfRange = refl
+no_sign (Ok Nothing) = refl
+no_sign (Ok (Units n)) = refl
+no_sign (Ok (Below n)) = refl
+no_sign (Err fault) = refl
 
 -- behind the last digit an amount is told by what it reads as
 behind_alike : (kind : Kind) (minus : Bool) (n m k : ℕ) → ranged kind n k ≡ ranged kind m k
@@ -160,7 +160,7 @@ module _ (kind : Kind) (text : List ℕ) where
   ended : (s : State) (at : ℕ) → length text ≤ at → on_from s at ≡ answer kind s
   ended s at h = rw (drop_of_length-le text h, walk_nil)
 
-  malformed : (s : State) (at : ℕ) → at < length text → step kind s (slice_index text at) ≡ Bad → on_from s at ≡ Malformed
+  malformed : (s : State) (at : ℕ) → at < length text → step kind s (slice_index text at) ≡ Bad → on_from s at ≡ Err Malformed
   malformed s at l e = next s at l ∙ rw (e, walk_bad)
 
   alike : (s s' : State) (at : ℕ) → answer kind s ≡ answer kind s'
@@ -171,8 +171,8 @@ module _ (kind : Kind) (text : List ℕ) where
       (order (length text) at)
 
   -- where neither the end nor another character than a digit is expected
-  wants_digit : (s : State) → answer kind s ≡ Malformed → ((c : ℕ) → NoDigit c → step kind s c ≡ Bad)
-      → (at : ℕ) → (at < length text → NoDigit (slice_index text at)) → on_from s at ≡ Malformed
+  wants_digit : (s : State) → answer kind s ≡ Err Malformed → ((c : ℕ) → NoDigit c → step kind s c ≡ Bad)
+      → (at : ℕ) → (at < length text → NoDigit (slice_index text at)) → on_from s at ≡ Err Malformed
   wants_digit s end bad at other = ⊎_elim
       (λ (l : length text ≤ at). ended s at l ∙ end)
       (λ (l : at < length text). malformed s at l (bad (slice_index text at) (other l)))
@@ -186,7 +186,7 @@ module _ (kind : Kind) (text : List ℕ) where
   behind_ended minus n k from at h l = past_spaces (Behind minus n k) refl from at h ∙ ended (Behind minus n k) at l
 
   pub behind_malformed : (minus : Bool) (n k from at : ℕ) → PassedSpaces text from at → at < length text
-      → on_from (Behind minus n k) from ≡ Malformed
+      → on_from (Behind minus n k) from ≡ Err Malformed
   behind_malformed minus n k from at h l =
       past_spaces (Behind minus n k) refl from at h
       ∙ malformed (Behind minus n k) at l (behind_bad kind minus n k (slice_index text at) (h.1.stops l))
@@ -198,7 +198,7 @@ module _ (kind : Kind) (text : List ℕ) where
     unfolding read_as
     reads_first = past_spaces Before refl 0 first spaces
 
-    pub reads_none : length text ≤ first → read_as kind text ≡ None
+    pub reads_none : length text ≤ first → read_as kind text ≡ Ok Nothing
     reads_none l = reads_first ∙ ended Before first l
 
     pub reads_minus : first < length text → kind.signed && (slice_index text first == minus_char) ≡ true
@@ -217,7 +217,7 @@ module _ (kind : Kind) (text : List ℕ) where
   -- ## The rest of it, by the places that its parts come to
 
   module _ (minus : Bool) (first : ℕ) (whole : Walked) (w : PassedDigits text first 0 whole) where
-    pub reads_no_digit : WantsDigit kind text first minus → whole.at ≡ first → on_from (begun minus) first ≡ Malformed
+    pub reads_no_digit : WantsDigit kind text first minus → whole.at ≡ first → on_from (begun minus) first ≡ Err Malformed
     reads_no_digit wants e = wants (rw e at w.passed.stops)
 
     module _ (small : kind.most + 1 < 2 ^ 64) (some : whole.at ≡ first → ⊥) where
@@ -259,7 +259,7 @@ module _ (kind : Kind) (text : List ℕ) where
             let told = point_there kind.places text whole.at there in
             at_whole ∙ next (Whole minus n) whole.at told.0 ∙ rw (told.2, step_point, told.1)
 
-        pub reads_no_fraction : fraction.at ≡ from → on_from (begun minus) first ≡ Malformed
+        pub reads_no_fraction : fraction.at ≡ from → on_from (begun minus) first ≡ Err Malformed
         reads_no_fraction e =
             at_point ∙ wants_digit (Pointed minus n) refl (pointed_bad kind minus n) from (rw e at f.passed.stops)
 

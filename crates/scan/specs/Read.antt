@@ -1,9 +1,11 @@
 -- How a number in text is read, a character at a time: 01 "Numbers in text".
-use Rattle.std.specs.Prelude.{ℕ, ◌+◌, ◌-◌, ◌*◌, ◌^◌, Bool, true, false, cond, not, List, [], ◌∷◌, ◌==◌, nat_le}
+use Rattle.std.specs.Prelude.{ℕ, ◌+◌, ◌-◌, ◌*◌, ◌^◌, Bool, true, false, cond, not, List, [], ◌∷◌, ◌==◌, nat_le, Ok, Err}
 use Rattle.decimal.specs.Denotes.{space, point, minus_char, digit_char, below_zero}
 use Rattle.decimal.specs.declared.Kind.{Kind}
-use Rattle.scan.specs.declared.Number.{Number}
-use Rattle.scan.specs.declared.Number.TheVariants.{None, Amount, Below, Malformed, OutOfRange}
+use Rattle.decimal.specs.declared.FieldFault.TheVariants.{Malformed, OutOfRange}
+use Rattle.decimal.specs.declared.Held.{Held}
+use Rattle.decimal.specs.declared.Held.TheVariants.{Nothing, Units, Below}
+use Rattle.scan.specs.Answers.{Number}
 
 -- 01 "Numbers in text": what was read so far. An amount counts the place of the last digit read; before it stands whether a minus
 -- did (M-100), behind it how many digits follow the point
@@ -81,33 +83,36 @@ walk kind s (c ∷ text) = walk kind (step kind s c) text
 
 -- 01, the table's row 12: an amount of the kind's unit, or over the largest
 abbrev pub in_range : Kind → ℕ → Number
-in_range kind n = cond (nat_le n kind.most) (Amount n) OutOfRange
+in_range kind n = cond (nat_le n kind.most) (Ok (Units n)) (Err OutOfRange)
 
 -- 01, the table's row 12: n of the unit of the k-th place behind the point: so many of the kind's unit, or too fine
 abbrev pub ranged : Kind → ℕ → ℕ → Number
-ranged kind n k = cond (nat_le k kind.places) (in_range kind (n * 10 ^ (kind.places - k))) OutOfRange
+ranged kind n k = cond (nat_le k kind.places) (in_range kind (n * 10 ^ (kind.places - k))) (Err OutOfRange)
 
 -- M-100: so many units, below zero or not
-abbrev pub sided : Bool → ℕ → Number
-sided below n = cond below (Below n) (Amount n)
+abbrev pub sided : Bool → ℕ → Held
+sided below n = cond below (Below n) (Units n)
 
 -- M-100: what a number is behind a minus, or behind none: an amount is below zero or not, by its sign
+abbrev pub behind_sign : Bool → Held → Held
+behind_sign minus Nothing = Nothing
+behind_sign minus (Units n) = sided (below_zero minus n) n
+behind_sign minus (Below n) = Below n
+
+-- M-100: what a text is behind a minus, or behind none
 abbrev pub with_sign : Bool → Number → Number
-with_sign minus None = None
-with_sign minus (Amount n) = sided (below_zero minus n) n
-with_sign minus (Below n) = Below n
-with_sign minus Malformed = Malformed
-with_sign minus OutOfRange = OutOfRange
+with_sign minus (Ok held) = Ok (behind_sign minus held)
+with_sign minus (Err fault) = Err fault
 
 -- 01 "Numbers in text": what the text is, by what was read when it ends
 abbrev pub answer : Kind → State → Number
-answer kind Before = None
-answer kind Minus = Malformed
+answer kind Before = Ok Nothing
+answer kind Minus = Err Malformed
 answer kind (Whole minus n) = with_sign minus (ranged kind n 0)
-answer kind (Pointed minus n) = Malformed
+answer kind (Pointed minus n) = Err Malformed
 answer kind (Fraction minus n k) = with_sign minus (ranged kind n k)
 answer kind (Behind minus n k) = with_sign minus (ranged kind n k)
-answer kind Bad = Malformed
+answer kind Bad = Err Malformed
 
 -- 01 "Numbers in text": what a text is as a number of that kind
 unfoldable pub read_as : Kind → List ℕ → Number

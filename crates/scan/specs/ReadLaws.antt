@@ -1,5 +1,5 @@
 -- What reading answers is what the text denotes, in both directions: demand 2 of 01 for numbers in text.
-use Rattle.std.specs.Prelude.{◌≡◌, ℕ, ◌<◌, ◌≤◌, Bool, true, false, ◌⊎◌, ◌↔◌, List, length, replicate, ◌≢◌}
+use Rattle.std.specs.Prelude.{◌≡◌, ℕ, ◌<◌, ◌≤◌, Bool, true, false, ◌⊎◌, ◌↔◌, List, length, replicate, ◌≢◌, Ok, Err}
 use Rattle.std.proofs.Math.Path.{refl}
 use Rattle.std.proofs.Common.{sym, ◌∙◌, ap, subst, true≢false, inl, inr, ⊎_elim, arith, le-leb}
 use Rattle.std.proofs.lemmas.List.{length-replicate}
@@ -8,18 +8,18 @@ use Rattle.laws.specs.Choice.{cond_same, clash}
 use Rattle.laws.specs.Order.{order}
 use Rattle.decimal.specs.Denotes.{space, below_zero, Shape, units, FineEnough, Denotes, AllSpaces}
 use Rattle.decimal.specs.DenotesLaws.{below_signed, below_some}
-use Rattle.scan.specs.Answers.{Beyond, Says}
+use Rattle.scan.specs.Answers.{Number, Beyond, Says}
 use Rattle.scan.specs.Read.{State, Before, Minus, Whole, Pointed, Fraction, Behind, Bad, read_as, walk, sided, answer}
 use Rattle.scan.specs.WalkLaws.{shape_reads, spaces_read}
 use Rattle.scan.specs.EndsLaws.{Spaces, Ends, Well, ends}
 use Rattle.decimal.specs.declared.Kind.{Kind}
-use Rattle.scan.specs.declared.Number.{Number}
-use Rattle.scan.specs.declared.Number.TheVariants.{None, Amount, Below, Malformed, OutOfRange}
+use Rattle.decimal.specs.declared.FieldFault.TheVariants.{Malformed, OutOfRange}
+use Rattle.decimal.specs.declared.Held.TheVariants.{Nothing, Units, Below}
 
 all_spaces : {t : List ℕ} → Spaces t → AllSpaces t
 all_spaces h = h.1 ∙ ap (λ (k : ℕ). replicate k space) (sym (ap length h.1 ∙ length-replicate h.0 space))
 
-sided_good : (below : Bool) (n : ℕ) → sided below n ≢ Malformed
+sided_good : (below : Bool) (n : ℕ) → Ok (sided below n) ≢ Err Malformed
 sided_good true n e = clash (cc)
 sided_good false n e = clash (cc)
 
@@ -27,10 +27,10 @@ module _ (kind : Kind) (t : List ℕ) where
   -- ## A text of the shape
 
   shape_amount : (s : Shape kind t) → FineEnough s → units s ≤ kind.most
-      → read_as kind t ≡ sided (below_zero s.minus (units s)) (units s)
+      → read_as kind t ≡ Ok (sided (below_zero s.minus (units s)) (units s))
   shape_amount s fine fits = shape_reads kind t s ∙ simp (le-leb (length s.fraction) kind.places fine, le-leb (units s) kind.most fits)
 
-  shape_beyond : (s : Shape kind t) → Beyond kind s → read_as kind t ≡ OutOfRange
+  shape_beyond : (s : Shape kind t) → Beyond kind s → read_as kind t ≡ Err OutOfRange
   shape_beyond s (inl long) = shape_reads kind t s ∙ simp (lt-leb (length s.fraction) kind.places (omega arith))
   shape_beyond s (inr over) = shape_reads kind t s ∙ simp (lt-leb (units s) kind.most over, cond_same)
 
@@ -40,10 +40,10 @@ module _ (kind : Kind) (t : List ℕ) where
       (λ (long : kind.places < length s.fraction). inr (inl (λ fine. omega arith)))
       (order (length s.fraction) kind.places)
 
-  pub denoted : (below : Bool) (n : ℕ) → Denotes kind t below n → n ≤ kind.most → read_as kind t ≡ sided below n
+  pub denoted : (below : Bool) (n : ℕ) → Denotes kind t below n → n ≤ kind.most → read_as kind t ≡ Ok (sided below n)
   denoted below n d fits = shape_amount d.shape d.fine (rw (← d.amount) fits) ∙ rw (← d.amount, ← d.side)
 
-  side_said : (below : Bool) (n : ℕ) → Denotes kind t below n → n ≤ kind.most → Says kind t (sided below n)
+  side_said : (below : Bool) (n : ℕ) → Denotes kind t below n → n ≤ kind.most → Says kind t (Ok (sided below n))
   side_said true n d fits = (d, fits)
   side_said false n d fits = (d, fits)
 
@@ -53,7 +53,7 @@ module _ (kind : Kind) (t : List ℕ) where
   data Sorted : Type 0 where
     spaces : AllSpaces t → Sorted
     shaped : Shape kind t → Sorted
-    neither : read_as kind t ≡ Malformed → Sorted
+    neither : read_as kind t ≡ Err Malformed → Sorted
 
   ended : Ends kind Before t → Sorted
   ended (inl h) = spaces (all_spaces h)
@@ -75,7 +75,7 @@ module _ (kind : Kind) (t : List ℕ) where
       go (Behind minus n k) e = well (Behind minus n k) e tt
       go Bad e = neither (ap (answer kind) e)
 
-  never_malformed : Shape kind t → read_as kind t ≢ Malformed
+  never_malformed : Shape kind t → read_as kind t ≢ Err Malformed
   never_malformed s e =
       ⊎_elim
       (λ h. sided_good (below_zero s.minus (units s)) (units s) (sym (shape_amount s h.0 h.1) ∙ e))
@@ -93,21 +93,21 @@ module _ (kind : Kind) (t : List ℕ) where
   says (neither e) = rw e (λ h. clash (cc (spaces_read kind t h)), λ s. never_malformed s e)
 
   said : Sorted → (r : Number) → Says kind t r → read_as kind t ≡ r
-  said k None h = spaces_read kind t h
-  said k (Amount n) h = denoted false n h.0 h.1
-  said k (Below n) h = denoted true n h.0 h.1
-  said (spaces sp) Malformed h = absurd (h.0 sp)
-  said (shaped s) Malformed h = absurd (h.1 s)
-  said (neither e) Malformed h = e
-  said k OutOfRange h = shape_beyond h.0 h.1
+  said k (Ok Nothing) h = spaces_read kind t h
+  said k (Ok (Units n)) h = denoted false n h.0 h.1
+  said k (Ok (Below n)) h = denoted true n h.0 h.1
+  said (spaces sp) (Err Malformed) h = absurd (h.0 sp)
+  said (shaped s) (Err Malformed) h = absurd (h.1 s)
+  said (neither e) (Err Malformed) h = e
+  said k (Err OutOfRange) h = shape_beyond h.0 h.1
 
   -- each answer is given exactly where what it says of the text is so
   pub reads_exactly : (r : Number) → (read_as kind t ≡ r) ↔ Says kind t r
   reads_exactly r = (λ e. subst (Says kind t) e (says sorted), said sorted r)
 
   -- what is below zero is not zero, and a kind with no sign has none of it
-  pub below_not_zero : (n : ℕ) → read_as kind t ≡ Below n → 0 < n
-  below_not_zero n e = below_some ((reads_exactly (Below n)).0 e).0
+  pub below_not_zero : (n : ℕ) → read_as kind t ≡ Ok (Below n) → 0 < n
+  below_not_zero n e = below_some ((reads_exactly (Ok (Below n))).0 e).0
 
-  pub never_below : kind.signed ≡ false → (n : ℕ) → read_as kind t ≢ Below n
-  never_below plain n e = true≢false (sym (below_signed ((reads_exactly (Below n)).0 e).0) ∙ plain)
+  pub never_below : kind.signed ≡ false → (n : ℕ) → read_as kind t ≢ Ok (Below n)
+  never_below plain n e = true≢false (sym (below_signed ((reads_exactly (Ok (Below n))).0 e).0) ∙ plain)

@@ -1,5 +1,5 @@
 -- What characters do one after another, and what a text of the shape reads as.
-use Rattle.std.specs.Prelude.{◌≡◌, ℕ, zero, suc, ◌+◌, ◌-◌, ◌*◌, ◌^◌, ◌<◌, ◌≤◌, Bool, true, false, cond, not, ◌&&◌, List, [], ◌∷◌, ◌++◌, map, length, replicate, ◌==◌, ◌≢◌, nat_le}
+use Rattle.std.specs.Prelude.{◌≡◌, ℕ, zero, suc, ◌+◌, ◌-◌, ◌*◌, ◌^◌, ◌<◌, ◌≤◌, Bool, true, false, cond, not, ◌&&◌, List, [], ◌∷◌, ◌++◌, map, length, replicate, ◌==◌, ◌≢◌, nat_le, Ok, Err}
 use Rattle.std.proofs.Math.Path.{refl, ap}
 use Rattle.std.proofs.Common.{◌∙◌, true≢false, inl, inr, ⊎_elim, mul-one, add-zero, one-add, arith}
 use Rattle.std.proofs.Math.Nat.{add-sub_cancel_left}
@@ -32,8 +32,9 @@ use Rattle.scan.specs.Read.{
   answer,
 }
 use Rattle.decimal.specs.declared.Kind.{Kind}
-use Rattle.scan.specs.declared.Number.{Number}
-use Rattle.scan.specs.declared.Number.TheVariants.{None, OutOfRange}
+use Rattle.decimal.specs.declared.FieldFault.TheVariants.{OutOfRange}
+use Rattle.decimal.specs.declared.Held.TheVariants.{Nothing}
+use Rattle.scan.specs.Answers.{Number}
 
 no_digit : (c : ℕ) → NoDigit c → is_digit c ≡ false
 no_digit c (inl low) = simp (lt-leb (digit_char 0) c low)
@@ -177,7 +178,7 @@ module _ (kind : Kind) where
 module _ (kind : Kind) where
   -- too fine, or so many units
   abbrev pub sized : {t : List ℕ} → Shape kind t → Number
-  sized s = cond (nat_le (length s.fraction) kind.places) (in_range kind (units s)) OutOfRange
+  sized s = cond (nat_le (length s.fraction) kind.places) (in_range kind (units s)) (Err OutOfRange)
 
   answer_space : (s : State) → answer kind (on_space s) ≡ answer kind s
   answer_space Before = refl
@@ -208,7 +209,7 @@ module _ (kind : Kind) where
 
   ranged_sized : (n : ℕ) (ds : List ℕ)
       → ranged kind (followed n ds) (length ds)
-      ≡ cond (nat_le (length ds) kind.places) (in_range kind (n * 10 ^ kind.places + value ds * 10 ^ (kind.places - length ds))) OutOfRange
+      ≡ cond (nat_le (length ds) kind.places) (in_range kind (n * 10 ^ kind.places + value ds * 10 ^ (kind.places - length ds))) (Err OutOfRange)
   ranged_sized n ds = ⊎_elim
       (λ (h : length ds ≤ kind.places). rw (followed_scaled n kind.places ds h))
       (λ (h : kind.places < length ds). rw (lt-leb (length ds) kind.places h))
@@ -227,6 +228,6 @@ module _ (kind : Kind) where
       ∙ fraction_reads s.minus (value s.whole) s.behind s.fraction s.fraction_digits s.may_point
       ∙ ap (with_sign s.minus) (ranged_sized (value s.whole) s.fraction)
 
-  pub spaces_read : (t : List ℕ) → AllSpaces t → read_as kind t ≡ None
+  pub spaces_read : (t : List ℕ) → AllSpaces t → read_as kind t ≡ Ok Nothing
   unfolding read_as
   spaces_read t h = ap (read_as kind) h ∙ spaces_behind Before (length t)

@@ -2,12 +2,11 @@
 // spaces, the minus, the digits, the point and its digits, the spaces, to the end. Each part stays while it may and hands the place
 // on to the next; what the next does not expect is malformed.
 ghost use Rattle.std.specs.Prelude.{◌≡◌, ◌+◌, ◌-◌, ◌^◌, ◌<◌, drop};
-ghost use Rattle.scan.specs.Answers.{number_numbers};
 ghost use Rattle.scan.specs.Read.{read_as};
 ghost use Rattle.scan.specs.Parts.{point_at, PassedSpaces, PassedDigits, Unsigned, UnsignedBehind};
 
-use crate::{Number, units};
-use decimal::Kind;
+use crate::units;
+use decimal::{FieldFault, Held, Kind};
 
 const SPACE: u8 = b' ';
 
@@ -22,25 +21,25 @@ pub struct Walked {
     pub amount: u64,
 }
 
-// Any width, any kind whose largest amount a cell can hold.
-pub fn read(text: &[u8], kind: Kind) -> Number
+// What a text is as a number of a kind: any width, any kind whose largest amount a cell can hold.
+pub fn read(text: &[u8], kind: Kind) -> Result<Held, FieldFault>
     requires { kind.most + 1 < 2 ^ 64 }
-    ensures { number_numbers result ≡ number_numbers (read_as kind text.now) }
+    ensures { result ≡ read_as kind text.now }
 {
     // Spaces; all spaces is "none".
     let first = spaces(text, 0);
     if text.len() <= first {
-        return Number::None;
+        return Ok(Held::Nothing);
     }
     // At most one minus, where the kind has a sign.
     if kind.signed & (text[first] == MINUS) {
-        return units::below_zero(unsigned(text, first + 1, kind));
+        return unsigned(text, first + 1, kind).map(units::below_zero);
     }
     unsigned(text, first, kind)
 }
 
 // Behind the sign, or where there is none: the number without it.
-fn unsigned(text: &[u8], first: usize, kind: Kind) -> Number
+fn unsigned(text: &[u8], first: usize, kind: Kind) -> Result<Held, FieldFault>
     requires { kind.most + 1 < 2 ^ 64 }
     ensures { Unsigned kind text.now first result }
 {
@@ -48,7 +47,7 @@ fn unsigned(text: &[u8], first: usize, kind: Kind) -> Number
     let whole = digits(text, first, 0);
     let point = whole.at;
     if point == first {
-        return Number::Malformed;
+        return Err(FieldFault::Malformed);
     }
     // Optionally a point, and then one or more digits.
     if !point_at(text, point, kind.places) {
@@ -58,7 +57,7 @@ fn unsigned(text: &[u8], first: usize, kind: Kind) -> Number
     let fraction = digits(text, tenths, whole.amount);
     let end = fraction.at;
     if end == tenths {
-        return Number::Malformed;
+        return Err(FieldFault::Malformed);
     }
     behind(text, end, fraction.amount, end - tenths, kind)
 }
@@ -129,13 +128,19 @@ fn point_at(text: &[u8], at: usize, places: usize) -> bool
 }
 
 // Behind the last digit: spaces up to the end.
-fn behind(text: &[u8], from: usize, amount: u64, digits: usize, kind: Kind) -> Number
+fn behind(
+    text: &[u8],
+    from: usize,
+    amount: u64,
+    digits: usize,
+    kind: Kind,
+) -> Result<Held, FieldFault>
     requires { kind.most + 1 < 2 ^ 64 }
     ensures { UnsignedBehind kind amount digits (drop from text.now) result }
 {
     let end = spaces(text, from);
     if end < text.len() {
-        return Number::Malformed;
+        return Err(FieldFault::Malformed);
     }
     units::ranged(amount, digits, kind)
 }

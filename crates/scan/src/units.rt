@@ -1,11 +1,9 @@
 // What the digits of a number count, in the kind's unit.
 ghost use Rattle.std.specs.Prelude.{◌≡◌, ◌+◌, ◌*◌, ◌^◌, ◌<◌, true};
-ghost use Rattle.scan.specs.Answers.{number_numbers};
-ghost use Rattle.scan.specs.Read.{ranged, with_sign};
+ghost use Rattle.scan.specs.Read.{ranged, behind_sign};
 ghost use Rattle.scan.specs.Parts.{cap, CountsAs, TellsOver};
 
-use crate::Number;
-use decimal::Kind;
+use decimal::{FieldFault, Held, Kind};
 
 // All ones, which is no amount's cell: what would be larger counts as this, so that no width overflows.
 pub const CEILING: u64 = 18_446_744_073_709_551_615;
@@ -50,35 +48,28 @@ fn filled(amount: u64, noughts: usize) -> u64
 }
 
 // An amount that counts the place of the last of so many digits behind the point, in the kind's unit.
-pub fn ranged(amount: u64, digits: usize, kind: Kind) -> Number
+pub fn ranged(amount: u64, digits: usize, kind: Kind) -> Result<Held, FieldFault>
     requires { kind.most + 1 < 2 ^ 64 }
-    ensures { number_numbers result ≡ number_numbers (ranged kind amount digits) }
+    ensures { result ≡ ranged kind amount digits }
 {
     if digits > kind.places {
-        return Number::OutOfRange;
+        return Err(FieldFault::OutOfRange);
     }
     let units = filled(amount, kind.places - digits);
     if units <= kind.most {
-        Number::Amount(units)
+        Ok(Held::Units(units))
     } else {
-        Number::OutOfRange
+        Err(FieldFault::OutOfRange)
     }
 }
 
 // What a number is behind a minus. Minus zero is zero.
-pub fn below_zero(number: Number) -> Number
-    ensures { number_numbers result ≡ number_numbers (with_sign true number) }
+pub fn below_zero(number: Held) -> Held
+    ensures { result ≡ behind_sign true number }
 {
     match number {
-        Number::None => Number::None,
-        Number::Amount(units) => {
-            if units != 0 {
-                return Number::Below(units);
-            }
-            Number::Amount(0)
-        }
-        Number::Below(units) => Number::Below(units),
-        Number::Malformed => Number::Malformed,
-        Number::OutOfRange => Number::OutOfRange,
+        Held::Nothing => Held::Nothing,
+        Held::Units(0) => Held::Units(0),
+        Held::Units(units) | Held::Below(units) => Held::Below(units),
     }
 }

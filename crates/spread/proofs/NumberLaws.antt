@@ -2,8 +2,8 @@
 use Rattle.std.specs.Prelude.{◌≡◌, refl, Bool, true, false, cond, Option, Some, None}
 use Rattle.std.proofs.Common.{arith, ne_eqb}
 use Rattle.decimal.specs.Denotes.{below_zero}
-use Rattle.layout.specs.declared.cells.Held.{Held}
-use Rattle.layout.specs.declared.cells.Held.TheVariants.{Nothing, Units, Below}
+use Rattle.decimal.specs.declared.Held.{Held}
+use Rattle.decimal.specs.declared.Held.TheVariants.{Nothing, Units, Below}
 use Rattle.layout.specs.CellsLaws.{MayHold, sided_so}
 use Rattle.quote.specs.NumberLaws.{IsNumber}
 use Rattle.amount.specs.declared.difference.Difference.{Difference}

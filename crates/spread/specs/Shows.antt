@@ -3,8 +3,8 @@
 use Rattle.std.specs.Prelude.{ℕ, ◌<◌, List, get_or, Option, Some, None}
 use Rattle.std.proofs.Math.Option.{Option as Maybe}
 use Rattle.decimal.specs.Kinds.{quantity, difference}
-use Rattle.layout.specs.declared.cells.Held.{Held}
-use Rattle.layout.specs.declared.cells.Held.TheVariants.{Nothing}
+use Rattle.decimal.specs.declared.Held.{Held}
+use Rattle.decimal.specs.declared.Held.TheVariants.{Nothing}
 use Rattle.layout.specs.Cells.{sided}
 use Rattle.forms.specs.Names.{Name, buy_price, buy_quantity, sell_price, sell_quantity, last_price, traded_quantity, opening_price, high_price, low_price, all_buyers, all_sellers}
 use Rattle.quote.specs.Shows.{held_quantity, most_orders, Shows}

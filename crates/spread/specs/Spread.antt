@@ -4,8 +4,8 @@ use Rattle.decimal.specs.Denotes.{below_zero}
 use Rattle.amount.specs.declared.difference.Difference.{Difference}
 use Rattle.spread.specs.declared.spread.SpreadOrder.{SpreadOrder}
 use Rattle.spread.specs.declared.spread.SpreadQuote.{SpreadQuote}
-use Rattle.layout.specs.declared.cells.Held.{Held}
-use Rattle.layout.specs.declared.cells.Held.TheVariants.{Nothing, Units, Below}
+use Rattle.decimal.specs.declared.Held.{Held}
+use Rattle.decimal.specs.declared.Held.TheVariants.{Nothing, Units, Below}
 use Rattle.forms.specs.declared.forms.Form.{Form}
 use Rattle.forms.specs.Names.{Name, NamedRow, instrument, symbol, expiry, strike, option_type, second_instrument, second_symbol, second_expiry, second_strike, second_option_type, market_type, time_stamp, buy_price, buy_quantity, sell_price, sell_quantity, last_price, traded_quantity, status, opening_price, high_price, low_price, close_price, average_price, all_buyers, all_sellers, turnover as turnover_name}
 use Rattle.forms.specs.Forms.{named_rows}

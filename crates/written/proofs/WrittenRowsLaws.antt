@@ -12,8 +12,8 @@ use Rattle.decimal.specs.Kinds.{price, quantity, turnover, difference}
 use Rattle.print.specs.Write.{written_as, Written, filled, refused}
 use Rattle.print.proofs.WriteTexts.{refuses}
 use Rattle.print.specs.WriteLaws.{Refused, sideless}
-use Rattle.layout.specs.declared.cells.Held.{Held}
-use Rattle.layout.specs.declared.cells.Held.TheVariants.{Nothing, Units, Below}
+use Rattle.decimal.specs.declared.Held.{Held}
+use Rattle.decimal.specs.declared.Held.TheVariants.{Nothing, Units, Below}
 use Rattle.quote.specs.declared.quote.Quote.{Quote}
 use Rattle.amount.specs.declared.price.Price.{Price}
 use Rattle.amount.specs.declared.quantity.Quantity.{Quantity}

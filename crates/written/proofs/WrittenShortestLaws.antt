@@ -14,7 +14,7 @@ use Rattle.forms.specs.declared.forms.Form.{Form}
 use Rattle.forms.specs.declared.forms.Chosen.TheVariants as chosen
 use Rattle.forms.specs.declared.rows.Row.{Row}
 use Rattle.forms.specs.declared.rows.Row.TheVariants.{Key, MarketType, Status, Price, Quantity, Turnover, Difference}
-use Rattle.layout.specs.declared.cells.Held.{Held}
+use Rattle.decimal.specs.declared.Held.{Held}
 use Rattle.layout.specs.Cells.{minus, sided}
 use Rattle.layout.specs.Plain.{no_room, value_of, held_of as held_by}
 use Rattle.layout.specs.CellsLaws.{MayHold, sided_so}

@@ -12,7 +12,8 @@ use Rattle.print.specs.Write.{size, text_of, signed_text, Wrote, in_field}
 use Rattle.print.specs.WriteSteps.{digits_in, behind_in, front_in, whole_in}
 use Rattle.print.specs.WriteLaws.{chars_length, narrow, fitting, spaced_length, wrote_refused, wrote_filled}
 use Rattle.print.specs.WriteStepsLaws.{text_unpointed, text_pointed, text_longer, front_signed, front_length}
-use Rattle.print.specs.declared.text.Put.TheVariants.{Fits, OutOfRange}
+use Rattle.std.specs.Prelude.{Ok, Err}
+use Rattle.decimal.specs.declared.FieldFault.TheVariants.{OutOfRange}
 use Rattle.print.proofs.Parts.{put_both}
 use Rattle.print.proofs.text.lay.Goals as goal
 
@@ -31,13 +32,13 @@ module _
   front_long : length (front_in minus front count) ≡ count
   front_long = front_length minus front count (omega arith)
 
-  no_room : length field < count → Wrote (in_field (length field) own) field OutOfRange field
+  no_room : length field < count → Wrote (in_field (length field) own) field (Err OutOfRange) field
   no_room h =
       wrote_refused field
       (narrow (length field) own (rw length-append (omega (arith, text_longer behind n, ap size before-point))))
 
   whole-fits : behind ≡ 0 → count ≤ length field → (after : List ℕ) → after ≡ whole_in minus front count (length field) →
-      Wrote (in_field (length field) own) field Fits after
+      Wrote (in_field (length field) own) field (Ok tt) after
   whole-fits none room after e =
       let unsigned : text_of behind n ≡ digits_in front (size front) = rw before-point (text_unpointed behind n none) in
       let text : own ≡ front_in minus front count = ap (λ (t : List ℕ). sign minus ++ t) unsigned ∙ sym front-is in
@@ -56,12 +57,12 @@ module _
     text-long : length own ≡ count + suc behind
     text-long = rw (text, length-append, front_long, chars_length behind n)
 
-    no-room-behind : length field - count ≤ behind → Wrote (in_field (length field) own) field OutOfRange field
+    no-room-behind : length field - count ≤ behind → Wrote (in_field (length field) own) field (Err OutOfRange) field
     no-room-behind h = wrote_refused field (narrow (length field) own (omega (arith, text-long)))
 
     pointed-fits : (at : ℕ) → at + suc behind ≡ length field → count ≤ at → (after : List ℕ) →
         after ≡ whole_in minus front count at ++ behind_in point n (length field - at) →
-        Wrote (in_field (length field) own) field Fits after
+        Wrote (in_field (length field) own) field (Ok tt) after
     pointed-fits at place room after e =
         let spaces : at - count ≡ length field - length own = omega (arith, text-long) in
         let left : length field - at - 1 ≡ behind = omega arith in

@@ -3,7 +3,7 @@ use Rattle.std.specs.Prelude.{ℕ, suc, ◌+◌, ◌≤◌, false, cond, List, [
 use Rattle.std.proofs.lemmas.List.Edits.{sets}
 use Rattle.forms.specs.declared.forms.Form.{Form}
 use Rattle.forms.specs.declared.forms.Form.TheVariants.{Heartbeat, LevelOne, LevelTwo, PairOne, PairTwo, FutureOne, FutureTwo, PreOpenOne, PreOpenTwo}
-use Rattle.layout.specs.declared.cells.Held.TheVariants.{Units}
+use Rattle.decimal.specs.declared.Held.TheVariants.{Units}
 use Rattle.layout.specs.Cells.{none, held_in, byte_in}
 use Rattle.layout.specs.Plain.{value_of}
 use Rattle.forms.specs.Sizes.{most_rows, key_row_count, pair_row_count}

@@ -1,11 +1,9 @@
 -- The answers of this crate in the paper's numbers. A form has none there, and stands beside them.
-use Rattle.std.specs.Prelude.{ℕ, ◌≡◌, List, [], ◌∷◌}
-use Rattle.std.proofs.Math.Option.{Option, none, some}
+use Rattle.std.specs.Prelude.{ℕ, ◌≡◌, List, [], ◌∷◌, Option, Some, None}
+use Rattle.std.proofs.Math.Option.{Option as Maybe, none, some}
 use Rattle.laws.specs.Refused.{code_no, length_no}
 use Rattle.forms.specs.declared.rows.Level.{Level}
 use Rattle.forms.specs.declared.rows.Level.TheVariants.{One, Two}
-use Rattle.forms.specs.declared.forms.Chosen.{Chosen}
-use Rattle.forms.specs.declared.forms.Chosen.TheVariants as chosen
 use Rattle.forms.specs.declared.forms.Form.{Form}
 use Rattle.forms.specs.declared.forms.Named.{Named}
 use Rattle.forms.specs.declared.forms.Named.TheVariants as is
@@ -15,7 +13,7 @@ use Rattle.forms.specs.declared.forms.Subject.{Subject}
 use Rattle.forms.specs.declared.forms.Subject.TheVariants.{Nothing, Of}
 
 -- a word of our own: an answer that has a form or none, by its numbers and that form
-pub record Tells {A : Type 0} (numbers : A → List ℕ) (form : A → Option Form) (meant answer : A) : Type 0 where
+pub record Tells {A : Type 0} (numbers : A → List ℕ) (form : A → Maybe Form) (meant answer : A) : Type 0 where
   pub says : numbers answer ≡ numbers meant
   pub form_is : form answer ≡ form meant
 
@@ -46,17 +44,17 @@ named_numbers is.NoLength = length_no ∷ []
 named_numbers is.PassedOver = 0 ∷ []
 
 -- a word of our own: the form that is named
-abbrev pub form_named : Named → Option Form
+abbrev pub form_named : Named → Maybe Form
 form_named (is.Form form) = some form
 form_named is.NoLength = none
 form_named is.PassedOver = none
 
 -- 01, the order of checks of the writer: 6 for a code that is not in the table
-abbrev pub chosen_numbers : Chosen → List ℕ
-chosen_numbers (chosen.Form form) = 0 ∷ []
-chosen_numbers chosen.NoForm = code_no ∷ []
+abbrev pub chosen_numbers : Option Form → List ℕ
+chosen_numbers (Some form) = 0 ∷ []
+chosen_numbers None = code_no ∷ []
 
 -- a word of our own: the form that is chosen
-abbrev pub form_chosen : Chosen → Option Form
-form_chosen (chosen.Form form) = some form
-form_chosen chosen.NoForm = none
+abbrev pub form_chosen : Option Form → Maybe Form
+form_chosen (Some form) = some form
+form_chosen None = none

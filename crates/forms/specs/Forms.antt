@@ -1,7 +1,7 @@
 -- The forms of messages as data: the table of codes, and the rows of each form. 01 "The message": 000 sections 4.4 and 4.5 for
 -- D, 003 sections 4.5 and 4.6 for T; M-100: 000 sections 4.6 and 4.7 for D, 003 sections 4.3 and 4.4 for T; M-104: 002 sections
 -- 4.4 and 4.5 for F. A new form is a list of named rows, its subject and its place in the table.
-use Rattle.std.specs.Prelude.{ℕ, zero, suc, Bool, true, false, cond, ◌&&◌, List, [], ◌∷◌, ◌++◌, map, eqb}
+use Rattle.std.specs.Prelude.{ℕ, zero, suc, Bool, true, false, cond, ◌&&◌, List, [], ◌∷◌, ◌++◌, map, eqb, Option, Some, None}
 use Rattle.forms.specs.declared.rows.Level.{Level}
 use Rattle.forms.specs.declared.rows.Level.TheVariants.{One, Two}
 use Rattle.forms.specs.declared.rows.Markets.TheVariants.{Normal, Any}
@@ -19,8 +19,6 @@ use Rattle.forms.specs.declared.forms.Sum.{Sum}
 use Rattle.forms.specs.declared.forms.Sum.TheVariants.{Zero, Right, RightOrZero}
 use Rattle.forms.specs.declared.forms.Named.{Named}
 use Rattle.forms.specs.declared.forms.Named.TheVariants as is
-use Rattle.forms.specs.declared.forms.Chosen.{Chosen}
-use Rattle.forms.specs.declared.forms.Chosen.TheVariants as chosen
 use Rattle.forms.specs.Names.{Name, NamedRow, named, instrument, symbol, expiry, strike, option_type, second_instrument, second_symbol, second_expiry, second_strike, second_option_type, market_type, time_stamp, buy_price, buy_quantity, sell_price, sell_quantity, last_price, traded_quantity, status, opening_price, high_price, low_price, close_price, average_price, all_buyers, all_sellers, turnover}
 use Rattle.forms.specs.Rows.{message_length}
 use Rattle.forms.specs.Sizes.{key_row_count, key_bytes, pair_row_count, pair_bytes}
@@ -254,11 +252,11 @@ is_asked Nothing item level = same_item item Contract
 is_asked (Of own at) item level = same_item own item && same_level at level
 
 -- 01 "What may be asked": the first of these forms that tells of what is asked for
-abbrev pub written_by : List Form → Item → Level → Chosen
-written_by [] item level = chosen.NoForm
-written_by (form ∷ rest) item level = cond (is_asked (subject_of form) item level) (chosen.Form form) (written_by rest item level)
+abbrev pub written_by : List Form → Item → Level → Option Form
+written_by [] item level = None
+written_by (form ∷ rest) item level = cond (is_asked (subject_of form) item level) (Some form) (written_by rest item level)
 
 -- 01 "What may be asked", M-100: the form that is written for a code and what is asked for: a contract or a pair, at a level; none
 -- for a code that is not in the table
-unfoldable pub written_form : ℕ → ℕ → Item → Level → Chosen
+unfoldable pub written_form : ℕ → ℕ → Item → Level → Option Form
 written_form letter second item level = written_by (forms_of letter second) item level

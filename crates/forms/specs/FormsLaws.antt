@@ -1,5 +1,5 @@
 -- The forms, computed, and the papers' numbers.
-use Rattle.std.specs.Prelude.{ℕ, ◌+◌, ◌*◌, ◌≤◌, max, Bool, true, false, cond, ◌&&◌, ◌||◌, ◌≡◌, refl, eqb, length, get_or, take}
+use Rattle.std.specs.Prelude.{ℕ, ◌+◌, ◌*◌, ◌≤◌, max, Bool, true, false, cond, ◌&&◌, ◌||◌, ◌≡◌, refl, eqb, length, get_or, take, Some, None}
 use mathlib.Core.List.Memᴰ
 use mathlib.Core.List.{List, [], ◌∷◌, ◌++◌, map, Memᴰ}
 use Rattle.std.proofs.Common.{ap, ap₂, sym, subst, ◌∙◌, arith, eqb-true, eq-eqb}
@@ -15,7 +15,6 @@ use Rattle.forms.specs.declared.forms.Subject.TheVariants.{Nothing, Of}
 use Rattle.forms.specs.declared.forms.Item.{Item}
 use Rattle.forms.specs.declared.forms.Item.TheVariants.{Contract, Pair}
 use Rattle.forms.specs.declared.forms.Named.TheVariants as is
-use Rattle.forms.specs.declared.forms.Chosen.TheVariants as chosen
 use Rattle.forms.specs.Sizes.{most_rows, most_data, key_row_count, key_bytes, pair_row_count, pair_bytes}
 use Rattle.forms.specs.Names.{Name, NamedRow, instrument, symbol, expiry, strike, option_type, second_instrument, second_symbol, second_expiry, second_strike, second_option_type, market_type, time_stamp, buy_price, buy_quantity, sell_price, sell_quantity, last_price, traded_quantity, status, opening_price, high_price, low_price, close_price, average_price, all_buyers, all_sellers, turnover}
 use Rattle.forms.specs.SameName.{same_name}
@@ -142,11 +141,11 @@ told_form (first ∷ rest) n form e = told_by_length (first ∷ rest) n form e
 
 -- of a code's two forms the one that has the level is written
 pub asked_written : (one two : Form) (item : Item) (level : Level) → subject_of one ≡ Of item One → subject_of two ≡ Of item Two
-    → written_by (one ∷ two ∷ []) item level ≡ chosen.Form (at_level level one two)
+    → written_by (one ∷ two ∷ []) item level ≡ Some (at_level level one two)
 asked_written one two item level first second =
-    ap₂ (λ (a b : Subject). cond (is_asked a item level) (chosen.Form one) (cond (is_asked b item level) (chosen.Form two) chosen.NoForm)) first second ∙ own item level
+    ap₂ (λ (a b : Subject). cond (is_asked a item level) (Some one) (cond (is_asked b item level) (Some two) None)) first second ∙ own item level
   where
-    own : (item : Item) (level : Level) → cond (is_asked (Of item One) item level) (chosen.Form one) (cond (is_asked (Of item Two) item level) (chosen.Form two) chosen.NoForm) ≡ chosen.Form (at_level level one two)
+    own : (item : Item) (level : Level) → cond (is_asked (Of item One) item level) (Some one) (cond (is_asked (Of item Two) item level) (Some two) None) ≡ Some (at_level level one two)
     own Contract One = refl
     own Contract Two = refl
     own Pair One = refl
@@ -211,11 +210,11 @@ kinds = refl
 -- ---- the writer
 
 -- the form that is written is one of the code's, whatever is asked for
-pub one_of_them : (forms : List Form) (item : Item) (level : Level) (form : Form) → written_by forms item level ≡ chosen.Form form → Memᴰ form forms
+pub one_of_them : (forms : List Form) (item : Item) (level : Level) (form : Form) → written_by forms item level ≡ Some form → Memᴰ form forms
 one_of_them [] item level form e = absurd (let z : ◌≡◌ {A = ℕ} 0 1 = cc in omega arith)
 one_of_them (first ∷ rest) item level form e = go (is_asked (subject_of first) item level) e (one_of_them rest item level form)
   where
-    go : (t : Bool) → cond t (chosen.Form first) (written_by rest item level) ≡ chosen.Form form → (written_by rest item level ≡ chosen.Form form → Memᴰ form rest)
+    go : (t : Bool) → cond t (Some first) (written_by rest item level) ≡ Some form → (written_by rest item level ≡ Some form → Memᴰ form rest)
         → Memᴰ form (first ∷ rest)
     go true e later = let same : form ≡ first = cc in Memᴰ.head same
     go false e later = Memᴰ.tail (later e)
@@ -369,7 +368,7 @@ pub pair_normal : (form : Form) (level : Level) → subject_of form ≡ Of Pair 
 pair_normal form level s = subst (λ (subject : Subject). PairNormal subject form) s (pair_own form)
 
 -- the code and the length of what is written name its form again
-pub written_told : (letter second : ℕ) (item : Item) (level : Level) (form : Form) → written_form letter second item level ≡ chosen.Form form
+pub written_told : (letter second : ℕ) (item : Item) (level : Level) (form : Form) → written_form letter second item level ≡ Some form
     → form_of letter second (message_length (rows_of form)) ≡ is.Form form
 unfolding form_of written_form
 written_told letter second item level form e = (code_told letter second form (one_of_them (forms_of letter second) item level form e)).0

@@ -2,7 +2,7 @@
 ghost use Rattle.std.specs.Prelude.{◌≡◌, [], ◌∷◌};
 ghost use Rattle.forms.specs.Answers.{Tells, subject_numbers, named_numbers, form_named, chosen_numbers, form_chosen};
 ghost use Rattle.forms.specs.Rows.{data_length, message_length};
-ghost use Rattle.forms.specs.Forms.{rows_of, subject_of, key_rows_of, key_bytes_of, record_form, session_of, is_stamped, at_level, meaning_of, named_by, form_of, sum_rule, written_by, written_form};
+ghost use Rattle.forms.specs.Forms.{rows_of, subject_of, key_rows_of, key_bytes_of, record_form, session_of, is_stamped, at_level, meaning_of, named_by, form_of, sum_rule, written_form};
 ghost use Rattle.forms.specs.Inner.{family_meaning};
 
 use crate::rows::Level;
@@ -102,13 +102,7 @@ enum Family {
     Outside,
 }
 
-// The form that is written for a code and what is asked for.
-#[derive(Clone, Copy)]
-pub enum Chosen {
-    Form(Form),
-    NoForm,
-}
-
+#[tactic(auto, unfolding(crate::specs::Forms::rows_of, crate::specs::Forms::named_rows))]
 pub fn data_length(form: Form) -> usize
     ensures { result ≡ data_length (rows_of form) }
 {
@@ -118,10 +112,8 @@ pub fn data_length(form: Form) -> usize
         Form::LevelTwo => MOST_DATA,
         Form::PairOne => PAIR_ONE_DATA,
         Form::PairTwo => PAIR_TWO_DATA,
-        Form::FutureOne => FUTURE_ONE_DATA,
-        Form::FutureTwo => FUTURE_TWO_DATA,
-        Form::PreOpenOne => FUTURE_ONE_DATA,
-        Form::PreOpenTwo => FUTURE_TWO_DATA,
+        Form::FutureOne | Form::PreOpenOne => FUTURE_ONE_DATA,
+        Form::FutureTwo | Form::PreOpenTwo => FUTURE_TWO_DATA,
     }
 }
 
@@ -130,14 +122,14 @@ pub fn subject_of(form: Form) -> Subject
 {
     match form {
         Form::Heartbeat => Subject::Nothing,
-        Form::LevelOne => Subject::Of(Item::Contract, Level::One),
-        Form::LevelTwo => Subject::Of(Item::Contract, Level::Two),
+        Form::LevelOne | Form::FutureOne | Form::PreOpenOne => {
+            Subject::Of(Item::Contract, Level::One)
+        }
+        Form::LevelTwo | Form::FutureTwo | Form::PreOpenTwo => {
+            Subject::Of(Item::Contract, Level::Two)
+        }
         Form::PairOne => Subject::Of(Item::Pair, Level::One),
         Form::PairTwo => Subject::Of(Item::Pair, Level::Two),
-        Form::FutureOne => Subject::Of(Item::Contract, Level::One),
-        Form::FutureTwo => Subject::Of(Item::Contract, Level::Two),
-        Form::PreOpenOne => Subject::Of(Item::Contract, Level::One),
-        Form::PreOpenTwo => Subject::Of(Item::Contract, Level::Two),
     }
 }
 
@@ -146,15 +138,8 @@ pub fn session_of(form: Form) -> Session
     ensures { result ≡ session_of form }
 {
     match form {
-        Form::Heartbeat => Session::Normal,
-        Form::LevelOne => Session::Normal,
-        Form::LevelTwo => Session::Normal,
-        Form::PairOne => Session::Normal,
-        Form::PairTwo => Session::Normal,
-        Form::FutureOne => Session::Normal,
-        Form::FutureTwo => Session::Normal,
-        Form::PreOpenOne => Session::PreOpen,
-        Form::PreOpenTwo => Session::PreOpen,
+        Form::PreOpenOne | Form::PreOpenTwo => Session::PreOpen,
+        _ => Session::Normal,
     }
 }
 
@@ -162,17 +147,10 @@ pub fn session_of(form: Form) -> Session
 pub fn is_stamped(form: Form) -> bool
     ensures { result ≡ is_stamped form }
 {
-    match form {
-        Form::Heartbeat => false,
-        Form::LevelOne => false,
-        Form::LevelTwo => false,
-        Form::PairOne => false,
-        Form::PairTwo => false,
-        Form::FutureOne => true,
-        Form::FutureTwo => true,
-        Form::PreOpenOne => true,
-        Form::PreOpenTwo => true,
-    }
+    matches!(
+        form,
+        Form::FutureOne | Form::FutureTwo | Form::PreOpenOne | Form::PreOpenTwo
+    )
 }
 
 // The rows and the bytes of the key of what is listed.
@@ -214,74 +192,22 @@ pub fn record_form(item: Item, level: Level) -> Form
     }
 }
 
-// D and T have the same codes.
 #[tactic(auto, unfolding(crate::specs::Forms::meaning_of))]
-fn family_of_second(second: u8) -> Family
-    ensures { family_meaning result ≡ meaning_of 0x44 second }
-{
-    match second {
-        b'H' => Family::Heartbeat,
-        b'N' => Family::Contract,
-        b'P' => Family::Pair,
-        // Market status.
-        b'O' | b'C' => Family::Unsummed,
-        // End of feed.
-        b'E' => Family::Unsummed,
-        _ => Family::Outside,
-    }
-}
-
-// The codes of F.
-#[tactic(auto, unfolding(crate::specs::Forms::meaning_of))]
-fn family_of_future(second: u8) -> Family
-    ensures { family_meaning result ≡ meaning_of 0x46 second }
-{
-    match second {
-        b'H' => Family::Heartbeat,
-        b'N' => Family::Future,
-        // Market status.
-        b'O' | b'C' => Family::Unsummed,
-        // End of feed, and the counts of messages.
-        b'E' | b'Z' => Family::Unsummed,
-        _ => Family::Outside,
-    }
-}
-
-// The codes of F in pre-open.
-#[tactic(auto, unfolding(crate::specs::Forms::meaning_of))]
-fn family_of_pre_open(second: u8) -> Family
-    ensures { family_meaning result ≡ meaning_of 0x50 second }
-{
-    match second {
-        b'N' => Family::PreOpen,
-        // Market status.
-        b'O' | b'C' => Family::Unsummed,
-        _ => Family::Outside,
-    }
-}
-
-// H: a heartbeat of each segment; P has none.
-#[tactic(auto, unfolding(crate::specs::Forms::meaning_of))]
-fn family_of_heartbeat(letter: u8) -> Family
-    ensures { family_meaning result ≡ meaning_of letter 0x48 }
-{
-    match letter {
-        b'D' | b'T' | b'F' => Family::Heartbeat,
-        _ => Family::Outside,
-    }
-}
-
-// Most messages of a quiet line are heartbeats, and theirs is the short way.
 fn family_of(letter: u8, second: u8) -> Family
     ensures { family_meaning result ≡ meaning_of letter second }
 {
-    if second == b'H' {
-        return family_of_heartbeat(letter);
-    }
-    match letter {
-        b'D' | b'T' => family_of_second(second),
-        b'F' => family_of_future(second),
-        b'P' => family_of_pre_open(second),
+    match (letter, second) {
+        // P has no heartbeat.
+        (b'D' | b'T' | b'F', b'H') => Family::Heartbeat,
+        (b'D' | b'T', b'N') => Family::Contract,
+        (b'D' | b'T', b'P') => Family::Pair,
+        (b'F', b'N') => Family::Future,
+        (b'P', b'N') => Family::PreOpen,
+        // Market status.
+        (b'D' | b'T' | b'F' | b'P', b'O' | b'C') => Family::Unsummed,
+        // End of feed, and the counts of messages.
+        (b'D' | b'T' | b'F', b'E') => Family::Unsummed,
+        (b'F', b'Z') => Family::Unsummed,
         _ => Family::Outside,
     }
 }
@@ -305,6 +231,7 @@ fn of_length(one: Form, two: Form, length: usize) -> Named
     Named::NoLength
 }
 
+#[tactic(auto, using(crate::specs::AnswersLaws::tells), unfolding(crate::specs::Forms::form_of, crate::specs::Forms::rows_of, crate::specs::Forms::named_rows))]
 pub fn form_of(letter: u8, second: u8, length: usize) -> Named
     ensures { Tells named_numbers form_named (form_of letter second length) result }
 {
@@ -317,8 +244,7 @@ pub fn form_of(letter: u8, second: u8, length: usize) -> Named
         Family::Pair => of_length(Form::PairOne, Form::PairTwo, length),
         Family::Future => of_length(Form::FutureOne, Form::FutureTwo, length),
         Family::PreOpen => of_length(Form::PreOpenOne, Form::PreOpenTwo, length),
-        Family::Unsummed => Named::PassedOver,
-        Family::Outside => Named::PassedOver,
+        Family::Unsummed | Family::Outside => Named::PassedOver,
     }
 }
 
@@ -328,51 +254,25 @@ pub fn sum_rule(letter: u8, second: u8) -> Sum
 {
     match family_of(letter, second) {
         Family::Heartbeat => Sum::Zero,
-        Family::Contract => Sum::Right,
-        Family::Pair => Sum::Right,
-        Family::Future => Sum::Right,
-        Family::PreOpen => Sum::Right,
-        Family::Unsummed => Sum::RightOrZero,
+        Family::Contract | Family::Pair | Family::Future | Family::PreOpen => Sum::Right,
         Family::Outside => Sum::Right,
+        Family::Unsummed => Sum::RightOrZero,
     }
 }
 
-// The form of a family that is written of a contract. A heartbeat tells of nothing; it is written beside contracts.
-fn contract_form(family: Family, level: Level) -> Chosen
-    ensures { Tells chosen_numbers form_chosen (written_by (family_meaning family).forms Item.Contract level) result }
-{
-    match family {
-        Family::Heartbeat => Chosen::Form(Form::Heartbeat),
-        Family::Contract => Chosen::Form(at_level(level, Form::LevelOne, Form::LevelTwo)),
-        Family::Pair => Chosen::NoForm,
-        Family::Future => Chosen::Form(at_level(level, Form::FutureOne, Form::FutureTwo)),
-        Family::PreOpen => Chosen::Form(at_level(level, Form::PreOpenOne, Form::PreOpenTwo)),
-        Family::Unsummed => Chosen::NoForm,
-        Family::Outside => Chosen::NoForm,
-    }
-}
-
-// The form of a family that is written of a pair.
-fn pair_form(family: Family, level: Level) -> Chosen
-    ensures { Tells chosen_numbers form_chosen (written_by (family_meaning family).forms Item.Pair level) result }
-{
-    match family {
-        Family::Heartbeat => Chosen::NoForm,
-        Family::Contract => Chosen::NoForm,
-        Family::Pair => Chosen::Form(at_level(level, Form::PairOne, Form::PairTwo)),
-        Family::Future => Chosen::NoForm,
-        Family::PreOpen => Chosen::NoForm,
-        Family::Unsummed => Chosen::NoForm,
-        Family::Outside => Chosen::NoForm,
-    }
-}
-
-pub fn written_form(letter: u8, second: u8, item: Item, level: Level) -> Chosen
+// The form that is written for a code and what is asked for. A heartbeat tells of nothing; it is written beside contracts.
+#[tactic(auto, using(crate::specs::AnswersLaws::tells, crate::specs::FormsLaws::asked_written), unfolding(crate::specs::Forms::written_form))]
+pub fn written_form(letter: u8, second: u8, item: Item, level: Level) -> Option<Form>
     ensures { Tells chosen_numbers form_chosen (written_form letter second item level) result }
 {
-    let family = family_of(letter, second);
-    match item {
-        Item::Contract => contract_form(family, level),
-        Item::Pair => pair_form(family, level),
+    match (item, family_of(letter, second)) {
+        (Item::Contract, Family::Heartbeat) => Some(Form::Heartbeat),
+        (Item::Contract, Family::Contract) => Some(at_level(level, Form::LevelOne, Form::LevelTwo)),
+        (Item::Contract, Family::Future) => Some(at_level(level, Form::FutureOne, Form::FutureTwo)),
+        (Item::Contract, Family::PreOpen) => {
+            Some(at_level(level, Form::PreOpenOne, Form::PreOpenTwo))
+        }
+        (Item::Pair, Family::Pair) => Some(at_level(level, Form::PairOne, Form::PairTwo)),
+        _ => None,
     }
 }

@@ -5,8 +5,8 @@ mod forms;
 mod rows;
 
 pub use forms::{
-    BARE, Chosen, Form, Item, KEY_BYTES, KEY_ROWS, MOST_DATA, MOST_ROWS, Named, PAIR_BYTES,
-    PAIR_ROWS, Session, Subject, Sum, data_length, form_of, is_stamped, key_bytes_of, key_rows_of,
+    BARE, Form, Item, KEY_BYTES, KEY_ROWS, MOST_DATA, MOST_ROWS, Named, PAIR_BYTES, PAIR_ROWS,
+    Session, Subject, Sum, data_length, form_of, is_stamped, key_bytes_of, key_rows_of,
     record_form, session_of, subject_of, sum_rule, written_form,
 };
 pub use rows::{Level, Markets, Row, width_of};

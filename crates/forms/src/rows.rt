@@ -31,12 +31,11 @@ pub fn width_of(row: Row) -> usize
     ensures { result ≡ width_of row }
 {
     match row {
-        Row::Key(width) => width,
-        Row::MarketType(_) => 1,
-        Row::Status => 1,
-        Row::Price(width) => width,
-        Row::Difference(width) => width,
-        Row::Quantity(width) => width,
-        Row::Turnover(width) => width,
+        Row::MarketType(_) | Row::Status => 1,
+        Row::Key(width)
+        | Row::Price(width)
+        | Row::Difference(width)
+        | Row::Quantity(width)
+        | Row::Turnover(width) => width,
     }
 }

@@ -1,6 +1,6 @@
 -- Writing a message from the values of its rows: 01 "The message", "The checksum", "Numbers in text", and the writer's order of
 -- checks.
-use Rattle.std.specs.Prelude.{ℕ, ◌+◌, ◌≤◌, ◌≡◌, true, false, List, [], ◌∷◌, ◌++◌, leb, length, drop}
+use Rattle.std.specs.Prelude.{ℕ, ◌+◌, ◌≤◌, ◌≡◌, true, false, List, [], ◌∷◌, ◌++◌, leb, length, drop, Option, Some, None}
 use Rattle.laws.specs.Rules.{first_broken}
 use Rattle.wire.specs.Number.{bytes_of}
 use Rattle.checksum.specs.Checksum.{checksum_of}
@@ -8,8 +8,6 @@ use Rattle.layout.specs.declared.read.Verdict.{Verdict}
 use Rattle.layout.specs.declared.read.Verdict.TheVariants as verdict
 use Rattle.forms.specs.declared.rows.Row.{Row}
 use Rattle.forms.specs.declared.forms.Form.{Form}
-use Rattle.forms.specs.declared.forms.Chosen.{Chosen}
-use Rattle.forms.specs.declared.forms.Chosen.TheVariants as chosen
 use Rattle.forms.specs.declared.forms.Sum.{Sum}
 use Rattle.forms.specs.declared.forms.Sum.TheVariants.{Zero, Right, RightOrZero}
 use Rattle.forms.specs.Forms.{rows_of, sum_rule}
@@ -29,24 +27,24 @@ use Rattle.writer.specs.Chosen.{in_table, numbered}
 
 -- 01, the writer's order of checks: "code not in the table (6), 10"; "its message number is 0, as for every call without a
 -- batch"
-abbrev pub code_rules : Chosen → ℕ → List Rule
+abbrev pub code_rules : Option Form → ℕ → List Rule
 code_rules form number =
     record { holds = in_table form; refusal = CodeOver 0 }
     ∷ record { holds = numbered form number; refusal = Numbering 0 }
     ∷ []
 
 -- 01 "The message": the rows that are written; a heartbeat has none, so that its quote isn't looked at
-abbrev pub rows_written : Chosen → List Row
-rows_written (chosen.Form form) = rows_of form
-rows_written chosen.NoForm = []
+abbrev pub rows_written : Option Form → List Row
+rows_written (Some form) = rows_of form
+rows_written None = []
 
 -- 01 "The message": the values that they are written from, by what a quote's values are in each form
-abbrev pub values_written : Chosen → (Form → List ℕ) → List ℕ
-values_written (chosen.Form form) values = values form
-values_written chosen.NoForm values = []
+abbrev pub values_written : Option Form → (Form → List ℕ) → List ℕ
+values_written (Some form) values = values form
+values_written None values = []
 
 -- 01 "The message": the data, and the verdict on its rows
-unfoldable pub data_written : Chosen → List ℕ → List ℕ → Laid
+unfoldable pub data_written : Option Form → List ℕ → List ℕ → Laid
 data_written form key values = write_rows 0 (rows_written form) key values
 
 -- 01, the writer's order of checks: "then 11 and 12 by row": the first bad row's
@@ -60,16 +58,16 @@ abbrev pub room_rules : ℕ → ℕ → List Rule
 room_rules wanted room = record { holds = leb wanted room; refusal = Memory wanted } ∷ []
 
 -- 01 "The message": the length of a message, which the writer answers
-unfoldable pub length_written : Chosen → ℕ
+unfoldable pub length_written : Option Form → ℕ
 length_written form = message_length (rows_written form)
 
 -- 01, the order of checks: "Writer: code not in the table (6), 10, then 11 and 12 by row, then 15"
-unfoldable pub write_rules : Chosen → ℕ → List ℕ → List ℕ → ℕ → List Rule
+unfoldable pub write_rules : Option Form → ℕ → List ℕ → List ℕ → ℕ → List Rule
 write_rules form number key values room =
     code_rules form number ++ rows_rules (data_written form key values).verdict ++ room_rules (length_written form) room
 
 -- 01, the table's rows 6, 10, 11, 12 and 15: a message that the writer writes breaks no rule
-pub record GoodWrite (form : Chosen) (number : ℕ) (key values : List ℕ) (room : ℕ) : Type 0 where
+pub record GoodWrite (form : Option Form) (number : ℕ) (key values : List ℕ) (room : ℕ) : Type 0 where
   -- 6
   pub tabled : in_table form ≡ true
   -- 10

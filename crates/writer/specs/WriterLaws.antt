@@ -1,10 +1,10 @@
 -- Laws of writing a message: each check in its turn, and the message laid over the front of the lent bytes.
 use Prim.Native.Nat.{ℕ, suc, ◌+◌, ◌-◌, ◌≤◌, ◌<◌}
-use Rattle.std.specs.Prelude.{◌≡◌, refl, true, false, get_or, set, take}
+use Rattle.std.specs.Prelude.{◌≡◌, refl, true, false, get_or, set, take, Option, Some, None}
 use Rattle.std.proofs.Math.Path.{ap, sym}
 use Rattle.std.proofs.Common.{◌∙◌, le-leb, length-drop, take_all, take_at, drop-drop}
 use mathlib.Core.List.{List, [], ◌∷◌, ◌++◌, append_assoc}
-use Rattle.std.proofs.Math.Option.{Option, none, some}
+use Rattle.std.proofs.Math.Option.{Option as Maybe, none, some}
 use native.Mathlib.Omega.{arith}
 use Rattle.std.proofs.lemmas.Bool.{lt-leb}
 use borrow.Rule.Slice.PartMut.{mid_of, put_mid, Post-is, mid_len}
@@ -18,8 +18,6 @@ use Rattle.layout.specs.declared.read.Verdict.TheVariants as verdict
 use Rattle.forms.specs.declared.rows.Level.{Level}
 use Rattle.forms.specs.declared.forms.Form.{Form}
 use Rattle.forms.specs.declared.forms.Item.{Item}
-use Rattle.forms.specs.declared.forms.Chosen.{Chosen}
-use Rattle.forms.specs.declared.forms.Chosen.TheVariants as chosen
 use Rattle.forms.specs.declared.forms.Named.TheVariants as is
 use Rattle.forms.specs.declared.forms.Sum.{Sum}
 use Rattle.forms.specs.declared.forms.Sum.TheVariants.{Zero, Right, RightOrZero}
@@ -45,10 +43,10 @@ use Rattle.writer.specs.WriterPromises.{WroteForm, WroteValues}
 -- ---- the code
 
 module _ (form : Form) (number : ℕ) where
-  pub other_number : takes_number (is.Form form) number ≡ false → first_broken (code_rules (chosen.Form form) number) ≡ some (Numbering 0)
+  pub other_number : takes_number (is.Form form) number ≡ false → first_broken (code_rules (Some form) number) ≡ some (Numbering 0)
   other_number f = rw f
 
-  pub code_holds : takes_number (is.Form form) number ≡ true → first_broken (code_rules (chosen.Form form) number) ≡ none
+  pub code_holds : takes_number (is.Form form) number ≡ true → first_broken (code_rules (Some form) number) ≡ none
   code_holds f = rw f
 
 -- ---- the rows
@@ -56,7 +54,7 @@ module _ (form : Form) (number : ℕ) where
 -- the rows of a form
 pub form_rows : (form : Form) (key values : List ℕ) {before after : List ℕ} {v : Verdict} {answer : Checked}
     → WritesUpdate (write_rows 0 (rows_of form) key values) before v after → checked_numbers answer ≡ checked_by (first_broken (rows_rules v))
-    → LaysRows (data_written (chosen.Form form) key values) before answer after
+    → LaysRows (data_written (Some form) key values) before answer after
 unfolding data_written
 form_rows form key values {v = v} wrote told =
     let same = verdict_told v (write_rows 0 (rows_of form) key values).verdict wrote.answers in
@@ -68,7 +66,7 @@ rows_pass (verdict.Field row) e = cc
 rows_pass (verdict.Range row) e = cc
 
 -- good rows are as long as they are wide
-pub long_data : (form : Chosen) (key values : List ℕ) → (data_written form key values).verdict ≡ verdict.Good
+pub long_data : (form : Option Form) (key values : List ℕ) → (data_written form key values).verdict ≡ verdict.Good
     → length (data_written form key values).bytes ≡ data_length (rows_written form)
 unfolding data_written
 long_data form key values good = good_length 0 (rows_written form) key values good
@@ -172,18 +170,18 @@ no_room code number bytes out n e h =
 
 -- ---- the checks in their order
 
-module _ (form : Chosen) (code : Code) (number : ℕ) (key values out : List ℕ) where
+module _ (form : Option Form) (code : Code) (number : ℕ) (key values out : List ℕ) where
   abbrev rows : Laid
   rows = data_written form key values
 
-  abbrev broken : Option Refusal
+  abbrev broken : Maybe Refusal
   broken = first_broken (write_rules form number key values (length out))
 
   refuses : (r : Refusal) → broken ≡ some r → WroteForm form code number key values out (Written.Refused r) out
   refuses r e =
       record {
-        answers = sym (ap (λ (o : Option Refusal). answered o (length_written form ∷ [])) e);
-        out_left = sym (ap (λ (o : Option Refusal). left_by o out (message_put code number rows.bytes out)) e);
+        answers = sym (ap (λ (o : Maybe Refusal). answered o (length_written form ∷ [])) e);
+        out_left = sym (ap (λ (o : Maybe Refusal). left_by o out (message_put code number rows.bytes out)) e);
       }
 
   abbrev behind : List Rule
@@ -223,20 +221,20 @@ module _ (form : Chosen) (code : Code) (number : ℕ) (key values out : List ℕ
           record {
             answers =
                 p.answers ∙ ap (λ (n : ℕ). answered (first_broken (room_rules n (length out))) (n ∷ [])) same
-                ∙ sym (ap (λ (o : Option Refusal). answered o (length_written form ∷ [])) decides);
+                ∙ sym (ap (λ (o : Maybe Refusal). answered o (length_written form ∷ [])) decides);
             out_left =
                 p.leaves ∙ ap (λ (n : ℕ). left_by (first_broken (room_rules n (length out))) out put) same
-                ∙ sym (ap (λ (o : Option Refusal). left_by o out put) decides);
+                ∙ sym (ap (λ (o : Maybe Refusal). left_by o out put) decides);
           }
 
 -- ---- the form that is chosen
 
 module _ (item : Item) (code : Code) (level : Level) (number : ℕ) (key : List ℕ) (values : Form → List ℕ) (out : List ℕ) where
   -- it is written from its own values
-  pub form_chosen_lem : {form : Form} {given out' : List ℕ} {answer : Written} → form_written item code level ≡ chosen.Form form → given ≡ values form
-      → WroteForm (chosen.Form form) code number key given out answer out' → WroteValues item code level number key values out answer out'
+  pub form_chosen_lem : {form : Form} {given out' : List ℕ} {answer : Written} → form_written item code level ≡ Some form → given ≡ values form
+      → WroteForm (Some form) code number key given out answer out' → WroteValues item code level number key values out answer out'
   form_chosen_lem chose same wrote = rw (chose, ← same) wrote
 
   -- 6 where there is none
-  pub none_chosen : form_written item code level ≡ chosen.NoForm → WroteValues item code level number key values out (Written.Refused (CodeOver 0)) out
-  none_chosen chose = rw chose (code_refused chosen.NoForm code number key [] out (CodeOver 0) refl)
+  pub none_chosen : form_written item code level ≡ None → WroteValues item code level number key values out (Written.Refused (CodeOver 0)) out
+  none_chosen chose = rw chose (code_refused None code number key [] out (CodeOver 0) refl)

@@ -1,5 +1,5 @@
 -- What writing a message promises: the answer, and every lent byte afterwards.
-use Rattle.std.specs.Prelude.{ℕ, ◌≡◌, List, [], ◌∷◌, length}
+use Rattle.std.specs.Prelude.{ℕ, ◌≡◌, List, [], ◌∷◌, length, Option}
 use Rattle.laws.specs.Rules.{first_broken}
 use Rattle.quote.specs.declared.quote.Quote.{Quote}
 use Rattle.spread.specs.declared.spread.SpreadQuote.{SpreadQuote}
@@ -10,14 +10,13 @@ use Rattle.forms.specs.declared.forms.Form.{Form}
 use Rattle.forms.specs.declared.forms.Item.{Item}
 use Rattle.forms.specs.declared.forms.Item.TheVariants.{Contract, Pair}
 use Rattle.state.specs.declared.answers.Written.{Written}
-use Rattle.forms.specs.declared.forms.Chosen.{Chosen}
 use Rattle.writer.specs.declared.writing.Code.{Code}
 use Rattle.state.specs.Answers.{written_numbers, answered, left_by}
 use Rattle.writer.specs.Writer.{values_written, write_rules, length_written, data_written, message_put}
 use Rattle.writer.specs.Chosen.{form_written}
 
 -- 01 "What may be asked": write a message. The writer answers its length, and no byte past the message is written
-pub record WroteForm (form : Chosen) (code : Code) (number : ℕ) (key values out : List ℕ) (answer : Written) (out' : List ℕ) : Type 0 where
+pub record WroteForm (form : Option Form) (code : Code) (number : ℕ) (key values out : List ℕ) (answer : Written) (out' : List ℕ) : Type 0 where
   pub answers : written_numbers answer ≡ answered (first_broken (write_rules form number key values (length out))) (length_written form ∷ [])
   pub out_left : out' ≡ left_by (first_broken (write_rules form number key values (length out))) out (message_put code number (data_written form key values).bytes out)
 

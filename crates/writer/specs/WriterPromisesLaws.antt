@@ -1,15 +1,14 @@
 -- What the writer's promise settles: one outcome, a refusal that changes no byte, and the message of an accepted call.
-use Rattle.std.specs.Prelude.{ℕ, ◌+◌, ◌≡◌, ◌↔◌, List, [], ◌∷◌, ◌++◌, length, take, drop}
+use Rattle.std.specs.Prelude.{ℕ, ◌+◌, ◌≡◌, ◌↔◌, List, [], ◌∷◌, ◌++◌, length, take, drop, Option}
 use Rattle.std.proofs.Math.Path.{ap, sym}
 use Rattle.std.proofs.Common.{◌∙◌, leb-true, le-leb, take_at, drop_at}
-use Rattle.std.proofs.Math.Option.{Option, none, some}
+use Rattle.std.proofs.Math.Option.{Option as Maybe, none, some}
 use Rattle.laws.specs.Rules.{first_broken}
 use Rattle.laws.specs.RulesLaws.{none_hold, hold_none, hold_append}
 use Rattle.forms.specs.declared.rows.Level.{Level}
 use Rattle.forms.specs.declared.forms.Form.{Form}
 use Rattle.forms.specs.declared.forms.Item.{Item}
 use Rattle.compose.specs.Write.{Laid}
-use Rattle.forms.specs.declared.forms.Chosen.{Chosen}
 use Rattle.forms.specs.Sizes.{bare_length}
 use Rattle.state.specs.declared.answers.Written.{Written}
 use Rattle.state.specs.declared.refusal.Refusal.{Refusal}
@@ -23,7 +22,7 @@ use Rattle.writer.specs.WriterLaws.{rows_pass, long_data, message_long}
 use Rattle.writer.specs.WriterPromises.{WroteValues}
 
 -- none of its rules is broken exactly where the message is good
-pub write_exact : (form : Chosen) (number : ℕ) (key values : List ℕ) (room : ℕ)
+pub write_exact : (form : Option Form) (number : ℕ) (key values : List ℕ) (room : ℕ)
     → first_broken (write_rules form number key values room) ≡ none ↔ GoodWrite form number key values room
 unfolding write_rules
 write_exact form number key values room = (to, from)
@@ -50,13 +49,13 @@ write_exact form number key values room = (to, from)
         rw (g.rows_good, g.tabled, g.has_number, le-leb (length_written form) room g.has_room)
 
 module _ (item : Item) (code : Code) (level : Level) (number : ℕ) (key : List ℕ) (values : Form → List ℕ) (out : List ℕ) where
-  abbrev form : Chosen
+  abbrev form : Option Form
   form = form_written item code level
 
   abbrev given : List ℕ
   given = values_written form values
 
-  abbrev broken : Option Refusal
+  abbrev broken : Maybe Refusal
   broken = first_broken (write_rules form number key given (length out))
 
   abbrev rows : Laid
@@ -70,7 +69,7 @@ module _ (item : Item) (code : Code) (level : Level) (number : ℕ) (key : List 
   pub write_refusal_lem : {out' : List ℕ} (r : Refusal) → WroteValues item code level number key values out (Written.Refused r) out' → (broken ≡ some r) × (out' ≡ out)
   write_refusal_lem r p =
       let e = refused_by_lem broken (length_written form ∷ []) r p.answers in
-      (e, p.out_left ∙ ap (λ (o : Option Refusal). left_by o out (message_put code number rows.bytes out)) e)
+      (e, p.out_left ∙ ap (λ (o : Maybe Refusal). left_by o out (message_put code number rows.bytes out)) e)
 
   -- an accepted message: its length is answered, it stands in front, and no byte behind it changes
   module _ {out' : List ℕ} (n : ℕ) (p : WroteValues item code level number key values out (Written.Message n) out') where
@@ -91,7 +90,7 @@ module _ (item : Item) (code : Code) (level : Level) (number : ℕ) (key : List 
 
     put : out' ≡ message_bytes code number rows.bytes ++ drop (length rows.bytes + bare_length) out
     unfolding message_put
-    put = p.out_left ∙ ap (λ (o : Option Refusal). left_by o out (message_put code number rows.bytes out)) held.0
+    put = p.out_left ∙ ap (λ (o : Maybe Refusal). left_by o out (message_put code number rows.bytes out)) held.0
 
     pub message_in_front : take n out' ≡ message_bytes code number rows.bytes
     message_in_front = ap (take n) put ∙ take_at (message_bytes code number rows.bytes) _ n bytes_long

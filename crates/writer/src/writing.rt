@@ -8,7 +8,7 @@ ghost use Rattle.writer.specs.Writer.{rows_rules, data_written, head_bytes, sum_
 ghost use Rattle.writer.specs.WriterPromises.{WroteForm, WroteMessage, WroteSpread};
 
 use layout::{
-    Chosen, Form, Item, KEY_BYTES, Level, MOST_DATA, MOST_ROWS, Named, PAIR_BYTES, Sum, Verdict,
+    Form, Item, KEY_BYTES, Level, MOST_DATA, MOST_ROWS, Named, PAIR_BYTES, Sum, Verdict,
 };
 use quote::Quote;
 use spread::SpreadQuote;
@@ -35,7 +35,7 @@ fn of_verdict(verdict: Verdict) -> Checked
 
 // The rows of a form, the first bad one deciding: 11 and 12. A heartbeat has none.
 fn lay_rows(form: Form, key: &[u8], values: &[u64; MOST_ROWS], data: &mut [u8]) -> Checked
-    ensures { LaysRows (data_written (Chosen.Form form) key.now values.now) «data».old result «data».new }
+    ensures { LaysRows (data_written (Some form) key.now values.now) «data».old result «data».new }
 {
     of_verdict(compose::write_update(form, key, values, data))
 }
@@ -103,7 +103,7 @@ fn write_form(
     values: &[u64; MOST_ROWS],
     out: &mut [u8],
 ) -> Written
-    ensures { WroteForm (Chosen.Form form) code number key.now values.now out.old result out.new }
+    ensures { WroteForm (Some form) code number key.now values.now out.old result out.new }
 {
     if !head::takes_number(Named::Form(form), number) {
         return Written::Refused(Refusal::Numbering(0));
@@ -127,11 +127,11 @@ pub fn write_message(
     ensures { WroteMessage code level number key.now quote out.old result out.new }
 {
     match layout::written_form(code.0, code.1, Item::Contract, level) {
-        Chosen::Form(form) => {
+        Some(form) => {
             let values = quote::values_of(form, quote);
             write_form(form, code, number, key, &values, out)
         }
-        Chosen::NoForm => Written::Refused(Refusal::Code(0)),
+        None => Written::Refused(Refusal::Code(0)),
     }
 }
 
@@ -147,10 +147,10 @@ pub fn write_spread(
     ensures { WroteSpread code level number pair.now quote out.old result out.new }
 {
     match layout::written_form(code.0, code.1, Item::Pair, level) {
-        Chosen::Form(form) => {
+        Some(form) => {
             let values = spread::spread_values_of(form, quote);
             write_form(form, code, number, pair, &values, out)
         }
-        Chosen::NoForm => Written::Refused(Refusal::Code(0)),
+        None => Written::Refused(Refusal::Code(0)),
     }
 }

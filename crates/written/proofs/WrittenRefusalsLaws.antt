@@ -1,10 +1,10 @@
 -- The writer refuses exactly: 6, 10, 11 and 12 by row, 15, and nothing else.
-use Rattle.std.specs.Prelude.{ℕ, ◌≤◌, ◌<◌, ◌≡◌, Bool, false, cond, ◌↔◌, List, [], ◌∷◌, ◌++◌, leb, length}
+use Rattle.std.specs.Prelude.{ℕ, ◌≤◌, ◌<◌, ◌≡◌, Bool, false, cond, ◌↔◌, List, [], ◌∷◌, ◌++◌, leb, length, Option, Some}
 use Rattle.std.proofs.Math.Path.{refl, ap}
 use Rattle.std.proofs.Common.{sym, ◌∙◌, arith, leb-false}
 use Rattle.std.proofs.Math.Bool.{true}
 use Rattle.std.proofs.Math.Logic.Iff
-use Rattle.std.proofs.Math.Option.{Option, none, some}
+use Rattle.std.proofs.Math.Option.{Option as Maybe, none, some}
 use Rattle.std.proofs.lemmas.Bool.{lt-leb}
 use Rattle.laws.specs.Rules.{first_broken}
 use Rattle.laws.specs.Tests.{leb_is}
@@ -14,8 +14,6 @@ use Rattle.forms.specs.declared.rows.Level.{Level}
 use Rattle.forms.specs.declared.forms.Form.{Form}
 use Rattle.forms.specs.declared.forms.Item.{Item}
 use Rattle.forms.specs.declared.forms.Named.TheVariants as is
-use Rattle.forms.specs.declared.forms.Chosen.{Chosen}
-use Rattle.forms.specs.declared.forms.Chosen.TheVariants as chosen
 use Rattle.forms.specs.declared.forms.Subject.TheVariants.{Nothing}
 use Rattle.layout.specs.FirstBad.{FirstAt}
 use Rattle.compose.specs.FirstBad.{refusal_written}
@@ -81,12 +79,12 @@ module _ (item : Item) (form : Form) (key values : List ℕ) (given : Name → V
 -- ---- the first broken rule
 
 -- what the writer's rules are by their tests
-abbrev first_of : ℕ → Bool → Bool → Verdict → Bool → Option Refusal
+abbrev first_of : ℕ → Bool → Bool → Verdict → Bool → Maybe Refusal
 first_of wanted tabled numbered v fits =
     cond tabled (cond numbered (first_broken (rows_rules v ++ (record { holds = fits; refusal = Memory wanted } ∷ []))) (some (Numbering 0))) (some (CodeOver 0))
 
 -- why the first broken one is what it is
-data Why (tabled numbered : Bool) (v : Verdict) (fits : Bool) : Option Refusal → Type 0 where
+data Why (tabled numbered : Bool) (v : Verdict) (fits : Bool) : Maybe Refusal → Type 0 where
   no_code : tabled ≡ false → Why tabled numbered v fits (some (CodeOver 0))
   no_number : (tabled ≡ true) × (numbered ≡ false) → Why tabled numbered v fits (some (Numbering 0))
   bad_field : {k : ℕ} → v ≡ verdict.Field k → Why tabled numbered v fits (some (Field 0 k))
@@ -103,7 +101,7 @@ why wanted true true verdict.Good false = no_room (refl, refl)
 why wanted true true verdict.Good true = no_refusal (refl, refl)
 
 module _ (wanted : ℕ) (tabled numbered : Bool) (v : Verdict) (fits : Bool) where
-  by_why : {o : Option Refusal} {A : Type 0} → (Why tabled numbered v fits o → A) → first_of wanted tabled numbered v fits ≡ o → A
+  by_why : {o : Maybe Refusal} {A : Type 0} → (Why tabled numbered v fits o → A) → first_of wanted tabled numbered v fits ≡ o → A
   by_why told e = told (rw e at (why wanted tabled numbered v fits))
 
   code_why : first_of wanted tabled numbered v fits ≡ some (CodeOver 0) ↔ tabled ≡ false
@@ -130,13 +128,13 @@ module _ (wanted : ℕ) (v : Verdict) (fits : Bool) where
 module _ (item : Item) (code : Code) (level : Level) (number : ℕ) (key : List ℕ) (values : Form → List ℕ) (out out' : List ℕ) (answer : Written)
     (wrote : WroteValues item code level number key values out answer out')
   where
-    abbrev chose : Chosen
+    abbrev chose : Option Form
     chose = form_written item code level
 
     abbrev handed : List ℕ
     handed = values_written chose values
 
-    abbrev broken : Option Refusal
+    abbrev broken : Maybe Refusal
     broken = first_broken (write_rules chose number key handed (length out))
 
     abbrev fitting : Bool
@@ -150,13 +148,13 @@ module _ (item : Item) (code : Code) (level : Level) (number : ℕ) (key : List 
     answers_refusal : (r : Refusal) → answer ≡ Written.Refused r ↔ broken ≡ some r
     answers_refusal r = (
       (λ e. refused_by_lem broken (length_written chose ∷ []) r (ap written_numbers (sym e) ∙ wrote.answers)),
-      (λ e. written_told answer (Written.Refused r) (wrote.answers ∙ ap (λ (o : Option Refusal). answered o (length_written chose ∷ [])) e)),
+      (λ e. written_told answer (Written.Refused r) (wrote.answers ∙ ap (λ (o : Maybe Refusal). answered o (length_written chose ∷ [])) e)),
     )
 
     answers_length : answer ≡ Written.Message (length_written chose) ↔ broken ≡ none
     answers_length = (
       (λ e. (accepted_by broken (length_written chose ∷ []) (length_written chose ∷ []) (ap written_numbers (sym e) ∙ wrote.answers)).0),
-      (λ e. written_told answer (Written.Message (length_written chose)) (wrote.answers ∙ ap (λ (o : Option Refusal). answered o (length_written chose ∷ [])) e)),
+      (λ e. written_told answer (Written.Message (length_written chose)) (wrote.answers ∙ ap (λ (o : Maybe Refusal). answered o (length_written chose ∷ [])) e)),
     )
 
     -- 6 exactly where the code is not in the table
@@ -172,7 +170,7 @@ module _ (item : Item) (code : Code) (level : Level) (number : ℕ) (key : List 
         (rw rules_are (number_why (length_written chose) (in_table chose) (numbered chose number) (data_written chose key handed).verdict fitting))
 
     -- a form whose code and number may be written
-    module _ (form : Form) (is_chosen : chose ≡ chosen.Form form) (takes : takes_number (is.Form form) number ≡ true) (key_long : length key ≡ key_bytes_of item)
+    module _ (form : Form) (is_chosen : chose ≡ Some form) (takes : takes_number (is.Form form) number ≡ true) (key_long : length key ≡ key_bytes_of item)
         (given : Name → Value) (from : Given item form given (values form))
       where
         abbrev wanted : ℕ
@@ -185,10 +183,10 @@ module _ (item : Item) (code : Code) (level : Level) (number : ℕ) (key : List 
         decided : broken ≡ first_of wanted true true own (leb wanted (length out))
         unfolding write_rules data_written length_written
         decided =
-            ap (λ (c : Chosen). first_broken (write_rules c number key (values_written c values) (length out))) is_chosen
+            ap (λ (c : Option Form). first_broken (write_rules c number key (values_written c values) (length out))) is_chosen
             ∙ ap (λ (t : Bool). first_of wanted true t own (leb wanted (length out))) takes
 
-        by : {A : Type 0} (o : Option Refusal) → first_of wanted true true own (leb wanted (length out)) ≡ o ↔ A → broken ≡ o ↔ A
+        by : {A : Type 0} (o : Maybe Refusal) → first_of wanted true true own (leb wanted (length out)) ≡ o ↔ A → broken ≡ o ↔ A
         by o exact = rw decided exact
 
         both_fine : {A B : Type 0} → A ↔ B → (own ≡ verdict.Good) × A ↔ AllFine form key given × B

@@ -25,7 +25,6 @@ use Rattle.forms.specs.declared.forms.Form.{Form}
 use Rattle.forms.specs.declared.forms.Form.TheVariants.{Heartbeat, LevelOne, LevelTwo, PairOne, PairTwo, FutureOne, FutureTwo, PreOpenOne, PreOpenTwo}
 use Rattle.forms.specs.declared.forms.Item.{Item}
 use Rattle.forms.specs.declared.forms.Item.TheVariants.{Contract, Pair}
-use Rattle.forms.specs.declared.forms.Chosen.TheVariants as chosen
 use Rattle.forms.specs.declared.forms.Subject.{Subject}
 use Rattle.forms.specs.declared.forms.Subject.TheVariants.{Nothing as NoSubject, Of}
 use Rattle.forms.specs.declared.rows.Markets.{Markets}
@@ -156,14 +155,14 @@ market_row form level s = subst (λ (subject : Subject). MarketRow subject form)
 
 module _ (code : Code) (level : Level) (form : Form) where
   -- a contract's message is written from the fields of its quote
-  pub contract_given : form_written Contract code level ≡ chosen.Form form → (quote : Quote) → Given Contract form (field_given quote) (values_of form quote)
+  pub contract_given : form_written Contract code level ≡ Some form → (quote : Quote) → Given Contract form (field_given quote) (values_of form quote)
   unfolding values_of
   contract_given chose quote =
       let own = contract_plain form level (asked_so code.0 code.1 Contract level form chose) quote in
       record { key_enough = own.0; plain_at = plains_at form (field_given quote) (values_by (named_rows form) (field_value quote)) _ own.1 }
 
   -- and a pair's from those of its own
-  pub pair_given : form_written Pair code level ≡ chosen.Form form → (quote : SpreadQuote) → Given Pair form (spread_field_given quote) (spread_values_of form quote)
+  pub pair_given : form_written Pair code level ≡ Some form → (quote : SpreadQuote) → Given Pair form (spread_field_given quote) (spread_values_of form quote)
   unfolding spread_values_of
   pair_given chose quote =
       let own = pair_plain form level (asked_so code.0 code.1 Pair level form chose) quote in

@@ -1,5 +1,5 @@
 -- Every number of a written message stands in its field as the shortest text.
-use Rattle.std.specs.Prelude.{ℕ, ◌-◌, ◌≤◌, ◌<◌, ◌≡◌, refl, Bool, true, false, List, eqb, length, take}
+use Rattle.std.specs.Prelude.{ℕ, ◌-◌, ◌≤◌, ◌<◌, ◌≡◌, refl, Bool, true, false, List, eqb, length, take, Some}
 use Rattle.std.proofs.Common.{ap, sym, ◌∙◌, ⊎_elim, arith, lit<}
 use Rattle.laws.specs.Order.{order}
 use Rattle.decimal.specs.declared.Kind.{Kind}
@@ -11,7 +11,6 @@ use Rattle.print.specs.WriteLaws.{none_spaces, within, fitting, narrow}
 use Rattle.forms.specs.declared.rows.Level.{Level}
 use Rattle.forms.specs.declared.forms.Item.{Item}
 use Rattle.forms.specs.declared.forms.Form.{Form}
-use Rattle.forms.specs.declared.forms.Chosen.TheVariants as chosen
 use Rattle.forms.specs.declared.rows.Row.{Row}
 use Rattle.forms.specs.declared.rows.Row.TheVariants.{Key, MarketType, Status, Price, Quantity, Turnover, Difference}
 use Rattle.decimal.specs.declared.Held.{Held}
@@ -124,7 +123,7 @@ row_number (Difference width) part value field e = number_field difference width
 -- ---- a written message
 
 module _ (item : Item) (code : Code) (level : Level) (number : ℕ) (key : List ℕ) (values : Form → List ℕ) (out out' : List ℕ) (n : ℕ)
-    (form : Form) (chose : form_written item code level ≡ chosen.Form form) (wrote : WroteValues item code level number key values out (Written.Message n) out')
+    (form : Form) (chose : form_written item code level ≡ Some form) (wrote : WroteValues item code level number key values out (Written.Message n) out')
     (given : Name → Value) (from : Given item form given (values form))
   where
     -- row k's field in the message that was written

@@ -1,7 +1,7 @@
 -- A message that was written: its rows are good, it stands in front of the lent bytes, and a heartbeat, where its segment is listed,
 -- and an update, where its contract or pair is, are what they were written from.
 use Prim.Native.Nat.{ℕ, ◌+◌, ◌^◌, ◌≤◌, ◌<◌}
-use Rattle.std.specs.Prelude.{◌≡◌, Bool, cond, length, take, drop, Ok}
+use Rattle.std.specs.Prelude.{◌≡◌, Bool, cond, length, take, drop, Ok, Option, Some}
 use Rattle.std.proofs.Math.Path.{refl, ap, sym}
 use Rattle.std.proofs.Common.{◌∙◌, get_or-take, get_or-drop}
 use Rattle.std.proofs.Math.Bool.{true, false}
@@ -21,8 +21,6 @@ use Rattle.forms.specs.declared.forms.Item.{Item}
 use Rattle.forms.specs.declared.forms.Item.TheVariants.{Contract, Pair}
 use Rattle.forms.specs.declared.forms.Named.{Named}
 use Rattle.forms.specs.declared.forms.Named.TheVariants as is
-use Rattle.forms.specs.declared.forms.Chosen.{Chosen}
-use Rattle.forms.specs.declared.forms.Chosen.TheVariants as chosen
 use Rattle.forms.specs.declared.forms.Subject.TheVariants.{Nothing, Of}
 use Rattle.layout.specs.Cells.{zeros_behind}
 use Rattle.layout.specs.Plain.{seen_values}
@@ -61,7 +59,7 @@ use Rattle.written.specs.WrittenFormLaws.{form_told_lem, is_code_lem}
 use Rattle.written.proofs.WrittenRowsLaws.{market_row}
 
 module _ (item : Item) (code : Code) (level : Level) (number : ℕ) (key : List ℕ) (values : Form → List ℕ) (out out' : List ℕ) (n : ℕ)
-    (form : Form) (chose : form_written item code level ≡ chosen.Form form) (wrote : WroteValues item code level number key values out (Written.Message n) out')
+    (form : Form) (chose : form_written item code level ≡ Some form) (wrote : WroteValues item code level number key values out (Written.Message n) out')
   where
     abbrev rows : Laid
     rows = write_rows 0 (rows_of form) key (values form)
@@ -75,13 +73,13 @@ module _ (item : Item) (code : Code) (level : Level) (number : ℕ) (key : List 
 
     data_laid : data_written (form_written item code level) key (values_written (form_written item code level) values) ≡ rows
     unfolding data_written
-    data_laid = ap (λ (c : Chosen). write_rows 0 (rows_written c) key (values_written c values)) chose
+    data_laid = ap (λ (c : Option Form). write_rows 0 (rows_written c) key (values_written c values)) chose
 
     pub rows_good : rows.verdict ≡ Good
     rows_good = ap (λ (l : Laid). l.verdict) (sym data_laid) ∙ (written_good item code level number key values out n wrote).rows_good
 
     pub number_fits : takes_number (is.Form form) number ≡ true
-    number_fits = ap (λ (c : Chosen). numbered c number) (sym chose) ∙ (written_good item code level number key values out n wrote).has_number
+    number_fits = ap (λ (c : Option Form). numbered c number) (sym chose) ∙ (written_good item code level number key values out n wrote).has_number
 
     pub message_there : take n out' ≡ written
     message_there = message_in_front item code level number key values out n wrote ∙ ap (λ (l : Laid). message_bytes code number l.bytes) data_laid

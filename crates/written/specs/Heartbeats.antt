@@ -1,9 +1,8 @@
 -- A written heartbeat, by the promises of the public calls.
-use Rattle.std.specs.Prelude.{ℕ, ◌≡◌, List}
+use Rattle.std.specs.Prelude.{ℕ, ◌≡◌, List, Some}
 use Rattle.forms.specs.declared.rows.Level.{Level}
 use Rattle.forms.specs.declared.forms.Form.{Form}
 use Rattle.forms.specs.declared.forms.Item.TheVariants.{Contract}
-use Rattle.forms.specs.declared.forms.Chosen.TheVariants as chosen
 use Rattle.forms.specs.declared.forms.Subject.TheVariants.{Nothing}
 use Rattle.forms.specs.Forms.{subject_of}
 use Rattle.state.specs.declared.answers.Judged.{Judged}
@@ -15,7 +14,7 @@ use Rattle.writer.specs.Chosen.{form_written}
 
 -- 01 "The message": the codes of heartbeats, by the table of forms: what is written for them tells of nothing
 abbrev pub WritesHeartbeat : Code → Level → Type 0
-WritesHeartbeat code level = (form : Form) × (form_written Contract code level ≡ chosen.Form form) × (subject_of form ≡ Nothing)
+WritesHeartbeat code level = (form : Form) × (form_written Contract code level ≡ Some form) × (subject_of form ≡ Nothing)
 
 -- 01 "Sequence and gaps": "A heartbeat .. changes nothing"; "What may be asked": an accepted batch answers how many heartbeats it has,
 -- and judging answers what taking would; M-102: no key is compared

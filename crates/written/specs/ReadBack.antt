@@ -1,12 +1,11 @@
 -- Batches, and one that holds just one message; and what reading back is.
-use Rattle.std.specs.Prelude.{ℕ, ◌<◌, ◌≡◌, Bool, true, cond, List, ◌∷◌, ◌++◌, length}
+use Rattle.std.specs.Prelude.{ℕ, ◌<◌, ◌≡◌, Bool, true, cond, List, ◌∷◌, ◌++◌, length, Some}
 use Rattle.wire.specs.Number.{bytes_of}
 use Rattle.lookup.specs.Lookup.{segment_of}
 use Rattle.forms.specs.declared.rows.Level.{Level}
 use Rattle.forms.specs.declared.forms.Form.{Form}
 use Rattle.forms.specs.declared.forms.Item.{Item}
 use Rattle.forms.specs.declared.forms.Item.TheVariants.{Contract, Pair}
-use Rattle.forms.specs.declared.forms.Chosen.TheVariants as chosen
 use Rattle.forms.specs.declared.forms.Session.{Session}
 use Rattle.forms.specs.declared.forms.Subject.TheVariants.{Of}
 use Rattle.forms.specs.Forms.{subject_of}
@@ -35,7 +34,7 @@ batch_of message = plain_batch 1 message
 
 -- 01 "The message", M-100, M-104: the codes of updates, by the table of forms: what is written for them tells of what is asked for
 abbrev pub WritesUpdate : Item → Code → Level → Form → Type 0
-WritesUpdate item code level form = (form_written item code level ≡ chosen.Form form) × (subject_of form ≡ Of item level)
+WritesUpdate item code level form = (form_written item code level ≡ Some form) × (subject_of form ≡ Of item level)
 
 -- M-104: "only N updates a record": a contract's quote has that market type; a pair's has none
 abbrev pub InNormalMarket : (item : Item) → QuoteFor item → Type 0

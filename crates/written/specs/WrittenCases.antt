@@ -1,5 +1,5 @@
 -- What the writer answers and writes, by the definitions that its promise cites.
-use Rattle.std.specs.Prelude.{ℕ, ◌+◌, ◌-◌, ◌^◌, ◌≡◌, refl, List, [], ◌∷◌, ◌++◌, map, replicate, set}
+use Rattle.std.specs.Prelude.{ℕ, ◌+◌, ◌-◌, ◌^◌, ◌≡◌, refl, List, [], ◌∷◌, ◌++◌, map, replicate, set, Option, Some}
 use Rattle.laws.specs.Rules.{first_broken}
 use Rattle.print.specs.Write.{size, size_in, text_of}
 use Rattle.quote.specs.declared.quote.Quote.{Quote}
@@ -13,8 +13,6 @@ use Rattle.forms.specs.declared.forms.Form.{Form}
 use Rattle.forms.specs.declared.forms.Form.TheVariants.{PairOne, PairTwo, FutureTwo}
 use Rattle.forms.specs.declared.forms.Item.{Item}
 use Rattle.forms.specs.declared.forms.Item.TheVariants.{Contract, Pair}
-use Rattle.forms.specs.declared.forms.Chosen.{Chosen}
-use Rattle.forms.specs.declared.forms.Chosen.TheVariants as chosen
 use Rattle.forms.specs.Forms.{named_rows, rows_of, meaning_of, written_form}
 use Rattle.forms.specs.Sizes.{most_rows, key_bytes, pair_bytes}
 use Rattle.compose.specs.Write.{row_text}
@@ -65,7 +63,7 @@ asked_pair first second level =
     record { item = Pair; code = record { 0 = first; 1 = second }; level = level; number = 1; key = pair; values = λ form. spread_values_of form (spread_at none); room = 483 }
 
 -- 01 "What may be asked": the writer's answer in numbers, by the form that it writes
-abbrev answer_by : Chosen → ℕ → List ℕ → (Form → List ℕ) → ℕ → List ℕ
+abbrev answer_by : Option Form → ℕ → List ℕ → (Form → List ℕ) → ℕ → List ℕ
 answer_by form number key values room =
     answered (first_broken (write_rules form number key (values_written form values) room)) (length_written form ∷ [])
 
@@ -91,11 +89,11 @@ pair_codes = refl
 
 -- M-100: an update of a pair without a number, with a byte 31 in its second key, with a last traded price over the largest on either
 -- side of zero, with one for which there is no text of 17 characters, and with a byte too few; minus a hundred million, and minus zero
-pub pair_answers_lem : answer_by (chosen.Form PairTwo) 0 pair (λ form. spread_values_of form (spread_at none)) 483
-    ∷ answer_by (chosen.Form PairOne) 1 (set pair 77 31) (λ form. spread_values_of form (spread_at none)) 227
-    ∷ map (λ last. answer_by (chosen.Form PairTwo) 1 pair (λ form. spread_values_of form (spread_at last)) 483) ((10 ^ 18) ∷ (minus + 10 ^ 18) ∷ (minus + 10 ^ 18 - 1) ∷ [])
-    ++ answer_by (chosen.Form PairTwo) 1 pair (λ form. spread_values_of form (spread_at none)) 482
-    ∷ map (λ last. answer_by (chosen.Form PairTwo) 1 pair (λ form. spread_values_of form (spread_at last)) 483) ((minus + 10 ^ 15) ∷ minus ∷ [])
+pub pair_answers_lem : answer_by (Some PairTwo) 0 pair (λ form. spread_values_of form (spread_at none)) 483
+    ∷ answer_by (Some PairOne) 1 (set pair 77 31) (λ form. spread_values_of form (spread_at none)) 227
+    ∷ map (λ last. answer_by (Some PairTwo) 1 pair (λ form. spread_values_of form (spread_at last)) 483) ((10 ^ 18) ∷ (minus + 10 ^ 18) ∷ (minus + 10 ^ 18 - 1) ∷ [])
+    ++ answer_by (Some PairTwo) 1 pair (λ form. spread_values_of form (spread_at none)) 482
+    ∷ map (λ last. answer_by (Some PairTwo) 1 pair (λ form. spread_values_of form (spread_at last)) 483) ((minus + 10 ^ 15) ∷ minus ∷ [])
     ≡ (10 ∷ 0 ∷ 0 ∷ 0 ∷ []) ∷ (11 ∷ 0 ∷ 9 ∷ 0 ∷ []) ∷ (12 ∷ 0 ∷ 30 ∷ 0 ∷ []) ∷ (12 ∷ 0 ∷ 30 ∷ 0 ∷ []) ∷ (12 ∷ 0 ∷ 30 ∷ 0 ∷ []) ∷ (15 ∷ 0 ∷ 0 ∷ 483 ∷ [])
     ∷ (0 ∷ 483 ∷ []) ∷ (0 ∷ 483 ∷ []) ∷ []
 unfolding write_rules length_written data_written rows_of named_rows row_text spread_quote_of spread_values_of text_of size size_in

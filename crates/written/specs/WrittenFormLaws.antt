@@ -1,5 +1,5 @@
 -- The form that is written stands with its code in the table, so that code and length name it again.
-use Rattle.std.specs.Prelude.{ℕ, ◌≡◌, refl, Bool, true, false, ◌&&◌, cond, ◌↔◌, eqb}
+use Rattle.std.specs.Prelude.{ℕ, ◌≡◌, refl, Bool, true, false, ◌&&◌, cond, ◌↔◌, eqb, Some}
 use Rattle.std.proofs.Common.{ap₂, ◌∙◌, eqb-true}
 use Rattle.std.proofs.lemmas.Bool.{false≢true}
 use mathlib.Core.List.{List, [], ◌∷◌, map, Memᴰ}
@@ -12,7 +12,6 @@ use Rattle.forms.specs.declared.forms.Form.TheVariants.{LevelOne, LevelTwo, Pair
 use Rattle.forms.specs.declared.forms.Item.{Item}
 use Rattle.forms.specs.declared.forms.Item.TheVariants.{Contract, Pair}
 use Rattle.forms.specs.declared.forms.Named.TheVariants as is
-use Rattle.forms.specs.declared.forms.Chosen.TheVariants as chosen
 use Rattle.forms.specs.declared.forms.Subject.TheVariants.{Of}
 use Rattle.forms.specs.Forms.{rows_of, subject_of, at_level, Line, table, meaning_in, meaning_of, forms_of, form_of, is_asked, written_by, written_form}
 use Rattle.forms.specs.FormsLaws.{table_told, one_of_them, asked_written, written_told}
@@ -30,12 +29,12 @@ module _ (item : Item) (level : Level) where
   Among forms = (form : Form) × Memᴰ form forms × (is_asked (subject_of form) item level ≡ true)
 
   -- what is written is what was asked for
-  asked_by : (forms : List Form) (form : Form) → written_by forms item level ≡ chosen.Form form → is_asked (subject_of form) item level ≡ true
+  asked_by : (forms : List Form) (form : Form) → written_by forms item level ≡ Some form → is_asked (subject_of form) item level ≡ true
   asked_by [] form e = absurd (clash (cc))
   asked_by (first ∷ rest) form e = go (is_asked (subject_of first) item level) refl e (asked_by rest form)
     where
-      go : (t : Bool) → is_asked (subject_of first) item level ≡ t → cond t (chosen.Form first) (written_by rest item level) ≡ chosen.Form form
-          → (written_by rest item level ≡ chosen.Form form → is_asked (subject_of form) item level ≡ true) → is_asked (subject_of form) item level ≡ true
+      go : (t : Bool) → is_asked (subject_of first) item level ≡ t → cond t (Some first) (written_by rest item level) ≡ Some form
+          → (written_by rest item level ≡ Some form → is_asked (subject_of form) item level ≡ true) → is_asked (subject_of form) item level ≡ true
       go true t e later = let own : form ≡ first = cc in rw own t
       go false t e later = later e
 
@@ -43,7 +42,7 @@ module _ (item : Item) (level : Level) where
   found_among [] e = absurd (false≢true e)
   found_among (first ∷ rest) e = go (is_asked (subject_of first) item level) refl e (found_among rest)
     where
-      go : (t : Bool) → is_asked (subject_of first) item level ≡ t → in_table (cond t (chosen.Form first) (written_by rest item level)) ≡ true
+      go : (t : Bool) → is_asked (subject_of first) item level ≡ t → in_table (cond t (Some first) (written_by rest item level)) ≡ true
           → (in_table (written_by rest item level) ≡ true → Among rest) → Among (first ∷ rest)
       go true t e later = (first, Memᴰ.head refl, t)
       go false t e later = let f = later e in (f.0, Memᴰ.tail f.1, f.2)
@@ -53,7 +52,7 @@ module _ (item : Item) (level : Level) where
   among_found (first ∷ rest) form (Memᴰ.head same) t = let own : is_asked (subject_of first) item level ≡ true = rw same at t in rw own
   among_found (first ∷ rest) form (Memᴰ.tail m) t = go (is_asked (subject_of first) item level) (among_found rest form m t)
     where
-      go : (own : Bool) → in_table (written_by rest item level) ≡ true → in_table (cond own (chosen.Form first) (written_by rest item level)) ≡ true
+      go : (own : Bool) → in_table (written_by rest item level) ≡ true → in_table (cond own (Some first) (written_by rest item level)) ≡ true
       go true later = refl
       go false later = later
 
@@ -111,7 +110,7 @@ table_exact item code level = (
 codes : map (λ (line : Line). is_code line.letter line.second) table ≡ map (λ (line : Line). true) table
 codes = refl
 
-module _ (letter second : ℕ) (item : Item) (level : Level) (form : Form) (e : written_form letter second item level ≡ chosen.Form form) where
+module _ (letter second : ℕ) (item : Item) (level : Level) (form : Form) (e : written_form letter second item level ≡ Some form) where
   has_line : HasLine table letter second form
   unfolding written_form meaning_of
   has_line = line_there table letter second form (one_of_them (forms_of letter second) item level form e)

@@ -1,9 +1,9 @@
 -- The number, the rows, and then the message.
+use Rattle.std.specs.Prelude.{Option, Some}
 use Rattle.std.proofs.Common.{arith, ◌≡◌, ap, sym, ◌∙◌, length, take, replicate, length-take}
 use Rattle.std.proofs.Math.Option.{none}
 use Rattle.laws.specs.Rules.{first_broken}
-use Rattle.forms.specs.declared.forms.Chosen.{Chosen}
-use Rattle.forms.specs.declared.forms.Chosen.TheVariants as chosen
+use Rattle.forms.specs.declared.forms.Form.{Form}
 use Rattle.forms.specs.Forms.{rows_of}
 use Rattle.forms.specs.FormsLaws.{fits}
 use Rattle.forms.specs.Rows.{data_length}
@@ -17,8 +17,8 @@ use Rattle.writer.proofs.writing.write_form.Goals as goal
 
 -- what is known once the rows are laid
 module _ (l : After-lay_rows) where
-  abbrev form : Chosen
-  form = chosen.Form l.args.form
+  abbrev form : Option Form
+  form = Some l.args.form
 
   abbrev rows : Laid
   rows = data_written form l.args.key.now l.args.values.now
@@ -52,7 +52,7 @@ module _ (t : In-Good) where
 pub returns-then-not-takes_number : goal.returns-then-not-takes_number
 returns-then-not-takes_number c =
     let a = c.args in
-    code_refused (chosen.Form a.form) a.code a.number a.key.now a.values.now a.out.now _
+    code_refused (Some a.form) a.code a.number a.key.now a.values.now a.out.now _
     (other_number a.form a.number (sym c.takes_number.ensures ∙ c.if-not-takes_number.true))
 
 pub put_message-requires : goal.put_message-requires

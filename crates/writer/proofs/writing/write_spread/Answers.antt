@@ -6,8 +6,8 @@ use Rattle.spread.specs.Spread.{spread_values_of}
 use Rattle.writer.specs.WriterLaws.{none_chosen}
 use Rattle.writer.proofs.writing.write_spread.Goals as goal
 
-pub returns-in-NoForm : goal.returns-in-NoForm
-returns-in-NoForm c =
+pub returns-in-None : goal.returns-in-None
+returns-in-None c =
     let a = c.args in
     none_chosen Pair a.code a.level a.number a.pair.now (λ form. spread_values_of form a.quote) a.out.now
-    (sym (chosen_told c.written_form.ensures) ∙ c.in-NoForm.is)
+    (sym (chosen_told c.written_form.ensures) ∙ c.in-None.is)

@@ -1,6 +1,6 @@
 -- A batch is refused by the first broken rule in document 01's order, and accepted exactly when it is good.
 use Prim.Native.Nat.{ℕ, zero, suc, ◌<◌}
-use Rattle.std.specs.Prelude.{◌≡◌, Bool, ◌↔◌, List, [], ◌∷◌, ◌++◌, leb, eqb, length, drop, Ok, Err}
+use Rattle.std.specs.Prelude.{◌≡◌, Bool, ◌↔◌, List, [], ◌∷◌, ◌++◌, leb, eqb, length, drop, Ok, Err, Result}
 use Rattle.std.proofs.Math.Path.{refl}
 use Rattle.std.proofs.Common.{ap, sym, ◌∙◌, ⊎_elim, arith}
 use Rattle.std.proofs.Math.Bool.{true, false, cond}
@@ -78,15 +78,15 @@ module _ (lists : Lists) (letter : ℕ) where
         record { holds = leb (length (gaps_after gaps bytes).runs) most; refusal = GapsOver i }
         ∷ messages_rules more lists letter (suc i) (gaps_after gaps bytes) (drop (length_of bytes) bytes)
 
-    own_first : (w : What) → (message_of lists letter bytes).what ≡ w → first_broken own ≡ as_option i (verdict_of w)
+    own_first : (w : Result What Fault) → (message_of lists letter bytes).what ≡ w → first_broken own ≡ as_option i (verdict_of w)
     own_first w e = as_first i (message_rules lists letter bytes) ∙ ap (as_option i) (sym (message_first lists letter bytes) ∙ ap verdict_of e)
 
     -- a bad message, whatever the gaps are
-    bad_first : (box : Box) (fault : Fault) → (message_of lists letter bytes).what ≡ what.Bad fault
+    bad_first : (box : Box) (fault : Fault) → (message_of lists letter bytes).what ≡ Err fault
         → refusal_of (messages_act (suc more) lists letter i box bytes) ≡ first_broken (own ++ behind)
     bad_first box fault e =
         ap refusal_of (messages_refused lists letter more i box bytes (of_fault fault i) (acts_as_lem lists letter bytes (message_of lists letter bytes) refl e box i))
-        ∙ sym (front_broken own behind (of_fault fault i) (own_first (what.Bad fault) e))
+        ∙ sym (front_broken own behind (of_fault fault i) (own_first (Err fault) e))
 
   pub messages_first : Headers lists → (count i : ℕ) (box : Box) (bytes : List ℕ) → sound_gap_row box.row ≡ true
       → refusal_of (messages_act count lists letter i box bytes) ≡ first_broken (messages_rules count lists letter i (gaps_of box.row) bytes)
@@ -110,7 +110,7 @@ module _ (lists : Lists) (letter : ℕ) where
       Decided : Type 0
       Decided = refusal_of (messages_act (suc more) lists letter i box bytes) ≡ first_broken (own more i gaps bytes ++ behind more i gaps bytes)
 
-      good : Behind → (w : What) → (message_of lists letter bytes).what ≡ w → verdict_of w ≡ Ok tt → Decided
+      good : Behind → (w : Result What Fault) → (message_of lists letter bytes).what ≡ w → verdict_of w ≡ Ok tt → Decided
       good rest w e g =
           let holds = front_holds (own more i gaps bytes) (behind more i gaps bytes) (none_hold (own more i gaps bytes) (own_first more i gaps bytes w e ∙ ap (as_option i) g)) in
           ⊎_elim (λ (d : Went (records_wanted lists) box (message_acts lists letter box i bytes) (gaps_after (gaps_of box.row) bytes)).
@@ -122,11 +122,9 @@ module _ (lists : Lists) (letter : ℕ) where
           ap refusal_of (messages_refused lists letter more i box bytes (GapsOver i) d.refuses) ∙ sym (holds ∙ rw d.many))
           (good_goes lists headers letter box i bytes (ap verdict_of e ∙ g) s)
 
-      go : Behind → (w : What) → (message_of lists letter bytes).what ≡ w → Decided
-      go rest (what.Bad fault) e = bad_first more i gaps bytes box fault e
-      go rest what.Heartbeat e = good rest what.Heartbeat e refl
-      go rest (what.PassedOver number) e = good rest (what.PassedOver number) e refl
-      go rest (what.Update number form place) e = good rest (what.Update number form place) e refl
+      go : Behind → (w : Result What Fault) → (message_of lists letter bytes).what ≡ w → Decided
+      go rest (Err fault) e = bad_first more i gaps bytes box fault e
+      go rest (Ok what) e = good rest (Ok what) e refl
 
   -- where no segment has the letter the first message is bad
   unlisted_first : segment_of lists.contracts letter ≡ none → (count : ℕ) (box : Box) (gaps : Gaps) (bytes : List ℕ) → 0 < count
@@ -134,11 +132,9 @@ module _ (lists : Lists) (letter : ℕ) where
   unlisted_first u zero box gaps bytes h = absurd (omega arith)
   unlisted_first u (suc more) box gaps bytes h = go (message_of lists letter bytes).what refl
     where
-      go : (w : What) → (message_of lists letter bytes).what ≡ w → refusal_of (messages_act (suc more) lists letter 0 box bytes) ≡ first_broken (messages_rules (suc more) lists letter 0 gaps bytes)
-      go (what.Bad fault) e = bad_first more 0 gaps bytes box fault e
-      go what.Heartbeat e = absurd (never_good lists letter u bytes (ap verdict_of e))
-      go (what.PassedOver number) e = absurd (never_good lists letter u bytes (ap verdict_of e))
-      go (what.Update number form place) e = absurd (never_good lists letter u bytes (ap verdict_of e))
+      go : (w : Result What Fault) → (message_of lists letter bytes).what ≡ w → refusal_of (messages_act (suc more) lists letter 0 box bytes) ≡ first_broken (messages_rules (suc more) lists letter 0 gaps bytes)
+      go (Err fault) e = bad_first more 0 gaps bytes box fault e
+      go (Ok _) e = absurd (never_good lists letter u bytes (ap verdict_of e))
 
   -- the rules hold exactly when the messages are good
   messages_exact : (count i : ℕ) (gaps : Gaps) (bytes : List ℕ) → Hold (messages_rules count lists letter i gaps bytes) ↔ GoodMessages count lists letter gaps bytes

@@ -1,5 +1,5 @@
 -- What an accepted batch leaves: as many messages counted as it has, and a state that is good again.
-use Rattle.std.specs.Prelude.{ℕ, zero, suc, ◌+◌, ◌*◌, ◌≤◌, ◌<◌, ◌≡◌, refl, true, List, length, drop, Ok}
+use Rattle.std.specs.Prelude.{ℕ, zero, suc, ◌+◌, ◌*◌, ◌≤◌, ◌<◌, ◌≡◌, refl, true, List, length, drop, Ok, Err, Result}
 use Rattle.std.proofs.Common.{ap, sym, ◌∙◌, ⊎_elim, arith}
 use Rattle.std.proofs.Math.Option.{Option, none, some}
 use Rattle.files.specs.File.{segments_of}
@@ -9,6 +9,7 @@ use Rattle.pairs.specs.Lists.{Lists, Headers}
 use Rattle.laws.specs.Order.{order}
 use Rattle.message.specs.declared.body.What.{What}
 use Rattle.message.specs.declared.body.What.TheVariants as what
+use Rattle.head.specs.declared.head.Fault.{Fault}
 use Rattle.head.specs.Fields.{length_of}
 use Rattle.message.specs.Reads.{message_of}
 use Rattle.message.specs.Numbers.{verdict_of}
@@ -72,12 +73,10 @@ module _ (lists : Lists) (letter : ℕ) where
           absurd (not_both (sym (messages_refused lists letter more i box bytes _ d.refuses) ∙ e)))
           (good_goes lists headers letter box i bytes g s)
 
-      go : Behind → (w : What) → (message_of lists letter bytes).what ≡ w → Leaves (records_wanted lists) (suc more) box final
-      go rest (what.Bad fault) f =
+      go : Behind → (w : Result What Fault) → (message_of lists letter bytes).what ≡ w → Leaves (records_wanted lists) (suc more) box final
+      go rest (Err fault) f =
           absurd (not_both (sym (messages_refused lists letter more i box bytes _ (acts_as_lem lists letter bytes (message_of lists letter bytes) refl f box i)) ∙ e))
-      go rest what.Heartbeat f = good rest (ap verdict_of f)
-      go rest (what.PassedOver number) f = good rest (ap verdict_of f)
-      go rest (what.Update number form place) f = good rest (ap verdict_of f)
+      go rest (Ok _) f = good rest (ap verdict_of f)
 
 -- ---- the batch
 

@@ -1,5 +1,5 @@
 -- Laws of scratch rows: what is copied or started is one, and on one the messages of a batch do what they do.
-use Rattle.std.specs.Prelude.{ℕ, zero, suc, ◌<◌, ◌≡◌, refl, List, length, Ok}
+use Rattle.std.specs.Prelude.{ℕ, zero, suc, ◌<◌, ◌≡◌, refl, List, length, Ok, Err, Result}
 use Rattle.std.proofs.Common.{ap, ap₂, sym, ◌∙◌, arith}
 use Rattle.std.proofs.lemmas.Bool.{false≢true}
 use Rattle.std.proofs.Math.Option.{Option, none, some}
@@ -12,6 +12,7 @@ use Rattle.pairs.specs.Lists.{Lists, Headers}
 use Rattle.slots.specs.declared.records.Fronts.{Fronts}
 use Rattle.message.specs.declared.body.What.{What}
 use Rattle.message.specs.declared.body.What.TheVariants as what
+use Rattle.head.specs.declared.head.Fault.{Fault}
 use Rattle.head.specs.Fields.{segment_letter_of}
 use Rattle.head.specs.HeadLaws.{listed_exact}
 use Rattle.message.specs.Reads.{message_of}
@@ -49,11 +50,9 @@ module _ (lists : Lists) (letter : ℕ) (unlisted : segment_of lists.contracts l
   refuses : (bytes : List ℕ) (i : ℕ) → (refusal : Refusal) × ((box : Box) → message_acts lists letter box i bytes ≡ refused refusal)
   refuses bytes i = go (message_of lists letter bytes).what refl
     where
-      go : (w : What) → (message_of lists letter bytes).what ≡ w → (refusal : Refusal) × ((box : Box) → message_acts lists letter box i bytes ≡ refused refusal)
-      go (what.Bad fault) e = (of_fault fault i, λ box. acts_as_lem lists letter bytes (message_of lists letter bytes) refl e box i)
-      go what.Heartbeat e = absurd (never_good bytes (ap verdict_of e))
-      go (what.PassedOver number) e = absurd (never_good bytes (ap verdict_of e))
-      go (what.Update number form place) e = absurd (never_good bytes (ap verdict_of e))
+      go : (w : Result What Fault) → (message_of lists letter bytes).what ≡ w → (refusal : Refusal) × ((box : Box) → message_acts lists letter box i bytes ≡ refused refusal)
+      go (Err fault) e = (of_fault fault i, λ box. acts_as_lem lists letter bytes (message_of lists letter bytes) refl e box i)
+      go (Ok _) e = absurd (never_good bytes (ap verdict_of e))
 
   -- so that the box doesn't matter
   any_box : (count : ℕ) (bytes : List ℕ) (box box' : Box) → 0 < count → messages_act count lists letter 0 box bytes ≡ messages_act count lists letter 0 box' bytes

@@ -1,5 +1,5 @@
 -- What one message of a batch does to gaps and counts.
-use Rattle.std.specs.Prelude.{ℕ, suc, ◌+◌, ◌≤◌, ◌≡◌, refl, Bool, true, false, cond, ◌⊎◌, List, [], ◌∷◌, leb, ltb, length, get_or, set, drop, Ok}
+use Rattle.std.specs.Prelude.{ℕ, suc, ◌+◌, ◌≤◌, ◌≡◌, refl, Bool, true, false, cond, ◌⊎◌, List, [], ◌∷◌, leb, ltb, length, get_or, set, drop, Ok, Err, Result}
 use Rattle.std.proofs.Common.{ap, sym, ◌∙◌, inl, inr, ⊎_elim, arith, le-leb, ltb-true, ltb-false, drop-set-lt}
 use Rattle.std.proofs.Math.Option.{Option, none, some}
 use Rattle.std.proofs.lemmas.Bool.{lt-leb}
@@ -19,6 +19,7 @@ use Rattle.sequence.specs.RowLaws.{laid_gaps, laid_sound, sound_row_exactly}
 use Rattle.sequence.specs.Sound.{SoundGaps}
 use Rattle.message.specs.declared.body.What.{What}
 use Rattle.message.specs.declared.body.What.TheVariants as what
+use Rattle.head.specs.declared.head.Fault.{Fault}
 use Rattle.forms.specs.declared.forms.Form.{Form}
 use Rattle.forms.specs.declared.forms.Subject.{Subject}
 use Rattle.forms.specs.declared.forms.Subject.TheVariants.{Nothing, Of}
@@ -125,7 +126,7 @@ module _ (wanted : ℕ) (box : Box) (i number : ℕ) (changed : List ℕ → Lis
           (either (full g number))
 
 -- an update changes nothing behind the cells wanted
-update_behind : (lists : Lists) → Headers lists → (letter : ℕ) (bytes : List ℕ) {number : ℕ} {form : Form} {place : ℕ} → (message_of lists letter bytes).what ≡ what.Update number form place
+update_behind : (lists : Lists) → Headers lists → (letter : ℕ) (bytes : List ℕ) {number : ℕ} {form : Form} {place : ℕ} → (message_of lists letter bytes).what ≡ Ok (what.Update number form place)
     → (cells records : List ℕ) → KeptBehind (records_wanted lists) records (updated lists (segment_of lists.contracts letter) place (subject_of form) form number cells records)
 update_behind lists headers letter bytes {number} {form} {place} e cells records =
     let item : Item = item_of lists headers letter bytes e in
@@ -134,11 +135,11 @@ update_behind lists headers letter bytes {number} {form} {place} e cells records
     (stored_behind (records_wanted lists) (slot_at lists (slot_in item (segment_of lists.contracts letter) place level.0)) number (record_of item form cells) records (record_wanted lists headers letter bytes e cells))
 
 -- what a message is tells what its number does to gaps
-abbrev Tells : What → (Gaps → ℕ → Gaps) → ℕ → Type 0
-Tells what.Heartbeat comes n = (g : Gaps) → comes g n ≡ g
-Tells (what.PassedOver number) comes n = ((g : Gaps) → comes g n ≡ arrived g n) × (number ≡ n)
-Tells (what.Update number form place) comes n = ((g : Gaps) → comes g n ≡ arrived g n) × (number ≡ n)
-Tells (what.Bad fault) comes n = Unit {0}
+abbrev Tells : Result What Fault → (Gaps → ℕ → Gaps) → ℕ → Type 0
+Tells (Ok what.Heartbeat) comes n = (g : Gaps) → comes g n ≡ g
+Tells (Ok (what.PassedOver number)) comes n = ((g : Gaps) → comes g n ≡ arrived g n) × (number ≡ n)
+Tells (Ok (what.Update number form place)) comes n = ((g : Gaps) → comes g n ≡ arrived g n) × (number ≡ n)
+Tells (Err fault) comes n = Unit {0}
 
 subject_tells : (s : Subject) (form : Form) (n : ℕ) (p : Item → Option ℕ) → Tells (of_subject s n form p) (arrived_for s) n
 subject_tells Nothing form n p = λ g. refl
@@ -178,9 +179,9 @@ module _ (lists : Lists) (headers : Headers lists) (letter : ℕ) (box : Box) (i
   pub good_goes : sound_gap_row box.row ≡ true → Goes
   good_goes s = go (message_of lists letter bytes).what refl told
     where
-      go : (w : What) → (message_of lists letter bytes).what ≡ w → Tells w (arrived_as (form_in bytes)) (number_of bytes) → Goes
-      go (what.Bad fault) e t = absurd (unlike (sym (ap verdict_of e) ∙ good))
-      go what.Heartbeat e t =
+      go : (w : Result What Fault) → (message_of lists letter bytes).what ≡ w → Tells w (arrived_as (form_in bytes)) (number_of bytes) → Goes
+      go (Err fault) e t = absurd (unlike (sym (ap verdict_of e) ∙ good))
+      go (Ok what.Heartbeat) e t =
           let all = (sound_row_exactly box.row).0 s in
           inl
           (record {
@@ -192,10 +193,10 @@ module _ (lists : Lists) (headers : Headers lists) (letter : ℕ) (box : Box) (i
             counts = omega arith;
             records_kept = all_kept (records_wanted lists) box.records;
           })
-      go (what.PassedOver number) e t =
+      go (Ok (what.PassedOver number)) e t =
           rw (t.0 (gaps_of box.row), ← t.1, acts_as_lem lists letter bytes (message_of lists letter bytes) refl e box i)
           (number_goes (records_wanted lists) box i number (λ records. records) (all_kept (records_wanted lists) box.records) s)
-      go (what.Update number form place) e t =
+      go (Ok (what.Update number form place)) e t =
           rw (t.0 (gaps_of box.row), ← t.1, acts_as_lem lists letter bytes (message_of lists letter bytes) refl e box i)
           (number_goes (records_wanted lists) box i number (updated lists (segment_of lists.contracts letter) place (subject_of form) form number (message_of lists letter bytes).cells)
           (update_behind lists headers letter bytes e (message_of lists letter bytes).cells box.records) s)

@@ -1,5 +1,5 @@
 -- What a message of a segment does, by what it is. Of the laws on histories this one alone looks into an update.
-use Rattle.std.specs.Prelude.{ℕ, ◌<◌, ◌≡◌, refl, true, List, eqb, Ok}
+use Rattle.std.specs.Prelude.{ℕ, ◌<◌, ◌≡◌, refl, true, List, eqb, Ok, Err, Result}
 use Rattle.std.proofs.Common.{sym, ap, ap₂, subst, ◌∙◌}
 use Rattle.std.proofs.Math.Option.{Option, none, some}
 use Rattle.lookup.specs.Lookup.{segment_of}
@@ -88,8 +88,8 @@ module _ (lists : Lists) (letter i : ℕ) (bytes : List ℕ) where
   Numbered = (is_numbered m.what ≡ true) × (verdict_of m.what ≡ Ok tt)
 
   pub data Does : Type 0 where
-    is_bad : (fault : Fault) → m.what ≡ what.Bad fault → Does
-    beats : m.what ≡ what.Heartbeat → Does
+    is_bad : (fault : Fault) → m.what ≡ Err fault → Does
+    beats : m.what ≡ Ok what.Heartbeat → Does
     passes : Numbered → slot_of i m.what ≡ none → Acts (λ records. records) → Does
     updates : (slot : Slot) → Numbered → slot_of i m.what ≡ some slot → Acts (stored_in lists slot m) → Updates lists bytes m slot → Does
 
@@ -97,13 +97,13 @@ module _ (lists : Lists) (letter i : ℕ) (bytes : List ℕ) where
     pub does : Does
     does = go m.what refl
       where
-        go : (w : What) → m.what ≡ w → Does
-        go (what.Bad fault) e = is_bad fault e
-        go what.Heartbeat e = beats e
-        go (what.PassedOver number) e =
+        go : (w : Result What Fault) → m.what ≡ w → Does
+        go (Err fault) e = is_bad fault e
+        go (Ok what.Heartbeat) e = beats e
+        go (Ok (what.PassedOver number)) e =
             passes (ap is_numbered e, ap verdict_of e) (ap (slot_of i) e)
             (λ box k. acts_as_lem lists letter bytes m refl e box k ∙ ap (λ (n : ℕ). number_acts box k n (λ records. records)) (sym (ap number_in e)))
-        go (what.Update number form place) e =
+        go (Ok (what.Update number form place)) e =
             let u = update_told lists letter bytes (ap verdict_of e) number form place e in
             let item : Item = u.item in
             let level : Level = u.tells.0 in

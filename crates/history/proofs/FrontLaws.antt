@@ -1,7 +1,7 @@
 -- What a call answers, and what it leaves of the wanted front, depends on the wanted front of the memory alone: it is what it
 -- answers and leaves where no cell more is lent.
 use Prim.Native.Nat.{ℕ, zero, suc, ◌+◌, ◌*◌, ◌≤◌, ◌<◌}
-use Rattle.std.specs.Prelude.{◌≡◌, Bool, eqb, get_or, take, drop, set, replicate}
+use Rattle.std.specs.Prelude.{◌≡◌, Bool, eqb, get_or, take, drop, set, replicate, Ok, Err, Result}
 use Rattle.std.proofs.Math.Path.{refl, sym, ap, ap₂, subst}
 use Rattle.std.proofs.Common.{◌∙◌, arith, le-leb, get_or-take, length-take-le}
 use Rattle.std.proofs.Math.Bool.{true, false, cond}
@@ -39,6 +39,7 @@ use Rattle.sequence.specs.RowLaid.{laid, sound_gap_row}
 use Rattle.sequence.specs.RowLaws.{laid_sound, sound_row_exactly}
 use Rattle.message.specs.declared.body.What.{What}
 use Rattle.message.specs.declared.body.What.TheVariants as what
+use Rattle.head.specs.declared.head.Fault.{Fault}
 use Rattle.head.specs.Fields.{length_of}
 use Rattle.head.specs.Tests.{is_some}
 use Rattle.message.specs.Message.{key_place}
@@ -121,12 +122,12 @@ module _ (lists : Lists) (headers : Headers lists) (letter : ℕ) where
   message_front : (box : Box) (i : ℕ) (bytes : List ℕ) → message_acts lists letter (front_box v box) i bytes ≡ front_acts v (message_acts lists letter box i bytes)
   message_front box i bytes = go (message_of lists letter bytes).what refl
     where
-      go : (w : What) → (message_of lists letter bytes).what ≡ w → message_acts lists letter (front_box v box) i bytes ≡ front_acts v (message_acts lists letter box i bytes)
-      go (what.Bad fault) e = acts_as_lem lists letter bytes (message_of lists letter bytes) refl e (front_box v box) i ∙ sym (ap (front_acts v) (acts_as_lem lists letter bytes (message_of lists letter bytes) refl e box i))
-      go what.Heartbeat e = acts_as_lem lists letter bytes (message_of lists letter bytes) refl e (front_box v box) i ∙ sym (ap (front_acts v) (acts_as_lem lists letter bytes (message_of lists letter bytes) refl e box i))
-      go (what.PassedOver number) e =
+      go : (w : Result What Fault) → (message_of lists letter bytes).what ≡ w → message_acts lists letter (front_box v box) i bytes ≡ front_acts v (message_acts lists letter box i bytes)
+      go (Err fault) e = acts_as_lem lists letter bytes (message_of lists letter bytes) refl e (front_box v box) i ∙ sym (ap (front_acts v) (acts_as_lem lists letter bytes (message_of lists letter bytes) refl e box i))
+      go (Ok what.Heartbeat) e = acts_as_lem lists letter bytes (message_of lists letter bytes) refl e (front_box v box) i ∙ sym (ap (front_acts v) (acts_as_lem lists letter bytes (message_of lists letter bytes) refl e box i))
+      go (Ok (what.PassedOver number)) e =
           acts_as_lem lists letter bytes (message_of lists letter bytes) refl e (front_box v box) i ∙ number_front v box i number (λ records. records) refl ∙ sym (ap (front_acts v) (acts_as_lem lists letter bytes (message_of lists letter bytes) refl e box i))
-      go (what.Update number form place) e =
+      go (Ok (what.Update number form place)) e =
           let item : Item = item_of lists headers letter bytes e in
           let level = tells_of lists headers letter bytes e in
           let cells : List ℕ = (message_of lists letter bytes).cells in

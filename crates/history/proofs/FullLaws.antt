@@ -1,6 +1,6 @@
 -- Demand 3, "A call is refused for gaps exactly when no earlier rule refuses it and over 64 runs would stand".
 use Prim.Native.Nat.{ℕ, zero, suc, ◌+◌, ◌≤◌}
-use Rattle.std.specs.Prelude.{◌≡◌, refl, Bool, true, false, cond, ◌&&◌, List, ◌∷◌, ◌↔◌, leb, ltb, eqb, length, drop, Ok}
+use Rattle.std.specs.Prelude.{◌≡◌, refl, Bool, true, false, cond, ◌&&◌, List, ◌∷◌, ◌↔◌, leb, ltb, eqb, length, drop, Ok, Err, Result}
 use Rattle.std.proofs.Common.{sym, subst, ◌∙◌, arith, ltb-true}
 use Rattle.std.proofs.Math.Path.{ap}
 use Rattle.std.proofs.Math.Option.{Option, none, some}
@@ -219,14 +219,12 @@ unfolding messages_act
 unlisted_not_gaps lists letter u zero box bytes i e = end_not_gaps box i (eqb (length bytes) 0) e
 unlisted_not_gaps lists letter u (suc more) box bytes i e = go (message_of lists letter bytes).what refl
   where
-    go : (w : What) → (message_of lists letter bytes).what ≡ w → ⊥
-    go (what.Bad fault) f =
+    go : (w : Result What Fault) → (message_of lists letter bytes).what ≡ w → ⊥
+    go (Err fault) f =
         fault_not_gaps fault 0 i
         (same_refusal
         (sym (messages_refused lists letter more 0 box bytes (of_fault fault 0) (acts_as_lem lists letter bytes (message_of lists letter bytes) refl f box 0)) ∙ e))
-    go what.Heartbeat f = never_good lists letter u bytes (ap verdict_of f)
-    go (what.PassedOver number) f = never_good lists letter u bytes (ap verdict_of f)
-    go (what.Update number form place) f = never_good lists letter u bytes (ap verdict_of f)
+    go (Ok _) f = never_good lists letter u bytes (ap verdict_of f)
 
 module _ {starts : List ℕ} {lent : Lent} {past : List Event} (r : Reached starts lent past) (batch : List ℕ) (i : ℕ) where
   abbrev letter : ℕ

@@ -1,6 +1,6 @@
 -- A batch is judged, after every history, as the machine judges it, and the machine judges a batch in one way.
 use Prim.Native.Nat.{ℕ, zero, suc, ◌≤◌, ◌<◌}
-use Rattle.std.specs.Prelude.{◌≡◌, Bool, not, cond, ◌&&◌, List, ◌↔◌, length, get_or, drop}
+use Rattle.std.specs.Prelude.{◌≡◌, Bool, not, cond, ◌&&◌, List, ◌↔◌, length, get_or, drop, Ok, Err, Result}
 use Rattle.std.proofs.Math.Path.{refl}
 use Rattle.std.proofs.Common.{sym, ap, subst, ◌∙◌, inr, arith}
 use Rattle.std.proofs.Math.Bool.{true, false}
@@ -134,14 +134,12 @@ unlisted : (lists : Lists) (letter : ℕ) → segment_of lists.contracts letter 
 unlisted lists letter u m same zero some_messages box bytes r e = absurd (omega arith)
 unlisted lists letter u m same (suc more) some_messages box bytes r e = go (message_of lists letter bytes).what refl
   where
-    go : (w : What) → (message_of lists letter bytes).what ≡ w → FirstRefused (suc more) letter 0 bytes m r
-    go (what.Bad fault) f =
+    go : (w : Result What Fault) → (message_of lists letter bytes).what ≡ w → FirstRefused (suc more) letter 0 bytes m r
+    go (Err fault) f =
         let stops = messages_refused lists letter more 0 box bytes (of_fault fault 0) (acts_as_lem lists letter bytes (message_of lists letter bytes) refl f box 0) in
         let both : refused (of_fault fault 0) ≡ refused r = sym stops ∙ e in
         inl (fault, rw same ((fault_exact lists letter bytes fault).0 f), sym (same_refusal both))
-    go what.Heartbeat f = absurd (never_good lists letter u bytes (ap verdict_of f))
-    go (what.PassedOver number) f = absurd (never_good lists letter u bytes (ap verdict_of f))
-    go (what.Update number form place) f = absurd (never_good lists letter u bytes (ap verdict_of f))
+    go (Ok _) f = absurd (never_good lists letter u bytes (ap verdict_of f))
 
 -- ---- a whole batch
 

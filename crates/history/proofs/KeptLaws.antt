@@ -1,5 +1,5 @@
 -- Storing an update keeps the records beside what the past says.
-use Rattle.std.specs.Prelude.{ℕ, suc, ◌+◌, ◌≤◌, ◌≡◌, refl, true, false, cond, List, ◌∷◌, ◌⊎◌, ltb, eqb, length, get_or, take, drop}
+use Rattle.std.specs.Prelude.{ℕ, suc, ◌+◌, ◌≤◌, ◌≡◌, refl, true, false, cond, List, ◌∷◌, ◌⊎◌, ltb, eqb, length, get_or, take, drop, Ok, Err, Result}
 use Rattle.std.proofs.Common.{sym, ap, subst, ◌∙◌, true≢false, inl, inr, ⊎_elim, arith, lt-ltb, eq-eqb, ne_eqb, eqb-true}
 use Rattle.std.proofs.Math.Option.{Option, none, some}
 use Rattle.std.proofs.lemmas.List.Edits.{sets}
@@ -16,6 +16,7 @@ use Rattle.pairs.specs.Lists.{Headers}
 use Rattle.forms.specs.Forms.{same_level, same_item, subject_of}
 use Rattle.message.specs.declared.body.What.{What}
 use Rattle.message.specs.declared.body.What.TheVariants as what
+use Rattle.head.specs.declared.head.Fault.{Fault}
 use Rattle.message.specs.Message.{Message}
 use Rattle.stores.specs.Stored.{stored}
 use Rattle.slots.specs.Slots.{Slot, slot as record_slot, slot_for, SlotListed, records_wanted, cells_in_front, level_cells}
@@ -57,11 +58,11 @@ slot_itself (record_slot Pair i p One) = simp (eq-eqb i i refl, eq-eqb p p refl)
 slot_itself (record_slot Pair i p Two) = simp (eq-eqb i i refl, eq-eqb p p refl)
 
 -- a message of another segment is no update of a slot
-pub not_its : (slot : Slot) (i : ℕ) (w : What) → (i ≡ segment_in slot → ⊥) → is_slot slot (slot_of i w) ≡ false
-not_its (record_slot a j p x) i what.Heartbeat n = refl
-not_its (record_slot a j p x) i (what.PassedOver number) n = refl
-not_its (record_slot a j p x) i (what.Bad fault) n = refl
-not_its (record_slot a j p x) i (what.Update number form place) n = go (subject_of form)
+pub not_its : (slot : Slot) (i : ℕ) (w : Result What Fault) → (i ≡ segment_in slot → ⊥) → is_slot slot (slot_of i w) ≡ false
+not_its (record_slot a j p x) i (Ok what.Heartbeat) n = refl
+not_its (record_slot a j p x) i (Ok (what.PassedOver number)) n = refl
+not_its (record_slot a j p x) i (Err fault) n = refl
+not_its (record_slot a j p x) i (Ok (what.Update number form place)) n = go (subject_of form)
   where
     go : (s : Subject) → is_slot (record_slot a j p x) (slot_for s i place) ≡ false
     go Nothing = refl

@@ -1,5 +1,5 @@
 -- After every history a record shows what a message of an accepted batch says.
-use Rattle.std.specs.Prelude.{ℕ, zero, suc, ◌≡◌, refl, Bool, true, false, cond, ◌⊎◌, eqb, drop}
+use Rattle.std.specs.Prelude.{ℕ, zero, suc, ◌≡◌, refl, Bool, true, false, cond, ◌⊎◌, eqb, drop, Result}
 use Rattle.std.proofs.Common.{sym, ap, subst, ◌∙◌, true≢false, inl, inr, ⊎_elim}
 use mathlib.Core.List.Memᴰ
 use mathlib.Core.List.{List, [], ◌∷◌, Memᴰ}
@@ -20,6 +20,7 @@ use Rattle.head.specs.HeadLaws.{session_by}
 use Rattle.forms.specs.declared.forms.Item.{Item}
 use Rattle.pairs.specs.Items.{file_of, habit_of}
 use Rattle.message.specs.declared.body.What.{What}
+use Rattle.head.specs.declared.head.Fault.{Fault}
 use Rattle.head.specs.Fields.{length_of}
 use Rattle.message.specs.Message.{Message, key_place, place_in}
 use Rattle.message.specs.Reads.{message_of}
@@ -189,7 +190,7 @@ record_listed {item} {lent} {letter} {number} {session} {key} {level} p e =
     (found.0, there.0, found.1, found.2)
 
 -- an update of a slot has that slot
-pub own_slot : (slot : Slot) (what : What) → is_of slot what ≡ true → slot_of (segment_in slot) what ≡ some slot
+pub own_slot : (slot : Slot) (what : Result What Fault) → is_of slot what ≡ true → slot_of (segment_in slot) what ≡ some slot
 own_slot slot what is = go (slot_of (segment_in slot) what) refl is
   where
     go : (o : Option Slot) → slot_of (segment_in slot) what ≡ o → is_slot slot o ≡ true → slot_of (segment_in slot) what ≡ some slot

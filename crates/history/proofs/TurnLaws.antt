@@ -1,5 +1,5 @@
 -- A message that acts keeps the box beside what the past says, and so do messages that act in turn.
-use Rattle.std.specs.Prelude.{ℕ, zero, suc, ◌≡◌, refl, Bool, true, false, cond, List, [], ◌∷◌, ◌⊎◌, ltb, length, get_or, drop}
+use Rattle.std.specs.Prelude.{ℕ, zero, suc, ◌≡◌, refl, Bool, true, false, cond, List, [], ◌∷◌, ◌⊎◌, ltb, length, get_or, drop, Ok, Err, Result}
 use Rattle.std.proofs.Common.{sym, ap, subst, ◌∙◌, true≢false, inl, inr, ⊎_elim, arith, eq-eqb, ne_eqb}
 use Rattle.std.proofs.Math.Option.{Option, some}
 use Rattle.std.proofs.lemmas.List.Edits.{sets}
@@ -16,6 +16,7 @@ use Rattle.sequence.specs.RowLaid.{laid}
 use Rattle.sequence.specs.RowLaws.{laid_gaps, laid_sound, sound_row_exactly}
 use Rattle.message.specs.declared.body.What.{What}
 use Rattle.message.specs.declared.body.What.TheVariants as what
+use Rattle.head.specs.declared.head.Fault.{Fault}
 use Rattle.head.specs.Fields.{length_of}
 use Rattle.message.specs.Message.{Message}
 use Rattle.message.specs.Reads.{message_of}
@@ -132,11 +133,11 @@ stored_long at number cells records = go (ltb (get_or records at 0) number)
     go true = length-sets records at (number ∷ cells)
     go false = refl
 
-no_beat : (w : What) → is_numbered w ≡ true → is_heartbeat w ≡ false
-no_beat what.Heartbeat e = absurd (true≢false (sym e))
-no_beat (what.PassedOver number) e = refl
-no_beat (what.Update number level place) e = refl
-no_beat (what.Bad fault) e = refl
+no_beat : (w : Result What Fault) → is_numbered w ≡ true → is_heartbeat w ≡ false
+no_beat (Ok what.Heartbeat) e = absurd (true≢false (sym e))
+no_beat (Ok (what.PassedOver number)) e = refl
+no_beat (Ok (what.Update number level place)) e = refl
+no_beat (Err fault) e = refl
 
 module _ (lists : Lists) (starts : List ℕ) (letter i : ℕ) (listed : segment_of lists.contracts letter ≡ some i) (past : List Event) (box : Box) (f : BoxFits lists starts i past box) where
   abbrev begin : ℕ
@@ -161,7 +162,7 @@ module _ (lists : Lists) (starts : List ℕ) (letter i : ℕ) (listed : segment_
       }
 
   -- a heartbeat
-  beat_turns : (m : Message) → m.what ≡ what.Heartbeat → Turned lists starts i past box (m ∷ []) (beat_box box)
+  beat_turns : (m : Message) → m.what ≡ Ok what.Heartbeat → Turned lists starts i past box (m ∷ []) (beat_box box)
   beat_turns m e =
       let none_new : comes_new begin earlier (wrote_off_in i past) m ≡ false = simp e in
       record {

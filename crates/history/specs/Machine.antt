@@ -1,6 +1,6 @@
 -- The box as an abstract machine: its state as sets and maps, what each call answers in terms of it, and the state that it leaves.
 -- The demands read from this page. `RefinesLaws` proves that the calls refine it, after every history.
-use Rattle.std.specs.Prelude.{ℕ, zero, suc, ◌+◌, ◌-◌, ◌*◌, ◌≤◌, ◌<◌, max, ◌≡◌, Bool, true, false, not, cond, ◌&&◌, ◌||◌, List, [], ◌∷◌, ◌⊎◌, leb, ltb, eqb, length, take, drop}
+use Rattle.std.specs.Prelude.{ℕ, zero, suc, ◌+◌, ◌-◌, ◌*◌, ◌≤◌, ◌<◌, max, ◌≡◌, Bool, true, false, not, cond, ◌&&◌, ◌||◌, List, [], ◌∷◌, ◌⊎◌, leb, ltb, eqb, length, take, drop, Ok, Err, Result}
 use Rattle.std.proofs.Math.Option.{Option, none, some}
 use Rattle.laws.specs.Rules.{Broken}
 use Rattle.lookup.specs.Lookup.{segment_of}
@@ -15,7 +15,7 @@ use Rattle.forms.specs.declared.forms.Form.{Form}
 use Rattle.forms.specs.declared.forms.Form.TheVariants as form
 use Rattle.forms.specs.Forms.{session_of}
 use Rattle.message.specs.declared.body.What.{What}
-use Rattle.message.specs.declared.body.What.TheVariants.{Heartbeat, PassedOver, Update, Bad}
+use Rattle.message.specs.declared.body.What.TheVariants.{Heartbeat, PassedOver, Update}
 use Rattle.head.specs.declared.head.Fault.{Fault}
 use Rattle.head.specs.Fields.{length_of}
 use Rattle.message.specs.Good.{GoodMessage, KeyListed}
@@ -47,29 +47,29 @@ use Rattle.history.specs.Updates.{segment_in, item_in, level_in, letter_in, key_
 -- ---- words: what is taken, what is missing
 
 -- 01 "Sequence and gaps": "A heartbeat has number 0 and changes nothing; other messages have 1 or more"
-abbrev pub is_numbered : What → Bool
-is_numbered Heartbeat = false
-is_numbered (PassedOver number) = true
-is_numbered (Update number form place) = true
-is_numbered (Bad fault) = false
+abbrev pub is_numbered : Result What Fault → Bool
+is_numbered (Ok Heartbeat) = false
+is_numbered (Ok (PassedOver number)) = true
+is_numbered (Ok (Update number form place)) = true
+is_numbered (Err fault) = false
 
 -- 01 "Sequence and gaps": a heartbeat changes nothing
-abbrev pub is_heartbeat : What → Bool
-is_heartbeat Heartbeat = true
-is_heartbeat (PassedOver number) = false
-is_heartbeat (Update number form place) = false
-is_heartbeat (Bad fault) = false
+abbrev pub is_heartbeat : Result What Fault → Bool
+is_heartbeat (Ok Heartbeat) = true
+is_heartbeat (Ok (PassedOver number)) = false
+is_heartbeat (Ok (Update number form place)) = false
+is_heartbeat (Err fault) = false
 
 -- 01 "The message": its sequence number
 abbrev pub sequence_number : Message → ℕ
 sequence_number m = number_in m.what
 
 -- 01 "The message": the form of an update, by its code and its length
-abbrev pub what_form : What → Form
-what_form Heartbeat = form.Heartbeat
-what_form (PassedOver number) = form.Heartbeat
-what_form (Update number own place) = own
-what_form (Bad fault) = form.Heartbeat
+abbrev pub what_form : Result What Fault → Form
+what_form (Ok Heartbeat) = form.Heartbeat
+what_form (Ok (PassedOver number)) = form.Heartbeat
+what_form (Ok (Update number own place)) = own
+what_form (Err fault) = form.Heartbeat
 
 -- 01 "The message": the form that a message was sent in
 abbrev pub form_sent : Message → Form

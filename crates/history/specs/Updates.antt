@@ -1,5 +1,5 @@
 -- Updates by their slots: 01 "Sequence and gaps", "What may be asked".
-use Rattle.std.specs.Prelude.{ℕ, Bool, false, ◌&&◌, List, eqb}
+use Rattle.std.specs.Prelude.{ℕ, Bool, false, ◌&&◌, List, eqb, Ok, Err, Result}
 use Rattle.std.proofs.Math.Option.{Option, none, some}
 use Rattle.forms.specs.declared.rows.Level.{Level}
 use Rattle.forms.specs.declared.forms.Item.{Item}
@@ -7,7 +7,8 @@ use Rattle.forms.specs.Forms.{same_level, same_item, subject_of}
 use Rattle.files.specs.File.{letter_at, key_by}
 use Rattle.pairs.specs.Lists.{Lists}
 use Rattle.message.specs.declared.body.What.{What}
-use Rattle.message.specs.declared.body.What.TheVariants.{Heartbeat, PassedOver, Update, Bad}
+use Rattle.message.specs.declared.body.What.TheVariants.{Heartbeat, PassedOver, Update}
+use Rattle.head.specs.declared.head.Fault.{Fault}
 use Rattle.pairs.specs.Items.{file_of, habit_of}
 use Rattle.slots.specs.Slots.{Slot, slot as record_slot, slot_for}
 
@@ -16,11 +17,11 @@ abbrev pub same_slot : Slot → Slot → Bool
 same_slot (record_slot item i place level) (record_slot other j p l) = eqb i j && eqb place p && same_level level l && same_item item other
 
 -- 01 "Sequence and gaps": an update of segment i replaces "its contract's record at its level": that one's slot, M-100: or its pair's
-abbrev pub slot_of : ℕ → What → Option Slot
-slot_of i Heartbeat = none
-slot_of i (PassedOver number) = none
-slot_of i (Update number form place) = slot_for (subject_of form) i place
-slot_of i (Bad fault) = none
+abbrev pub slot_of : ℕ → Result What Fault → Option Slot
+slot_of i (Ok Heartbeat) = none
+slot_of i (Ok (PassedOver number)) = none
+slot_of i (Ok (Update number form place)) = slot_for (subject_of form) i place
+slot_of i (Err fault) = none
 
 -- lent memory: the segment of a slot
 abbrev pub segment_in : Slot → ℕ
@@ -48,5 +49,5 @@ is_slot own none = false
 is_slot own (some other) = same_slot other own
 
 -- 01 "Sequence and gaps": an update of the slot's contract or pair and level, among messages of the slot's segment
-abbrev pub is_of : Slot → What → Bool
+abbrev pub is_of : Slot → Result What Fault → Bool
 is_of own what = is_slot own (slot_of (segment_in own) what)

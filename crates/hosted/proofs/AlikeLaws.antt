@@ -1,6 +1,6 @@
 -- Boxes whose gaps are the same answer a batch and a write-off alike, whatever else stands in their rows and records.
 use Prim.Native.Nat.{ℕ, zero, suc}
-use Rattle.std.specs.Prelude.{◌≡◌, refl, Bool, true, false, cond, eqb, length, drop}
+use Rattle.std.specs.Prelude.{◌≡◌, refl, Bool, true, false, cond, eqb, length, drop, Ok, Err, Result}
 use Rattle.std.proofs.Math.Path.{sym, ap}
 use Rattle.std.proofs.Common.{subst, ◌∙◌}
 use mathlib.Core.List.{List, [], ◌∷◌, ◌++◌}
@@ -17,6 +17,7 @@ use Rattle.sequence.specs.RowLaid.{laid}
 use Rattle.sequence.specs.RowLaws.{laid_gaps}
 use Rattle.message.specs.declared.body.What.{What}
 use Rattle.message.specs.declared.body.What.TheVariants as what
+use Rattle.head.specs.declared.head.Fault.{Fault}
 use Rattle.head.specs.Fields.{length_of}
 use Rattle.message.specs.Reads.{message_of}
 use Rattle.state.specs.declared.refusal.Refusal.{Refusal}
@@ -83,11 +84,11 @@ module _ (a b : Box) (same : Alike a b) where
       cells : List ℕ
       cells = (message_of lists letter bytes).cells
 
-      go : (w : What) → BothAct (what_acts lists letter a i w cells) (what_acts lists letter b i w cells)
-      go (what.Bad fault) = refl
-      go what.Heartbeat = record { gaps = same.gaps; taken = same.taken; old = same.old; heartbeats = ap suc same.heartbeats }
-      go (what.PassedOver number) = number_alike i number (λ records. records) (λ records. records)
-      go (what.Update number form place) =
+      go : (w : Result What Fault) → BothAct (what_acts lists letter a i w cells) (what_acts lists letter b i w cells)
+      go (Err fault) = refl
+      go (Ok what.Heartbeat) = record { gaps = same.gaps; taken = same.taken; old = same.old; heartbeats = ap suc same.heartbeats }
+      go (Ok (what.PassedOver number)) = number_alike i number (λ records. records) (λ records. records)
+      go (Ok (what.Update number form place)) =
           number_alike i number (updated lists (segment_of lists.contracts letter) place (subject_of form) form number cells) (updated lists (segment_of lists.contracts letter) place (subject_of form) form number cells)
 
 -- ---- the messages of a batch

@@ -1,5 +1,5 @@
 -- Listing gaps and writing off by a segment's row: what the row's own call promises is what is promised of the rows.
-use Rattle.std.specs.Prelude.{ℕ, ◌≤◌, ◌<◌, length}
+use Rattle.std.specs.Prelude.{Result, Ok, Err, Some, None, ℕ, ◌≤◌, ◌<◌, length}
 use Rattle.std.proofs.Math.Path.{◌≡◌, refl, ap, sym}
 use Rattle.std.proofs.Common.{◌∙◌, ⊎_elim, arith}
 use mathlib.Core.List.{List, [], ◌∷◌}
@@ -17,9 +17,9 @@ use Rattle.sequence.specs.Row.{gaps_of}
 use Rattle.sequence.specs.RowLaid.{laid}
 use Rattle.sequence.specs.Runs.{Run}
 use Rattle.sequence.specs.Promises.{ListedGaps, WroteOff}
+use Rattle.sequence.specs.declared.Run.{Run as Removed}
 use Rattle.sequence.specs.declared.GapsListed.{GapsListed as RowListed}
-use Rattle.sequence.specs.declared.GapsListed.TheVariants as row_listed
-use Rattle.sequence.specs.declared.WriteOff.TheVariants as row_off
+use Rattle.sequence.specs.declared.Short.{Short}
 use Rattle.state.specs.declared.refusal.Refusal.{Refusal}
 use Rattle.state.specs.declared.refusal.Refusal.TheVariants.{Memory, NoGap}
 use Rattle.state.specs.declared.answers.Listed.{Listed}
@@ -103,7 +103,7 @@ module _ (lent : Lent) (letter : ℕ) where
             cells_left = l ∙ sym (ap (λ (o : Option Refusal). left_by o cells (runs_put gaps cells)) short);
           }
 
-      module _ (answer : RowListed) (cells' : List ℕ) (own : ListedGaps (gap_row_of lent.rows i) cells answer cells') where
+      module _ (answer : Result RowListed Short) (cells' : List ℕ) (own : ListedGaps (gap_row_of lent.rows i) cells answer cells') where
         told : row_listed_numbers answer ≡ list_answer gaps (length cells)
         told = own.says ∙ ap (λ (g : Gaps). list_answer g (length cells)) (sym gaps_are)
 
@@ -122,27 +122,27 @@ module _ (lent : Lent) (letter : ℕ) where
             let test = lt-leb (wanted gaps.runs) (length cells) h in
             (rw test at told, rw test at left)
 
-      pub listed_runs : (highest runs : ℕ) (cells' : List ℕ) → ListedGaps (gap_row_of lent.rows i) cells (row_listed.Runs highest runs) cells'
-          → promised (Listed.Runs highest runs) cells'
-      listed_runs highest runs cells' own =
+      pub listed_runs : (listed : RowListed) (cells' : List ℕ) → ListedGaps (gap_row_of lent.rows i) cells (Ok listed) cells'
+          → promised (Listed.Runs listed.highest listed.runs) cells'
+      listed_runs listed cells' own =
           ⊎_elim (λ (h : wanted gaps.runs ≤ length cells).
-          let t = told_in (row_listed.Runs highest runs) cells' own h in
-          listed_in (Listed.Runs highest runs) cells' h t.0 t.1)
+          let t = told_in (Ok listed) cells' own h in
+          listed_in (Listed.Runs listed.highest listed.runs) cells' h t.0 t.1)
           (λ (h : length cells < wanted gaps.runs).
-          let t = told_out (row_listed.Runs highest runs) cells' own h in
-          listed_out (Listed.Runs highest runs) cells' h (cc) t.1)
+          let t = told_out (Ok listed) cells' own h in
+          listed_out (Listed.Runs listed.highest listed.runs) cells' h (cc) t.1)
           (order (wanted gaps.runs) (length cells))
 
-      pub listed_short : (lacking : ℕ) (cells' : List ℕ) → ListedGaps (gap_row_of lent.rows i) cells (row_listed.Short lacking) cells'
-          → promised (Listed.Refused (Memory lacking)) cells'
-      listed_short lacking cells' own =
+      pub listed_short : (short : Short) (cells' : List ℕ) → ListedGaps (gap_row_of lent.rows i) cells (Err short) cells'
+          → promised (Listed.Refused (Memory short.wanted)) cells'
+      listed_short short cells' own =
           ⊎_elim (λ (h : wanted gaps.runs ≤ length cells).
-          let t = told_in (row_listed.Short lacking) cells' own h in
-          listed_in (Listed.Refused (Memory lacking)) cells' h (cc) t.1)
+          let t = told_in (Err short) cells' own h in
+          listed_in (Listed.Refused (Memory short.wanted)) cells' h (cc) t.1)
           (λ (h : length cells < wanted gaps.runs).
-          let t = told_out (row_listed.Short lacking) cells' own h in
-          let same : lacking ≡ wanted gaps.runs = cc in
-          listed_out (Listed.Refused (Memory lacking)) cells' h (ap (λ (n : ℕ). refusal_numbers (Memory n)) same) t.1)
+          let t = told_out (Err short) cells' own h in
+          let same : short.wanted ≡ wanted gaps.runs = cc in
+          listed_out (Listed.Refused (Memory short.wanted)) cells' h (ap (λ (n : ℕ). refusal_numbers (Memory n)) same) t.1)
           (order (wanted gaps.runs) (length cells))
 
     -- ---- writing off
@@ -163,17 +163,17 @@ module _ (lent : Lent) (letter : ℕ) where
     off_broken g =
         last_broken (segment_rules lent letter) (record { holds = ltb 0 (length gaps.runs); refusal = NoGap }) e (rw g)
 
-    pub off_removed : (first last : ℕ) (row' : List ℕ) → WroteOff (gap_row_of lent.rows i) (row_off.Removed first last) row'
-        → WroteOffRun lent letter (WrittenOff.Removed first last) (lends lent.lists (with_gap_row lent.rows i row') lent.records)
+    pub off_removed : (run : Removed) (row' : List ℕ) → WroteOff (gap_row_of lent.rows i) (Some run) row'
+        → WroteOffRun lent letter (WrittenOff.Removed run.first run.last) (lends lent.lists (with_gap_row lent.rows i row') lent.records)
     unfolding write_off_answer
-    off_removed first last row' own = go gaps.runs refl (own.says ∙ ap (λ (g : Gaps). lowest g.runs) (sym gaps_are))
+    off_removed run row' own = go gaps.runs refl (own.says ∙ ap (λ (g : Gaps). lowest g.runs) (sym gaps_are))
       where
-        go : (runs : List Run) → gaps.runs ≡ runs → 0 ∷ first ∷ last ∷ [] ≡ lowest gaps.runs
-            → WroteOffRun lent letter (WrittenOff.Removed first last) (lends lent.lists (with_gap_row lent.rows i row') lent.records)
-        go [] g says = let no : 0 ∷ first ∷ last ∷ [] ≡ 17 ∷ [] = rw g at says in let z : ◌≡◌ {A = ℕ} 0 1 = cc in absurd (omega arith)
+        go : (runs : List Run) → gaps.runs ≡ runs → 0 ∷ run.first ∷ run.last ∷ [] ≡ lowest gaps.runs
+            → WroteOffRun lent letter (WrittenOff.Removed run.first run.last) (lends lent.lists (with_gap_row lent.rows i row') lent.records)
+        go [] g says = let no : 0 ∷ run.first ∷ run.last ∷ [] ≡ 17 ∷ [] = rw g at says in let z : ◌≡◌ {A = ℕ} 0 1 = cc in absurd (omega arith)
         go (r ∷ rs) g says =
             let holds = off_holds r rs g in
-            let same : 0 ∷ first ∷ last ∷ [] ≡ 0 ∷ run_values r = rw g at says in
+            let same : 0 ∷ run.first ∷ run.last ∷ [] ≡ 0 ∷ run_values r = rw g at says in
             record {
               answers =
                   same ∙ ap (λ (runs : List Run). 0 ∷ run_values (lowest_run (record { start = 0; highest = 0; runs = runs }))) (sym g)
@@ -184,7 +184,7 @@ module _ (lent : Lent) (letter : ℕ) where
                   ∙ sym (ap (λ (o : Option Refusal). left_by o lent (lent_written_off lent letter)) holds);
             }
 
-    pub off_none : (row' : List ℕ) → WroteOff (gap_row_of lent.rows i) row_off.NoGap row' → WroteOffRun lent letter (WrittenOff.Refused NoGap) lent
+    pub off_none : (row' : List ℕ) → WroteOff (gap_row_of lent.rows i) None row' → WroteOffRun lent letter (WrittenOff.Refused NoGap) lent
     unfolding write_off_answer
     off_none row' own = go gaps.runs refl (own.says ∙ ap (λ (g : Gaps). lowest g.runs) (sym gaps_are))
       where

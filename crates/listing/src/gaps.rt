@@ -3,7 +3,6 @@ ghost use Rattle.pairs.specs.Lists.{lists};
 ghost use Rattle.state.specs.Memory.{lends};
 ghost use Rattle.listing.specs.ListPromises.{ListedRuns, WroteOffRun};
 
-use sequence::WriteOff;
 use state::{Asked, Listed, Refusal, WrittenOff};
 
 pub fn list_gaps(
@@ -20,8 +19,8 @@ pub fn list_gaps(
         Asked::Segment(segment) => {
             let row = state::row_of(rows, segment);
             match sequence::list(&row, cells) {
-                sequence::GapsListed::Runs(highest, runs) => Listed::Runs(highest, runs),
-                sequence::GapsListed::Short(wanted) => Listed::Refused(Refusal::Memory(wanted)),
+                Ok(gaps) => Listed::Runs(gaps.highest, gaps.runs),
+                Err(short) => Listed::Refused(Refusal::Memory(short.wanted)),
             }
         }
         Asked::Refused(refusal) => Listed::Refused(refusal),
@@ -41,11 +40,11 @@ pub fn write_off(
         Asked::Segment(segment) => {
             let mut row = state::row_of(rows, segment);
             match sequence::write_off(&mut row) {
-                WriteOff::Removed(first, last) => {
+                Some(run) => {
                     state::put_row(rows, segment, &row);
-                    WrittenOff::Removed(first, last)
+                    WrittenOff::Removed(run.first, run.last)
                 }
-                WriteOff::NoGap => WrittenOff::Refused(Refusal::NoGap),
+                None => WrittenOff::Refused(Refusal::NoGap),
             }
         }
         Asked::Refused(refusal) => WrittenOff::Refused(refusal),

@@ -59,7 +59,7 @@ module _ (lists : Lists) (letter : ℕ) (bytes : List ℕ) (good : verdict_of (m
   number_is =
       ap number_in what_is ∙ named_number (acts_as bytes) (number_of bytes) (message_place lists letter bytes) (acts_number (form_in bytes) (market_in (data_of bytes)) (number_of bytes) rules.numbering) rules.contract
 
-  pub update_told : (number : ℕ) (form : Form) (place : ℕ) → (message_of lists letter bytes).what ≡ what.Update number form place
+  pub update_told : (number : ℕ) (form : Form) (place : ℕ) → (message_of lists letter bytes).what ≡ Ok (what.Update number form place)
       → IsUpdate lists letter bytes number form place
   unfolding contents_by
   update_told number form place e =
@@ -79,7 +79,7 @@ module _ (lists : Lists) (letter : ℕ) (bytes : List ℕ) (good : verdict_of (m
 
   -- lent cells in which its rows are stored have its cells in front
   pub cells_stored : (cells cells' : List ℕ) → cells' ≡ sets cells 0 (rows_read bytes).cells → length cells' ≡ most_rows → (number : ℕ) (form : Form) (place : ℕ)
-      → (message_of lists letter bytes).what ≡ what.Update number form place
+      → (message_of lists letter bytes).what ≡ Ok (what.Update number form place)
       → take (length (rows_of form)) cells' ≡ take (length (rows_of form)) (message_of lists letter bytes).cells
   cells_stored cells cells' stored long number form place e =
       let u = update_told number form place e in

@@ -1,5 +1,5 @@
 -- A message has no fault exactly when it is good.
-use Rattle.std.specs.Prelude.{ℕ, zero, suc, ◌≡◌, refl, true, ◌↔◌, List, [], ◌∷◌, take, drop, Ok, Err}
+use Rattle.std.specs.Prelude.{ℕ, zero, suc, ◌≡◌, refl, true, ◌↔◌, List, [], ◌∷◌, take, drop, Ok, Err, Result}
 use Rattle.std.proofs.Common.{ap, sym, subst, ◌∙◌, arith, drop-drop}
 use Rattle.std.proofs.lemmas.Bool.{false≢true}
 use Rattle.std.proofs.Math.Option.{Option, none, some}
@@ -28,6 +28,7 @@ use Rattle.head.specs.Head.{head_rules}
 use Rattle.head.specs.Rules.{head_of}
 use Rattle.head.specs.HeadLaws.{framed_exact, coded_exact, trailed_exact, length_exact, summed_exact, number_exact}
 use Rattle.message.specs.declared.body.What.{What}
+use Rattle.head.specs.declared.head.Fault.{Fault}
 use Rattle.head.specs.Faults.{Head}
 use Rattle.message.specs.Message.{message_place, acts_as, rows_in, of_named}
 use Rattle.message.specs.Reads.{rows_read, of_verdict, contents_by, contents_of, of_head, message_of}
@@ -140,7 +141,7 @@ pub good_what : (lists : Lists) (letter : ℕ) (bytes : List ℕ) → GoodMessag
 unfolding message_of contents_by
 good_what lists letter bytes g = by_head (head_of letter (segment_of lists.contracts letter) bytes) ((good_exact lists letter bytes).1 g)
   where
-    named : What
+    named : Result What Fault
     named = of_named (acts_as bytes) (number_of bytes) (message_place lists letter bytes)
 
     by_rows : (v : Verdict) → verdict_of (of_verdict v named) ≡ Ok tt → of_verdict v named ≡ named

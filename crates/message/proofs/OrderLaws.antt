@@ -1,6 +1,6 @@
 -- The fault that is answered is the first broken rule's, in document 01's order.
 use Prim.Native.Nat.{ℕ, suc}
-use Rattle.std.specs.Prelude.{◌≡◌, refl, ◌↔◌, List, [], ◌∷◌, take, drop, Ok, Err}
+use Rattle.std.specs.Prelude.{◌≡◌, refl, ◌↔◌, List, [], ◌∷◌, take, drop, Ok, Err, Result}
 use Rattle.std.proofs.Math.Path.{ap, ap₂, sym}
 use Rattle.std.proofs.Common.{◌∙◌}
 use Rattle.std.proofs.Math.Option.{Option, none, some}
@@ -19,7 +19,6 @@ use Rattle.forms.specs.declared.rows.Row.{Row}
 use Rattle.layout.specs.Read.{read_row, read_rows}
 use Rattle.forms.specs.Rows.{width_of}
 use Rattle.message.specs.declared.body.What.{What}
-use Rattle.message.specs.declared.body.What.TheVariants as what
 use Rattle.head.specs.declared.head.Fault.{Fault}
 use Rattle.head.specs.declared.head.Fault.TheVariants.{Field, Range, Contract}
 use Rattle.head.specs.Faults.{Head}
@@ -55,7 +54,7 @@ rows_first i (row ∷ rows) bytes =
     go read.Field e rest = rw e
     go read.Range e rest = rw e
 
-verdict_then : (v : Verdict) (good : What) → verdict_of (of_verdict v good) ≡ and_then (as_head v) (verdict_of good)
+verdict_then : (v : Verdict) (good : Result What Fault) → verdict_of (of_verdict v good) ≡ and_then (as_head v) (verdict_of good)
 verdict_then verdict.Good good = refl
 verdict_then (verdict.Field row) good = refl
 verdict_then (verdict.Range row) good = refl
@@ -97,17 +96,15 @@ module _ (lists : Lists) (letter : ℕ) (bytes : List ℕ) where
       head_then head_here ∙ ap (and_then head_here) body_first ∙ sym (first_append (head_rules letter (segment_of lists.contracts letter) bytes) (body_rules lists letter bytes))
 
   -- a fault is answered exactly when its rule is broken and all rules before it hold
-  pub fault_exact : (fault : Fault) → (message_of lists letter bytes).what ≡ what.Bad fault ↔ Broken (message_rules lists letter bytes) fault
+  pub fault_exact : (fault : Fault) → (message_of lists letter bytes).what ≡ Err fault ↔ Broken (message_rules lists letter bytes) fault
   fault_exact fault = (
     (λ e. bad_broken (message_rules lists letter bytes) fault (sym message_first ∙ ap verdict_of e)),
     (λ b. bad_is (message_of lists letter bytes).what (message_first ∙ broken_bad (message_rules lists letter bytes) fault b)),
   )
     where
-      bad_is : (w : What) → verdict_of w ≡ Err fault → w ≡ what.Bad fault
-      bad_is what.Heartbeat e = cc
-      bad_is (what.PassedOver number) e = cc
-      bad_is (what.Update number form place) e = cc
-      bad_is (what.Bad other) e = cc
+      bad_is : (w : Result What Fault) → verdict_of w ≡ Err fault → w ≡ Err fault
+      bad_is (Ok _) e = cc
+      bad_is (Err other) e = cc
 
   pub head_exact : (fault : Fault) → head_here ≡ Err fault ↔ Broken (head_rules letter (segment_of lists.contracts letter) bytes) fault
   unfolding head_of

@@ -1,5 +1,5 @@
 -- What a caller may rely on where a message has no fault.
-use Rattle.std.specs.Prelude.{ℕ, ◌≡◌, refl, Bool, true, false, cond, List, Ok}
+use Rattle.std.specs.Prelude.{ℕ, ◌≡◌, refl, Bool, true, false, cond, List, Ok, Result}
 use Rattle.std.proofs.Math.Path.{ap}
 use Rattle.std.proofs.Common.{sym, ◌∙◌, arith}
 use Rattle.std.proofs.Math.Option.{Option, none, some}
@@ -20,6 +20,7 @@ use Rattle.forms.specs.Forms.{rows_of, subject_of, forms_of, form_of}
 use Rattle.forms.specs.FormsLaws.{told_form}
 use Rattle.message.specs.declared.body.What.{What}
 use Rattle.message.specs.declared.body.What.TheVariants as what
+use Rattle.head.specs.declared.head.Fault.{Fault}
 use Rattle.message.specs.Good.{PlaceFor, HasContract}
 use Rattle.head.specs.GoodHead.{NumberFor, HasNumber}
 use Rattle.head.specs.Fields.{letter_of, segment_letter_of, second_of, form_in, length_of, number_of, data_of}
@@ -46,7 +47,7 @@ unfolding form_in form_of
 form_length bytes form e = (told_form (forms_of (letter_of bytes) (second_of bytes)) (length_of bytes) form e).1
 
 -- a verdict that leaves no fault is good
-pub rows_pass : (v : Verdict) (w : What) → verdict_of (of_verdict v w) ≡ Ok tt → v ≡ verdict.Good
+pub rows_pass : (v : Verdict) (w : Result What Fault) → verdict_of (of_verdict v w) ≡ Ok tt → v ≡ verdict.Good
 rows_pass verdict.Good w e = refl
 rows_pass (verdict.Field row) w e = absurd (unlike e)
 rows_pass (verdict.Range row) w e = absurd (unlike e)
@@ -75,11 +76,11 @@ pub record ToldUpdate (named : Named) (n : ℕ) (found : Item → Option ℕ) (n
   pub found_is : found item ≡ some place
 
 subject_update : (subject : Subject) (own : Form) → subject_of own ≡ subject → (n : ℕ) (found : Item → Option ℕ) {number : ℕ} {form : Form} {place : ℕ}
-    → of_subject subject n own found ≡ what.Update number form place → ToldUpdate (is.Form own) n found number form place
+    → of_subject subject n own found ≡ Ok (what.Update number form place) → ToldUpdate (is.Form own) n found number form place
 subject_update Nothing own s n found e = absurd (let z : ◌≡◌ {A = ℕ} 0 1 = cc in omega arith)
 subject_update (Of item level) own s n found {number} {form} {place} e = go (found item) refl e
   where
-    go : (o : Option ℕ) → found item ≡ o → of_place n own o ≡ what.Update number form place → ToldUpdate (is.Form own) n found number form place
+    go : (o : Option ℕ) → found item ≡ o → of_place n own o ≡ Ok (what.Update number form place) → ToldUpdate (is.Form own) n found number form place
     go none f e = absurd (let z : ◌≡◌ {A = ℕ} 0 1 = cc in omega arith)
     go (some k) f e =
         let same : own ≡ form = cc in
@@ -87,7 +88,7 @@ subject_update (Of item level) own s n found {number} {form} {place} e = go (fou
         record { named_is = ap is.Form same; item = item; tells = (level, rw (← same) s); number_is = cc; found_is = f ∙ here }
 
 pub named_update : (named : Named) (n : ℕ) (found : Item → Option ℕ) {number : ℕ} {form : Form} {place : ℕ}
-    → of_named named n found ≡ what.Update number form place → ToldUpdate named n found number form place
+    → of_named named n found ≡ Ok (what.Update number form place) → ToldUpdate named n found number form place
 named_update (is.Form own) n found e = subject_update (subject_of own) own refl n found e
 named_update is.NoLength n found e = absurd (let z : ◌≡◌ {A = ℕ} 0 1 = cc in omega arith)
 named_update is.PassedOver n found e = absurd (let z : ◌≡◌ {A = ℕ} 0 1 = cc in omega arith)

@@ -1,5 +1,5 @@
 -- M-102: how many keys the lookup of a message's key compares: one lookup for each update, in its segment's contracts or pairs.
-use Rattle.std.specs.Prelude.{ℕ, ◌≡◌, Bool, true, false, cond, List, take}
+use Rattle.std.specs.Prelude.{ℕ, ◌≡◌, Bool, true, false, cond, List, take, Ok, Err, Result}
 use Rattle.std.proofs.Math.Option.{Option, none, some}
 use Rattle.laws.specs.Refused.{contract_no}
 use Rattle.lookup.specs.declared.lookup.Sought.{Sought}
@@ -13,10 +13,9 @@ use Rattle.forms.specs.declared.forms.Named.TheVariants as is
 use Rattle.forms.specs.declared.forms.Subject.{Subject}
 use Rattle.forms.specs.declared.forms.Subject.TheVariants.{Nothing, Of}
 use Rattle.forms.specs.Forms.{subject_of, key_bytes_of}
-use Rattle.head.specs.declared.head.Fault.{Fault}
 use Rattle.head.specs.declared.head.Fault.TheVariants.{Frame, Code, Trailer, Length, Checksum, Numbering, Field, Range, Contract}
 use Rattle.message.specs.declared.body.What.{What}
-use Rattle.message.specs.declared.body.What.TheVariants.{Heartbeat, PassedOver, Update, Bad}
+use Rattle.head.specs.declared.head.Fault.{Fault}
 use Rattle.message.specs.Message.{message_key, place_there, acts_as}
 
 -- M-102: the keys compared with a key in a segment of its file, where there is one
@@ -65,8 +64,6 @@ key_sought (Range row) = false
 key_sought Contract = true
 
 -- M-102, "on a refusal, those done so far": of a message's lookup
-abbrev pub so_far : What → ℕ → ℕ
-so_far Heartbeat compared = compared
-so_far (PassedOver number) compared = compared
-so_far (Update number form place) compared = compared
-so_far (Bad fault) compared = cond (key_sought fault) compared 0
+abbrev pub so_far : Result What Fault → ℕ → ℕ
+so_far (Ok _) compared = compared
+so_far (Err fault) compared = cond (key_sought fault) compared 0

@@ -33,7 +33,6 @@ use Rattle.head.specs.Head.{frame_rules, form_rules, head_rules}
 use Rattle.head.specs.HeadLaws.{framed_exact}
 use Rattle.head.specs.Rules.{first_fault, head_of}
 use Rattle.head.specs.RulesLaws.{good_hold, bad_broken}
-use Rattle.message.specs.declared.body.What.TheVariants as what
 use Rattle.message.specs.CallerLaws.{form_length, acts_as_lem}
 use Rattle.message.specs.MessageLaws.{bad_head}
 use Rattle.message.specs.Reads.{message_of}
@@ -63,7 +62,7 @@ pub form_early : (bytes : List ℕ) {fault : Fault} → first_fault (form_rules 
 form_early bytes = first_early (form_rules bytes) (form_rules_lem bytes)
 
 -- so a message that is refused behind its lookup has a good head, and lies within the bytes
-pub sought_inside : (lists : Lists) (letter : ℕ) (bytes : List ℕ) (fault : Fault) → (message_of lists letter bytes).what ≡ what.Bad fault → key_sought fault ≡ true → length_of bytes ≤ length bytes
+pub sought_inside : (lists : Lists) (letter : ℕ) (bytes : List ℕ) (fault : Fault) → (message_of lists letter bytes).what ≡ Err fault → key_sought fault ≡ true → length_of bytes ≤ length bytes
 unfolding head_of
 sought_inside lists letter bytes fault e sought = go (head_of letter (segment_of lists.contracts letter) bytes) refl
   where
@@ -73,7 +72,7 @@ sought_inside lists letter bytes fault e sought = go (head_of letter (segment_of
         let early =
         first_early (head_rules letter (segment_of lists.contracts letter) bytes)
         (each_append (λ (f : Fault). key_sought f ≡ false) (frame_rules letter (segment_of lists.contracts letter) bytes) (form_rules bytes) (frame_rules_lem letter (segment_of lists.contracts letter) bytes) (form_rules_lem bytes)) f in
-        let same : what.Bad other ≡ what.Bad fault = sym (ap (λ (m : Message). m.what) (bad_head lists letter bytes other f)) ∙ e in
+        let same : Err other ≡ Err fault = sym (ap (λ (m : Message). m.what) (bad_head lists letter bytes other f)) ∙ e in
         let is : other ≡ fault = cc in
         absurd (true≢false (sym sought ∙ ap key_sought (sym is) ∙ early))
 

@@ -1,5 +1,5 @@
 -- What a message is, by its form, its number and its key: 01 "The message".
-use Rattle.std.specs.Prelude.{ℕ, ◌≡◌, Bool, true, cond, List, [], eqb, take}
+use Rattle.std.specs.Prelude.{ℕ, ◌≡◌, Bool, true, cond, List, [], eqb, take, Ok, Err, Result}
 use Rattle.std.proofs.Math.Option.{Option, none, some}
 use Rattle.wire.specs.Number.{number_at}
 use Rattle.pairs.specs.Lists.{Lists}
@@ -17,6 +17,7 @@ use Rattle.forms.specs.Sizes.{key_bytes}
 use Rattle.forms.specs.Forms.{rows_of, subject_of, key_bytes_of}
 use Rattle.message.specs.declared.body.What.{What}
 use Rattle.message.specs.declared.body.What.TheVariants as what
+use Rattle.head.specs.declared.head.Fault.{Fault}
 use Rattle.head.specs.declared.head.Fault.TheVariants as fault
 use Rattle.head.specs.Fields.{form_in, data_of}
 use Rattle.pairs.specs.Items.{file_of, habit_of}
@@ -61,13 +62,13 @@ rows_in is.NoLength = []
 rows_in is.PassedOver = []
 
 -- 01, the table's row 13: the key of an update is listed
-abbrev pub of_place : ℕ → Form → Option ℕ → What
-of_place number form none = what.Bad fault.Contract
-of_place number form (some place) = what.Update number form place
+abbrev pub of_place : ℕ → Form → Option ℕ → Result What Fault
+of_place number form none = Err fault.Contract
+of_place number form (some place) = Ok (what.Update number form place)
 
 -- 01 "The message": what a message of a form is, by what it tells of
-abbrev pub of_subject : Subject → ℕ → Form → (Item → Option ℕ) → What
-of_subject Nothing number form place = what.Heartbeat
+abbrev pub of_subject : Subject → ℕ → Form → (Item → Option ℕ) → Result What Fault
+of_subject Nothing number form place = Ok what.Heartbeat
 of_subject (Of item level) number form place = of_place number form (place item)
 
 -- 01 "The message": the market type stands in the data behind a contract's key
@@ -95,13 +96,13 @@ unfoldable pub acts_as : List ℕ → Named
 acts_as bytes = acting (form_in bytes) (market_in (data_of bytes))
 
 -- 01 "The message": what a message is; one with none of its code's lengths is refused before (8)
-abbrev pub of_named : Named → ℕ → (Item → Option ℕ) → What
+abbrev pub of_named : Named → ℕ → (Item → Option ℕ) → Result What Fault
 of_named (is.Form form) number place = of_subject (subject_of form) number form place
-of_named is.NoLength number place = what.PassedOver number
-of_named is.PassedOver number place = what.PassedOver number
+of_named is.NoLength number place = Ok (what.PassedOver number)
+of_named is.PassedOver number place = Ok (what.PassedOver number)
 
 -- 01 "The message": what a message is, how long it is, and the cells of its rows, with zeros behind them
 pub record Message : Type 0 where
-  pub what : What
+  pub what : Result What Fault
   pub length : ℕ
   pub cells : List ℕ

@@ -1,5 +1,5 @@
 -- Laws of what a message is.
-use Rattle.std.specs.Prelude.{ℕ, ◌≡◌, List, Bool, true, false, cond, Ok, Err}
+use Rattle.std.specs.Prelude.{ℕ, ◌≡◌, List, Bool, true, false, cond, Ok, Err, Result}
 use Rattle.std.proofs.Math.Path.{refl, sym}
 use Rattle.std.proofs.Common.{◌∙◌}
 use Rattle.std.proofs.Math.Option.{Option, none, some}
@@ -88,7 +88,7 @@ module _ (form : Form) (item : Item) (s : TellsOf item form) (market : ℕ) wher
   acts_outlined e number whole place keys o = rw (acts true e, s.1) o
 
   pub passed_outlined : updates item market ≡ false → (number whole : ℕ) (place : Item → Option ℕ) (keys : Item → ℕ)
-      → Outlines (bare (of_named (acting (is.Form form) market) number place) whole) (compared_as (acting (is.Form form) market) keys) (record { what = what.PassedOver number; length = whole; compared = 0 })
+      → Outlines (bare (of_named (acting (is.Form form) market) number place) whole) (compared_as (acting (is.Form form) market) keys) (record { what = Ok (what.PassedOver number); length = whole; compared = 0 })
   passed_outlined e number whole place keys = rw (acts false e) (outlined refl)
 
 -- a message with a good head, by the place of its key and the keys compared with it
@@ -96,17 +96,17 @@ module _ (place : Item → Option ℕ) (keys : Item → ℕ) (bytes : List ℕ) 
   -- one with no rows leaves the lent cells as they are
   module _ (cells : List ℕ) where
     pub heartbeat_reads : (form : Form) → form_in bytes ≡ is.Form form → subject_of form ≡ Nothing
-        → ReadsMessage (contents_by place bytes) (compared_as (acts_as bytes) keys) (rows_read bytes).cells cells (record { what = what.Heartbeat; length = whole; compared = 0 }) cells
+        → ReadsMessage (contents_by place bytes) (compared_as (acts_as bytes) keys) (rows_read bytes).cells cells (record { what = Ok what.Heartbeat; length = whole; compared = 0 }) cells
     unfolding contents_by acts_as
     heartbeat_reads form e s = rw (long, e, s, nothing_rows form s) (rw s (record { told = outlined refl; stored = refl }))
 
     pub passed_over_reads : form_in bytes ≡ is.PassedOver
-        → ReadsMessage (contents_by place bytes) (compared_as (acts_as bytes) keys) (rows_read bytes).cells cells (record { what = what.PassedOver (number_of bytes); length = whole; compared = 0 }) cells
+        → ReadsMessage (contents_by place bytes) (compared_as (acts_as bytes) keys) (rows_read bytes).cells cells (record { what = Ok (what.PassedOver (number_of bytes)); length = whole; compared = 0 }) cells
     unfolding contents_by acts_as
     passed_over_reads e = rw (long, e) (record { told = outlined refl; stored = refl })
 
     pub no_length_reads : form_in bytes ≡ is.NoLength
-        → ReadsMessage (contents_by place bytes) (compared_as (acts_as bytes) keys) (rows_read bytes).cells cells (record { what = what.PassedOver (number_of bytes); length = whole; compared = 0 }) cells
+        → ReadsMessage (contents_by place bytes) (compared_as (acts_as bytes) keys) (rows_read bytes).cells cells (record { what = Ok (what.PassedOver (number_of bytes)); length = whole; compared = 0 }) cells
     unfolding contents_by acts_as
     no_length_reads e = rw (long, e) (record { told = outlined refl; stored = refl })
 
@@ -120,7 +120,7 @@ module _ (place : Item → Option ℕ) (keys : Item → ℕ) (bytes : List ℕ) 
         let v : other ≡ (read_rows 0 (rows_of form) (data_of bytes)).verdict = sym same ∙ verdict_told verdict (read_rows 0 (rows_of form) (data_of bytes)).verdict read.answers in
         record { told = outlined (outline_told o ∙ rw (long, e, ← v)); stored = rw e read.cells_stored }
 
-    pub update_is : (w : What) (read : Outcome) → read_rows 0 (rows_of form) (data_of bytes) ≡ read → w ≡ of_verdict read.verdict (of_named (acts_as bytes) (number_of bytes) place)
+    pub update_is : (w : Result What Fault) (read : Outcome) → read_rows 0 (rows_of form) (data_of bytes) ≡ read → w ≡ of_verdict read.verdict (of_named (acts_as bytes) (number_of bytes) place)
         → contents_by place bytes ≡ record { what = w; length = whole; cells = zeros_behind read.cells }
     unfolding contents_by
     update_is w read same what_is = rw (long, e, same, what_is)
@@ -134,7 +134,7 @@ module _ (place : Item → Option ℕ) (keys : Item → ℕ) (bytes cells : List
       → ReadsFormed place keys bytes cells answer cells'
   good_form e reads = rw (form_is e) reads
 
-  pub bad_form : {answer : Outline} {f : Fault} → judged ≡ Err f → ((compared : ℕ) → Outlines (bare (what.Bad f) (length_of bytes)) compared answer)
+  pub bad_form : {answer : Outline} {f : Fault} → judged ≡ Err f → ((compared : ℕ) → Outlines (bare (Err f) (length_of bytes)) compared answer)
       → ReadsFormed place keys bytes cells answer cells
   bad_form e outlines = rw (form_is e) (record { told = outlines _; stored = refl })
 
@@ -147,7 +147,7 @@ module _ (lists : Lists) (letter : ℕ) (bytes : List ℕ) where
   unfolding message_of
   good_head e = rw e
 
-  pub bad_head : (fault : Fault) → head_here ≡ Err fault → message_of lists letter bytes ≡ bare (what.Bad fault) (length_of bytes)
+  pub bad_head : (fault : Fault) → head_here ≡ Err fault → message_of lists letter bytes ≡ bare (Err fault) (length_of bytes)
   unfolding message_of
   bad_head fault e = rw e
 

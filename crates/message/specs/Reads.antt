@@ -1,6 +1,6 @@
 -- What the bytes of a message are read as, and what reading promises: `good_what`, `good_exact` (GoodLaws) and `fault_exact` (OrderLaws)
 -- say it in the words of `Good`.
-use Rattle.std.specs.Prelude.{ℕ, ◌≡◌, List, [], Ok, Err}
+use Rattle.std.specs.Prelude.{ℕ, ◌≡◌, List, [], Ok, Err, Result}
 use Rattle.std.proofs.Math.Option.{Option}
 use Rattle.std.proofs.lemmas.List.Edits.{sets}
 use Rattle.pairs.specs.Lists.{Lists}
@@ -11,7 +11,7 @@ use Rattle.layout.specs.declared.read.Verdict.TheVariants as verdict
 use Rattle.layout.specs.Cells.{zeros_behind}
 use Rattle.layout.specs.Read.{Outcome, read_rows}
 use Rattle.message.specs.declared.body.What.{What}
-use Rattle.message.specs.declared.body.What.TheVariants as what
+use Rattle.head.specs.declared.head.Fault.{Fault}
 use Rattle.message.specs.declared.body.Outline.{Outline}
 use Rattle.head.specs.declared.head.Fault.TheVariants as fault
 use Rattle.head.specs.Faults.{Head}
@@ -27,10 +27,10 @@ abbrev pub rows_read : List ℕ → Outcome
 rows_read bytes = read_rows 0 (rows_in (form_in bytes)) (data_of bytes)
 
 -- 01, the table's rows 11 and 12: the first bad row decides
-abbrev pub of_verdict : Verdict → What → What
+abbrev pub of_verdict : Verdict → Result What Fault → Result What Fault
 of_verdict verdict.Good good = good
-of_verdict (verdict.Field row) good = what.Bad (fault.Field row)
-of_verdict (verdict.Range row) good = what.Bad (fault.Range row)
+of_verdict (verdict.Field row) good = Err (fault.Field row)
+of_verdict (verdict.Range row) good = Err (fault.Range row)
 
 -- 01 "The message": what a message with a good head is, by the place of its key
 unfoldable pub contents_by : (Item → Option ℕ) → List ℕ → Message
@@ -46,13 +46,13 @@ abbrev pub contents_of : Lists → ℕ → List ℕ → Message
 contents_of lists letter bytes = contents_by (message_place lists letter bytes) bytes
 
 -- 01, the order of checks: a message of which no row was read
-abbrev pub bare : What → ℕ → Message
+abbrev pub bare : Result What Fault → ℕ → Message
 bare what length = record { what = what; length = length; cells = zeros_behind [] }
 
 -- 01, the order of checks: 5 to 10, and then 11 to 13
 abbrev pub of_head : Head → ℕ → Message → Message
 of_head (Ok _) length contents = contents
-of_head (Err fault) length contents = bare (what.Bad fault) length
+of_head (Err fault) length contents = bare (Err fault) length
 
 -- 01, the table's rows 5 to 13 in their order: what the bytes begin with
 unfoldable pub message_of : Lists → ℕ → List ℕ → Message

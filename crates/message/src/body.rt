@@ -23,14 +23,13 @@ pub enum What {
     PassedOver(u32),
     // With its number, its form and its key's place in the segment.
     Update(u32, Form, usize),
-    Bad(Fault),
 }
 
 // What a message is, how long it is, and how many keys were compared with its own. The cells of its rows are stored where the
 // caller lends them, so that a message with no rows is handed on by these few bytes.
 #[derive(Clone, Copy)]
 pub struct Outline {
-    pub what: What,
+    pub what: Result<What, Fault>,
     pub length: usize,
     pub compared: usize,
 }
@@ -74,8 +73,8 @@ fn placed(
     let sought = find(list, spreads, item, segment, key_of(item, data));
     let found = sought.found;
     let what = match found {
-        Some(place) => What::Update(number, form, place),
-        None => What::Bad(Fault::Contract),
+        Some(place) => Ok(What::Update(number, form, place)),
+        None => Err(Fault::Contract),
     };
     Outline {
         what,
@@ -112,7 +111,7 @@ fn acted(
         return placed(list, spreads, segment, data, whole, number, form, item);
     }
     Outline {
-        what: What::PassedOver(number),
+        what: Ok(What::PassedOver(number)),
         length: whole,
         compared: 0,
     }
@@ -121,10 +120,10 @@ fn acted(
 // A fault before 13: no key was looked up.
 fn bad(fault: Fault, bytes: &[u8]) -> Outline
     requires { key_sought fault ≡ false }
-    ensures { (compared : ℕ) → Outlines (bare (What.Bad fault) (length_of bytes.now)) compared result }
+    ensures { (compared : ℕ) → Outlines (bare (Err fault) (length_of bytes.now)) compared result }
 {
     Outline {
-        what: What::Bad(fault),
+        what: Err(fault),
         length: head::length_of(bytes),
         compared: 0,
     }
@@ -170,7 +169,7 @@ fn contents(
     match named {
         Named::Form(form) => match layout::subject_of(form) {
             Subject::Nothing => Outline {
-                what: What::Heartbeat,
+                what: Ok(What::Heartbeat),
                 length: whole,
                 compared: 0,
             },
@@ -179,12 +178,12 @@ fn contents(
             }
         },
         Named::NoLength => Outline {
-            what: What::PassedOver(head::number_of(bytes)),
+            what: Ok(What::PassedOver(head::number_of(bytes))),
             length: whole,
             compared: 0,
         },
         Named::PassedOver => Outline {
-            what: What::PassedOver(head::number_of(bytes)),
+            what: Ok(What::PassedOver(head::number_of(bytes))),
             length: whole,
             compared: 0,
         },
@@ -198,7 +197,7 @@ fn heartbeat(bytes: &[u8]) -> Outline
 {
     match head::judge_heartbeat(bytes) {
         Ok(()) => Outline {
-            what: What::Heartbeat,
+            what: Ok(What::Heartbeat),
             length: head::length_of(bytes),
             compared: 0,
         },

@@ -1,19 +1,19 @@
 // A gap row that numbers come to.
 use crate::say::{say, say_bool, say_runs, say_with};
-use sequence::{CELLS, GapsListed, WriteOff};
+use sequence::CELLS;
 use std::io::Result;
-use taking::Taken;
+use taking::{Full, Taken};
 
 pub fn say_start(rt: &impl Print, row: &mut [u32; CELLS], number: u32) -> Result<()> {
     sequence::start(row, number);
     say(rt, b"started")
 }
 
-fn say_answer(rt: &impl Print, answer: Taken) -> Result<()> {
+fn say_answer(rt: &impl Print, answer: std::result::Result<Taken, Full>) -> Result<()> {
     match answer {
-        Taken::Taken => say(rt, b"taken"),
-        Taken::Old => say(rt, b"old"),
-        Taken::Full => say(rt, b"full"),
+        Ok(Taken::Taken) => say(rt, b"taken"),
+        Ok(Taken::Old) => say(rt, b"old"),
+        Err(_) => say(rt, b"full"),
     }
 }
 
@@ -26,11 +26,11 @@ pub fn say_taken(rt: &impl Print, row: &mut [u32; CELLS], number: u32) -> Result
 
 pub fn say_off(rt: &impl Print, row: &mut [u32; CELLS]) -> Result<()> {
     match sequence::write_off(row) {
-        WriteOff::Removed(first, last) => {
-            say_with(rt, b"off ", first as u64)?;
-            say_with(rt, b" ", last as u64)
+        Some(run) => {
+            say_with(rt, b"off ", run.first as u64)?;
+            say_with(rt, b" ", run.last as u64)
         }
-        WriteOff::NoGap => say(rt, b"no gap"),
+        None => say(rt, b"no gap"),
     }
 }
 
@@ -42,8 +42,8 @@ fn say_found(rt: &impl Print, highest: u32, runs: usize, cells: &[u32]) -> Resul
 
 fn say_listed(rt: &impl Print, row: &[u32; CELLS], cells: &mut [u32]) -> Result<()> {
     match sequence::list(row, cells) {
-        GapsListed::Runs(highest, runs) => say_found(rt, highest, runs, cells),
-        GapsListed::Short(_) => say(rt, b" short"),
+        Ok(gaps) => say_found(rt, gaps.highest, gaps.runs, cells),
+        Err(_) => say(rt, b" short"),
     }
 }
 

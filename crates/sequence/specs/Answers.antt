@@ -1,16 +1,15 @@
 -- Words of inner contracts only: no promise of a public call reaches them, so that whoever reads those may skip this file. What
 -- this crate's functions answer, as the paper's numbers (0 and the values of an accepted call, or a refusal's number and its
 -- values), and what they leave.
-use Rattle.std.specs.Prelude.{ℕ, cond, List, [], ◌∷◌, ◌++◌, leb, length, drop}
+use Rattle.std.specs.Prelude.{Option, Some, None, Result, Ok, Err, ℕ, cond, List, [], ◌∷◌, ◌++◌, leb, length, drop}
 use Rattle.laws.specs.Refused.{gaps_no, memory_no, no_gap_no}
 use Rattle.sequence.specs.Runs.{Run}
 use Rattle.sequence.specs.Gaps.{Gaps, takes, wanted}
 use Rattle.sequence.specs.Changes.{after, full}
 use Rattle.sequence.specs.RowLaid.{flat}
-use Rattle.sequence.specs.declared.WriteOff.{WriteOff}
-use Rattle.sequence.specs.declared.WriteOff.TheVariants.{Removed, NoGap}
+use Rattle.sequence.specs.declared.Run.{Run as Removed}
 use Rattle.sequence.specs.declared.GapsListed.{GapsListed}
-use Rattle.sequence.specs.declared.GapsListed.TheVariants.{Runs, Short}
+use Rattle.sequence.specs.declared.Short.{Short}
 
 -- 01 "Sequence and gaps": the gaps when a number has come: one that is old, or refused, leaves them as they are
 unfoldable pub took : Gaps → ℕ → Gaps
@@ -41,9 +40,9 @@ abbrev pub refused_no_gap : List ℕ
 refused_no_gap = no_gap_no ∷ []
 
 -- 01 "What may be asked": a write-off answers the run it removed; or 17
-abbrev pub write_off_numbers : WriteOff → List ℕ
-write_off_numbers (Removed first last) = written_off first last
-write_off_numbers NoGap = refused_no_gap
+abbrev pub write_off_numbers : Option Removed → List ℕ
+write_off_numbers (Some run) = written_off run.first run.last
+write_off_numbers None = refused_no_gap
 
 -- 01 "Sequence and gaps": a write-off removes the lowest run; 17 where there is none
 abbrev pub lowest : List Run → List ℕ
@@ -63,9 +62,9 @@ abbrev pub refused_memory : ℕ → List ℕ
 refused_memory wanted = memory_no ∷ wanted ∷ []
 
 -- 01 "What may be asked": highest and the number of runs; or 15 and the cells wanted
-abbrev pub listed_numbers : GapsListed → List ℕ
-listed_numbers (Runs highest count) = listed highest count
-listed_numbers (Short wanted) = refused_memory wanted
+abbrev pub listed_numbers : Result GapsListed Short → List ℕ
+listed_numbers (Ok gaps) = listed gaps.highest gaps.runs
+listed_numbers (Err short) = refused_memory short.wanted
 
 -- 01 "What may be asked": lent cells are too few exactly when under the number wanted
 unfoldable pub list_answer : Gaps → ℕ → List ℕ

@@ -3,10 +3,9 @@
 
 pub mod runs;
 
-ghost use Rattle.std.specs.Prelude.{◌≡◌, true, ◌++◌, ◌+◌, ◌*◌, ◌≤◌, length, take, drop};
-ghost use Rattle.sequence.specs.Gaps.{most};
+ghost use Rattle.std.specs.Prelude.{◌≡◌, true, length};
 ghost use Rattle.sequence.specs.SoundTests.{sound_runs};
-ghost use Rattle.sequence.specs.Row.{cells, head, gaps_of, runs_of};
+ghost use Rattle.sequence.specs.Row.{cells, gaps_of, runs_of};
 ghost use Rattle.sequence.specs.RowLaid.{sound_gap_row};
 ghost use Rattle.sequence.specs.Promises.{Began, WroteOff, ListedGaps};
 
@@ -24,21 +23,28 @@ pub(crate) const COUNT: usize = 2;
 
 pub(crate) const HEAD: usize = 4;
 
-// What a write-off answers: the run that it removed, or 17.
+// A run of missing numbers: its first and its last.
 #[derive(Clone, Copy)]
-pub enum WriteOff {
-    Removed(u32, u32),
-    NoGap,
+pub struct Run {
+    pub first: u32,
+    pub last: u32,
 }
 
-// What listing answers: highest and the number of runs, or 15 with the cells wanted.
+// What a listing says of a row whose runs it has put in lent cells.
 #[derive(Clone, Copy)]
-pub enum GapsListed {
-    Runs(u32, usize),
-    Short(usize),
+pub struct GapsListed {
+    pub highest: u32,
+    pub runs: usize,
+}
+
+// 15: fewer cells are lent than are wanted.
+#[derive(Clone, Copy)]
+pub struct Short {
+    pub wanted: usize,
 }
 
 // The runs of a row, from its start number up to highest.
+#[tactic(auto, using(crate::specs::SoundLaws::sound_stop, crate::specs::SoundLaws::sound_end), unfolding(crate::specs::Row::gaps_of))]
 fn sound_runs(row: &[u32]) -> bool
     requires { length row.now ≡ cells }
     ensures { result ≡ sound_runs (gaps_of row.now).start (runs_of row.now) (gaps_of row.now).highest }
@@ -46,8 +52,7 @@ fn sound_runs(row: &[u32]) -> bool
     let highest = row[HIGHEST];
     let n = runs::number(row);
     let mut from = row[START] as u64;
-    let mut i = 0;
-    while i < n {
+    for i in 0..n {
         let first = runs::first(row, i);
         let last = runs::last(row, i);
         if (first as u64) < from {
@@ -60,12 +65,12 @@ fn sound_runs(row: &[u32]) -> bool
             return false;
         }
         from = last as u64 + 2;
-        i += 1;
     }
     true
 }
 
 // The test behind 18, for one row.
+#[tactic(auto, using(crate::proofs::Cells::few_runs), unfolding(crate::specs::RowLaid::sound_gap_row, crate::specs::Row::gaps_of))]
 pub fn sound(row: &[u32]) -> bool
     ensures { result ≡ sound_gap_row row.now }
 {
@@ -86,6 +91,7 @@ pub fn sound(row: &[u32]) -> bool
 }
 
 // A segment starts: highest is one below its start number, nothing is missing, and every other number is 0.
+#[tactic(auto, unfolding(crate::specs::RowLaid::laid))]
 pub fn start(row: &mut [u32; CELLS], number: u32)
     ensures { Began number row.new }
 {
@@ -96,40 +102,32 @@ pub fn start(row: &mut [u32; CELLS], number: u32)
     }
 }
 
-// The lowest run is removed.
-pub fn write_off(row: &mut [u32; CELLS]) -> WriteOff
+// The lowest run is removed, and answered; 17 where there is none.
+#[tactic(auto, using(crate::proofs::Calls::wrote_off_lem))]
+pub fn write_off(row: &mut [u32; CELLS]) -> Option<Run>
     ensures { WroteOff row.old result row.new }
 {
     if runs::number(row) == 0 {
-        return WriteOff::NoGap;
+        return None;
     }
     let first = runs::first(row, 0);
     let last = runs::last(row, 0);
     runs::remove(row, 0);
-    WriteOff::Removed(first, last)
-}
-
-// The first numbers of a row's runs are copied to as many cells.
-fn copy(row: &[u32; CELLS], lent: &mut [u32], wanted: usize)
-    requires { (length row.now ≡ cells) × (wanted ≤ length lent.old) × (wanted ≤ 2 * most) }
-    ensures { lent.new ≡ take wanted (drop head row.now) ++ drop wanted lent.old }
-{
-    let mut j = 0;
-    while j < wanted {
-        lent[j] = row[HEAD + j];
-        j += 1;
-    }
+    Some(Run { first, last })
 }
 
 // The runs are put in lent cells, two a run, where there are so many.
-pub fn list(row: &[u32; CELLS], lent: &mut [u32]) -> GapsListed
+pub fn list(row: &[u32; CELLS], lent: &mut [u32]) -> Result<GapsListed, Short>
     ensures { ListedGaps row.now lent.old result lent.new }
 {
     let n = runs::number(row);
     let wanted = 2 * n;
     if lent.len() < wanted {
-        return GapsListed::Short(wanted);
+        return Err(Short { wanted });
     }
-    copy(row, lent, wanted);
-    GapsListed::Runs(row[HIGHEST], n)
+    lent[..wanted].copy_from_slice(&row[HEAD..HEAD + wanted]);
+    Ok(GapsListed {
+        highest: row[HIGHEST],
+        runs: n,
+    })
 }

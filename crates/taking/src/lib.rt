@@ -15,13 +15,15 @@ use sequence::{CELLS, HIGHEST};
 pub enum Taken {
     Taken,
     Old,
-    // 14: more than 64 runs would stand, and the row is as it was.
-    Full,
 }
+
+// 14: more than 64 runs would stand, and the row is as it was.
+#[derive(Clone, Copy)]
+pub struct Full;
 
 // A number comes. The row has to be sound: to look would cost the number that comes in order, which is nearly every one,
 // more than all else does.
-pub fn take(row: &mut [u32; CELLS], number: u32) -> Taken
+pub fn take(row: &mut [u32; CELLS], number: u32) -> Result<Taken, Full>
     requires { sound_gap_row row.old ≡ true }
     ensures { Took row.old number result row.new }
 {
@@ -31,7 +33,7 @@ pub fn take(row: &mut [u32; CELLS], number: u32) -> Taken
     }
     if number - highest == 1 {
         row[HIGHEST] = number;
-        return Taken::Taken;
+        return Ok(Taken::Taken);
     }
     skip::skip(row, number)
 }

@@ -5,37 +5,36 @@ ghost use Rattle.sequence.specs.Row.{gaps_of, runs_of};
 ghost use Rattle.taking.specs.Steps.{Skipped};
 ghost use Rattle.taking.specs.Promises.{Took};
 
-use crate::late::Place;
-use crate::{Taken, late};
+use crate::{Full, Taken, late};
 use sequence::{CELLS, HIGHEST, MOST, runs};
 
 // They make a run of their own.
-fn add(row: &mut [u32; CELLS], number: u32) -> Taken
+fn add(row: &mut [u32; CELLS], number: u32) -> Result<Taken, Full>
     requires { Skipped row.old number × (missing (runs_of row.old) (gaps_of row.old).highest ≡ false) }
     ensures { Took row.old number result row.new }
 {
     if runs::number(row) == MOST {
-        return Taken::Full;
+        return Err(Full);
     }
     let first = row[HIGHEST] + 1;
     runs::append(row, first, number - 1);
     row[HIGHEST] = number;
-    Taken::Taken
+    Ok(Taken::Taken)
 }
 
 // Where a run names highest, and so ends there, they join that run.
-pub(crate) fn skip(row: &mut [u32; CELLS], number: u32) -> Taken
+pub(crate) fn skip(row: &mut [u32; CELLS], number: u32) -> Result<Taken, Full>
     requires { Skipped row.old number }
     ensures { Took row.old number result row.new }
 {
     let highest = row[HIGHEST];
     match late::find(row, highest) {
-        Place::At(i) => {
+        Some(i) => {
             let first = runs::first(row, i);
             runs::put(row, i, first, number - 1);
             row[HIGHEST] = number;
-            Taken::Taken
+            Ok(Taken::Taken)
         }
-        Place::Nowhere => add(row, number),
+        None => add(row, number),
     }
 }

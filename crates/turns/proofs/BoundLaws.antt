@@ -1,5 +1,5 @@
 -- M-102, the worst case: the lookups of messages compare at most 13 keys for each 204 bytes.
-use Rattle.std.specs.Prelude.{ℕ, zero, suc, ◌+◌, ◌*◌, ◌≤◌, ◌<◌, ◌≡◌, refl, Bool, true, false, cond, List, length, drop, Ok}
+use Rattle.std.specs.Prelude.{ℕ, zero, suc, ◌+◌, ◌*◌, ◌≤◌, ◌<◌, ◌≡◌, refl, Bool, true, false, cond, List, length, drop, Ok, Err, Result}
 use Rattle.std.proofs.Common.{ap, sym, ◌∙◌, ⊎_elim, arith, length-drop}
 use Rattle.laws.specs.Order.{order}
 use Rattle.forms.specs.Forms.{subject_of}
@@ -8,6 +8,7 @@ use Rattle.pairs.specs.Lists.{Lists, Headers}
 use Rattle.head.specs.Fields.{length_of}
 use Rattle.message.specs.declared.body.What.{What}
 use Rattle.message.specs.declared.body.What.TheVariants as what
+use Rattle.head.specs.declared.head.Fault.{Fault}
 use Rattle.message.proofs.CallerLaws.{all_there}
 use Rattle.message.specs.Compared.{key_sought}
 use Rattle.message.specs.ComparedLaws.{sought_inside, message_long}
@@ -38,15 +39,15 @@ module _ (lists : Lists) (headers : Headers lists) (letter : ℕ) where
 
     -- one that is refused, with its own lookup or without
     module _ (box : Box) (i count k : ℕ) (cells : List ℕ) (r : Refusal) (stopped : reached count r ≡ i + k) where
-      refused_fits : (w : What) → (message_of lists letter bytes).what ≡ w → what_acts lists letter box i w cells ≡ refused r → 204 * compared_in k lists letter bytes ≤ 13 * length bytes
-      refused_fits what.Heartbeat e f = absurd (not_both (sym f))
-      refused_fits (what.PassedOver number) e f =
+      refused_fits : (w : Result What Fault) → (message_of lists letter bytes).what ≡ w → what_acts lists letter box i w cells ≡ refused r → 204 * compared_in k lists letter bytes ≤ 13 * length bytes
+      refused_fits (Ok what.Heartbeat) e f = absurd (not_both (sym f))
+      refused_fits (Ok (what.PassedOver number)) e f =
           let n = ap (reached count) (number_refused box i number (λ records. records) f) ∙ stopped in
           one_fits k (omega arith) (inside (ap verdict_of e))
-      refused_fits (what.Update number form place) e f =
+      refused_fits (Ok (what.Update number form place)) e f =
           let n = ap (reached count) (number_refused box i number (updated lists (segment_of lists.contracts letter) place (subject_of form) form number cells) f) ∙ stopped in
           one_fits k (omega arith) (inside (ap verdict_of e))
-      refused_fits (what.Bad fault) e f =
+      refused_fits (Err fault) e f =
           let same : of_fault fault i ≡ r = cc in
           let n = ap (reached count) same ∙ stopped in
           ⊎_elim
@@ -59,11 +60,9 @@ module _ (lists : Lists) (headers : Headers lists) (letter : ℕ) where
           sought false h = absurd (omega arith)
 
   -- what has acted has no fault
-  passes : (w : What) (box : Box) (i : ℕ) (cells : List ℕ) {box' : Box} → what_acts lists letter box i w cells ≡ acted box' → verdict_of w ≡ Ok tt
-  passes what.Heartbeat box i cells e = refl
-  passes (what.PassedOver number) box i cells e = refl
-  passes (what.Update number form place) box i cells e = refl
-  passes (what.Bad fault) box i cells e = absurd (not_both e)
+  passes : (w : Result What Fault) (box : Box) (i : ℕ) (cells : List ℕ) {box' : Box} → what_acts lists letter box i w cells ≡ acted box' → verdict_of w ≡ Ok tt
+  passes (Ok _) box i cells e = refl
+  passes (Err fault) box i cells e = absurd (not_both e)
 
   -- ---- messages in turn
 

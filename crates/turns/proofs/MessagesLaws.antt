@@ -1,5 +1,5 @@
 -- Laws of messages that act in turn: one step, and where they end.
-use Rattle.std.specs.Prelude.{ℕ, suc, ◌+◌, ◌-◌, ◌*◌, ◌≤◌, ◌<◌, ◌≡◌, refl, true, List, [], length, drop, take}
+use Rattle.std.specs.Prelude.{ℕ, suc, ◌+◌, ◌-◌, ◌*◌, ◌≤◌, ◌<◌, ◌≡◌, refl, true, List, [], length, drop, take, Result, Ok, Err}
 use Rattle.std.proofs.Common.{ap, sym, ◌∙◌, ⊎_elim, add-one, arith, eq-eqb, ne_eqb, length-drop, drop-drop, take_all}
 use Rattle.std.proofs.lemmas.Bool.{false≢true}
 use Rattle.pairs.specs.Lists.{Lists}
@@ -9,7 +9,7 @@ use Rattle.message.specs.Compared.{message_compared, so_far}
 use Rattle.message.specs.Message.{Message}
 use Rattle.message.specs.Reads.{message_of}
 use Rattle.turns.specs.declared.act.Act.{Act}
-use Rattle.turns.specs.declared.act.Act.TheVariants.{Taken, Old, Heartbeat, Refused}
+use Rattle.turns.specs.declared.act.Act.TheVariants.{Taken, Old, Heartbeat}
 use Rattle.turns.specs.declared.act.Counts.{Counts}
 use Rattle.turns.specs.declared.act.Step.{Step}
 use Rattle.turns.specs.declared.act.InTurn.{InTurn}
@@ -56,18 +56,16 @@ module _ (lists : Lists) (letter : ℕ) where
     messages_over h = rw (ne_eqb (length bytes) 0 (λ e. omega arith))
 
 -- a step that passes is acted, one that doesn't is refused
-pub passed_acts : (act : Act) (box : Box) → passed act ≡ true → acted_as act box ≡ acted box
-passed_acts Taken box e = refl
-passed_acts Old box e = refl
-passed_acts Heartbeat box e = refl
-passed_acts (Refused refusal) box e = absurd (false≢true e)
+pub passed_acts : (act : Result Act Refusal) (box : Box) → passed act ≡ true → acted_as act box ≡ acted box
+passed_acts (Ok _) box e = refl
+passed_acts (Err refusal) box e = absurd (false≢true e)
 
 -- each message that passes counts once
-pub counted_one : (act : Act) (counts : Counts) → passed act ≡ true → total (counted act counts) ≡ suc (total counts)
-counted_one Taken counts e = omega arith
-counted_one Old counts e = omega arith
-counted_one Heartbeat counts e = omega arith
-counted_one (Refused refusal) counts e = absurd (false≢true e)
+pub counted_one : (act : Result Act Refusal) (counts : Counts) → passed act ≡ true → total (counted act counts) ≡ suc (total counts)
+counted_one (Ok Taken) counts e = omega arith
+counted_one (Ok Old) counts e = omega arith
+counted_one (Ok Heartbeat) counts e = omega arith
+counted_one (Err refusal) counts e = absurd (false≢true e)
 
 -- the bytes from a place on
 pub rest_is : (bytes : List ℕ) (at : ℕ) → at ≤ length bytes → take (length bytes - at) (drop at bytes) ≡ drop at bytes
@@ -155,7 +153,7 @@ module _ (lists : Lists) (letter : ℕ) (row₀ : List ℕ) (cells : ℕ) (bytes
             }
 
       -- the messages that have come to their lookup have compared as many
-      so_far_refused : (refusal : Refusal) → step.act ≡ Refused refusal → compared_in (reached count refusal) lists letter bytes ≡ compared + step.compared
+      so_far_refused : (refusal : Refusal) → step.act ≡ Err refusal → compared_in (reached count refusal) lists letter bytes ≡ compared + step.compared
       so_far_refused refusal e =
           ⊎_elim
           (λ (h : (reached count refusal ≡ i) × (so_far here.what (message_compared lists letter (drop at bytes)) ≡ 0)).
@@ -165,7 +163,7 @@ module _ (lists : Lists) (letter : ℕ) (row₀ : List ℕ) (cells : ℕ) (bytes
           ap (λ (k : ℕ). compared_in k lists letter bytes) h.0 ∙ going.adds 1 ∙ omega (arith, m.steps, h.1))
           (reached_refused lists letter (box_at row [] counts) i _ here.cells here.what (rw e at (acts_here [])) count)
 
-      pub going_refused : (refusal : Refusal) → step.act ≡ Refused refusal → (row'' stores'' : List ℕ)
+      pub going_refused : (refusal : Refusal) → step.act ≡ Err refusal → (row'' stores'' : List ℕ)
           → JudgedMessages lists letter row₀ cells bytes count (turn_of (judged.Refused refusal (compared + step.compared)) 0) row'' stores''
       going_refused refusal e row'' stores'' =
           refused_judged refusal (compared + step.compared) row'' stores''

@@ -1,13 +1,13 @@
 -- Of the keys that its lookup compares a refused message has none, or all: its refusal tells which.
-use Rattle.std.specs.Prelude.{ℕ, ◌+◌, ◌≡◌, refl, cond, List, ◌⊎◌}
+use Rattle.std.specs.Prelude.{ℕ, ◌+◌, ◌≡◌, refl, cond, List, ◌⊎◌, Ok, Err, Result}
 use Rattle.std.proofs.Common.{ap, sym, inl, inr}
 use Rattle.pairs.specs.Lists.{Lists}
 use Rattle.lookup.specs.Lookup.{segment_of}
 use Rattle.forms.specs.Forms.{subject_of}
-use Rattle.head.specs.declared.head.Fault.{Fault}
 use Rattle.head.specs.declared.head.Fault.TheVariants as fault
 use Rattle.message.specs.declared.body.What.{What}
 use Rattle.message.specs.declared.body.What.TheVariants as what
+use Rattle.head.specs.declared.head.Fault.{Fault}
 use Rattle.message.specs.Compared.{key_sought, so_far}
 use Rattle.state.specs.declared.refusal.Refusal.{Refusal}
 use Rattle.state.specs.Refusals.{of_fault}
@@ -31,11 +31,11 @@ fault_reached count i keys (fault.Range row) = inl (refl, refl)
 fault_reached count i keys fault.Contract = inr (refl, refl)
 
 module _ (lists : Lists) (letter : ℕ) (box : Box) (i keys : ℕ) (cells : List ℕ) where
-  pub reached_refused : (w : What) {refusal : Refusal} → what_acts lists letter box i w cells ≡ refused refusal → (count : ℕ) → Told count i refusal keys (so_far w keys)
-  reached_refused what.Heartbeat e count = absurd (not_both (sym e))
-  reached_refused (what.PassedOver number) e count = inr (ap (reached count) (sym (number_refused box i number (λ records. records) e)), refl)
-  reached_refused (what.Update number form place) e count =
+  pub reached_refused : (w : Result What Fault) {refusal : Refusal} → what_acts lists letter box i w cells ≡ refused refusal → (count : ℕ) → Told count i refusal keys (so_far w keys)
+  reached_refused (Ok what.Heartbeat) e count = absurd (not_both (sym e))
+  reached_refused (Ok (what.PassedOver number)) e count = inr (ap (reached count) (sym (number_refused box i number (λ records. records) e)), refl)
+  reached_refused (Ok (what.Update number form place)) e count =
       inr (ap (reached count) (sym (number_refused box i number (updated lists (segment_of lists.contracts letter) place (subject_of form) form number cells) e)), refl)
-  reached_refused (what.Bad f) {refusal} e count =
+  reached_refused (Err f) {refusal} e count =
       let same : of_fault f i ≡ refusal = cc in
       rw (← same) (fault_reached count i keys f)

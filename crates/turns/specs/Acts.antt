@@ -1,5 +1,5 @@
 -- What becomes of a message while a batch is judged, in the terms of what the batch does: the words of the inner contracts.
-use Rattle.std.specs.Prelude.{ℕ, suc, ◌+◌, ◌*◌, ◌≤◌, ◌≡◌, Bool, true, false, List, [], ◌∷◌, length}
+use Rattle.std.specs.Prelude.{ℕ, suc, ◌+◌, ◌*◌, ◌≤◌, ◌≡◌, Bool, true, false, List, [], ◌∷◌, length, Result, Ok, Err}
 use Rattle.std.proofs.Math.Option.{Option, some}
 use Rattle.lookup.specs.Lookup.{segment_of}
 use Rattle.pairs.specs.Lists.{Lists, Headers}
@@ -7,11 +7,14 @@ use Rattle.sequence.specs.RowLaid.{sound_gap_row}
 use Rattle.head.specs.Fields.{length_of}
 use Rattle.message.specs.Compared.{message_compared, so_far}
 use Rattle.message.specs.Reads.{message_of}
+use Rattle.taking.specs.declared.Taken.{Taken as NumberTaken}
+use Rattle.taking.specs.declared.Taken.TheVariants as number
 use Rattle.turns.specs.declared.act.Act.{Act}
-use Rattle.turns.specs.declared.act.Act.TheVariants.{Taken, Old, Heartbeat, Refused}
+use Rattle.turns.specs.declared.act.Act.TheVariants.{Taken, Old, Heartbeat}
 use Rattle.turns.specs.declared.act.Counts.{Counts}
 use Rattle.turns.specs.declared.act.InTurn.{InTurn}
 use Rattle.turns.specs.declared.act.Step.{Step}
+use Rattle.state.specs.declared.refusal.Refusal.{Refusal}
 use Rattle.state.specs.declared.answers.Judged.{Judged}
 use Rattle.state.specs.Answers.{judged_numbers}
 use Rattle.state.specs.Refusals.{refusal_numbers}
@@ -23,18 +26,23 @@ use Rattle.slots.specs.Places.{FrontsOf}
 use Rattle.stores.specs.Stores.{store_cells, made, AllFit, Room, Keeps}
 
 -- 01 "What may be asked": what becomes of a message, as one of those taken, old and heartbeats; or its refusal
-abbrev pub act_numbers : Act → List ℕ
-act_numbers Taken = 0 ∷ 1 ∷ 0 ∷ 0 ∷ []
-act_numbers Old = 0 ∷ 0 ∷ 1 ∷ 0 ∷ []
-act_numbers Heartbeat = 0 ∷ 0 ∷ 0 ∷ 1 ∷ []
-act_numbers (Refused refusal) = refusal_numbers refusal
+abbrev pub act_numbers : Result Act Refusal → List ℕ
+act_numbers (Ok Taken) = 0 ∷ 1 ∷ 0 ∷ 0 ∷ []
+act_numbers (Ok Old) = 0 ∷ 0 ∷ 1 ∷ 0 ∷ []
+act_numbers (Ok Heartbeat) = 0 ∷ 0 ∷ 0 ∷ 1 ∷ []
+act_numbers (Err refusal) = refusal_numbers refusal
+
+-- 01 "Sequence and gaps": what becomes of a message whose number was taken, or old
+abbrev pub act_of : NumberTaken → Act
+act_of number.Taken = Taken
+act_of number.Old = Old
 
 -- 01 "What may be asked": how many messages were taken, old and heartbeats, with one message more
-abbrev pub counted : Act → Counts → Counts
-counted Taken counts = record { taken = suc counts.taken; old = counts.old; heartbeats = counts.heartbeats }
-counted Old counts = record { taken = counts.taken; old = suc counts.old; heartbeats = counts.heartbeats }
-counted Heartbeat counts = record { taken = counts.taken; old = counts.old; heartbeats = suc counts.heartbeats }
-counted (Refused refusal) counts = counts
+abbrev pub counted : Result Act Refusal → Counts → Counts
+counted (Ok Taken) counts = record { taken = suc counts.taken; old = counts.old; heartbeats = counts.heartbeats }
+counted (Ok Old) counts = record { taken = counts.taken; old = suc counts.old; heartbeats = counts.heartbeats }
+counted (Ok Heartbeat) counts = record { taken = counts.taken; old = counts.old; heartbeats = suc counts.heartbeats }
+counted (Err refusal) counts = counts
 
 -- 01 "What may be asked": the counts before the first message
 abbrev pub none : Counts
@@ -50,28 +58,31 @@ box_at row records counts =
     record { row = row; records = records; taken = counts.taken; old = counts.old; heartbeats = counts.heartbeats }
 
 -- 01 "Sequence and gaps": only what is taken changes records
-abbrev pub changed_by : Act → (List ℕ → List ℕ) → List ℕ → List ℕ
-changed_by Taken changed records = changed records
-changed_by Old changed records = records
-changed_by Heartbeat changed records = records
-changed_by (Refused refusal) changed records = records
+abbrev pub changed_by : Result Act Refusal → (List ℕ → List ℕ) → List ℕ → List ℕ
+changed_by (Ok Taken) changed records = changed records
+changed_by (Ok Old) changed records = records
+changed_by (Ok Heartbeat) changed records = records
+changed_by (Err refusal) changed records = records
+
+-- 01 "Sequence and gaps": only of an update that is taken a store is kept
+abbrev pub is_taken : Result Act Refusal → Bool
+is_taken (Ok Taken) = true
+is_taken (Ok Old) = false
+is_taken (Ok Heartbeat) = false
+is_taken (Err refusal) = false
 
 -- a word of our own: a message that is not refused
-abbrev pub passed : Act → Bool
-passed Taken = true
-passed Old = true
-passed Heartbeat = true
-passed (Refused refusal) = false
+abbrev pub passed : Result Act Refusal → Bool
+passed (Ok _) = true
+passed (Err refusal) = false
 
 -- a word of our own: what a message did: the box after it, or its refusal
-abbrev pub acted_as : Act → Box → Acted
-acted_as Taken box = acted box
-acted_as Old box = acted box
-acted_as Heartbeat box = acted box
-acted_as (Refused refusal) box = refused refusal
+abbrev pub acted_as : Result Act Refusal → Box → Acted
+acted_as (Ok _) box = acted box
+acted_as (Err refusal) box = refused refusal
 
 -- a word of our own: a number acts on a row, whatever the records and counts are
-pub record NumberActs (row : List ℕ) (i number : ℕ) (act : Act) (row' : List ℕ) : Type 0 where
+pub record NumberActs (row : List ℕ) (i number : ℕ) (act : Result Act Refusal) (row' : List ℕ) : Type 0 where
   pub says : (changed : List ℕ → List ℕ) (records : List ℕ) → act_numbers act ≡ acted_numbers (number_acts (box_at row records none) i number changed)
   pub acts : (changed : List ℕ → List ℕ) (records : List ℕ) (counts : Counts)
       → number_acts (box_at row records counts) i number changed ≡ acted_as act (box_at row' (changed_by act changed records) (counted act counts))

@@ -1,5 +1,5 @@
 -- The messages of a batch act in turn: 01 "Sequence and gaps".
-use Rattle.std.specs.Prelude.{ℕ, zero, suc, cond, List, [], ◌∷◌, eqb, length, drop}
+use Rattle.std.specs.Prelude.{ℕ, zero, suc, cond, List, [], ◌∷◌, eqb, length, drop, Ok, Err, Result}
 use Rattle.std.proofs.Math.Option.{Option}
 use Rattle.forms.specs.declared.forms.Form.{Form}
 use Rattle.forms.specs.declared.forms.Subject.{Subject}
@@ -12,7 +12,8 @@ use Rattle.sequence.specs.Changes.{full, after}
 use Rattle.sequence.specs.Row.{gaps_of}
 use Rattle.sequence.specs.RowLaid.{laid}
 use Rattle.message.specs.declared.body.What.{What}
-use Rattle.message.specs.declared.body.What.TheVariants.{Heartbeat, PassedOver, Update, Bad}
+use Rattle.message.specs.declared.body.What.TheVariants.{Heartbeat, PassedOver, Update}
+use Rattle.head.specs.declared.head.Fault.{Fault}
 use Rattle.head.specs.Fields.{length_of}
 use Rattle.message.specs.Reads.{message_of}
 use Rattle.state.specs.declared.refusal.Refusal.{Refusal}
@@ -62,9 +63,9 @@ updated lists segment place Nothing form number cells = λ records. records
 updated lists segment place (Of item level) form number cells = stored (slot_at lists (slot_in item segment place level)) number (record_of item form cells)
 
 -- 01 "Sequence and gaps": message i acts: a heartbeat changes nothing
-abbrev pub what_acts : Lists → ℕ → Box → ℕ → What → List ℕ → Acted
-what_acts lists letter box i (Bad fault) cells = refused (of_fault fault i)
-what_acts lists letter box i Heartbeat cells =
+abbrev pub what_acts : Lists → ℕ → Box → ℕ → Result What Fault → List ℕ → Acted
+what_acts lists letter box i (Err fault) cells = refused (of_fault fault i)
+what_acts lists letter box i (Ok Heartbeat) cells =
     acted (record {
       row = box.row;
       records = box.records;
@@ -72,8 +73,8 @@ what_acts lists letter box i Heartbeat cells =
       old = box.old;
       heartbeats = suc box.heartbeats;
     })
-what_acts lists letter box i (PassedOver number) cells = number_acts box i number (λ records. records)
-what_acts lists letter box i (Update number form place) cells =
+what_acts lists letter box i (Ok (PassedOver number)) cells = number_acts box i number (λ records. records)
+what_acts lists letter box i (Ok (Update number form place)) cells =
     number_acts box i number (updated lists (segment_of lists.contracts letter) place (subject_of form) form number cells)
 
 -- 01 "The message": what acts is what the bytes are read as

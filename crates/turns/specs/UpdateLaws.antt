@@ -1,5 +1,5 @@
 -- Laws of an update in a batch: its contract is listed, so that its record is there, and where it is taken its store is kept.
-use Rattle.std.specs.Prelude.{ℕ, suc, ◌+◌, ◌*◌, ◌≤◌, ◌<◌, ◌≡◌, List, length}
+use Rattle.std.specs.Prelude.{ℕ, suc, ◌+◌, ◌*◌, ◌≤◌, ◌<◌, ◌≡◌, List, length, Ok, Result}
 use Rattle.std.proofs.Math.Path.{ap}
 use Rattle.std.proofs.Common.{sym, subst, ◌∙◌, arith}
 use Rattle.std.proofs.Math.Option.{Option, some}
@@ -27,6 +27,7 @@ use Rattle.pairs.specs.ItemsLaws.{habit_few, header_of, segments_of_lem}
 use Rattle.message.specs.Reads.{cells_by, cells_read, rows_read, message_of}
 use Rattle.message.specs.MessageLaws.{key_found, length_is}
 use Rattle.message.specs.Numbers.{verdict_of}
+use Rattle.state.specs.declared.refusal.Refusal.{Refusal}
 use Rattle.turns.specs.declared.act.Act.{Act}
 use Rattle.turns.specs.declared.act.Act.TheVariants.{Taken}
 use Rattle.turns.specs.Acts.{InFront, changed_by}
@@ -57,7 +58,7 @@ least_long PreOpenTwo = omega arith
 
 -- ---- what an update tells of is listed
 
-module _ (lists : Lists) (headers : Headers lists) (letter : ℕ) (bytes : List ℕ) {number : ℕ} {form : Form} {place : ℕ} (e : (message_of lists letter bytes).what ≡ what.Update number form place) where
+module _ (lists : Lists) (headers : Headers lists) (letter : ℕ) (bytes : List ℕ) {number : ℕ} {form : Form} {place : ℕ} (e : (message_of lists letter bytes).what ≡ Ok (what.Update number form place)) where
   pub told : IsUpdate lists letter bytes number form place
   told = update_told lists letter bytes (ap verdict_of e) number form place e
 
@@ -95,8 +96,8 @@ module _ (lists : Lists) (headers : Headers lists) (letter : ℕ) (bytes : List 
 -- ---- its store is kept
 
 module _ (lists : Lists) (headers : Headers lists) (letter : ℕ) (fronts : Fronts) (fronts_are : InFront lists (segment_of lists.contracts letter) fronts) (bytes : List ℕ) (message : Message) (is : message ≡ message_of lists letter bytes)
-    {number : ℕ} {form : Form} {place : ℕ} (e : message.what ≡ what.Update number form place) where
-  what_is : (message_of lists letter bytes).what ≡ what.Update number form place
+    {number : ℕ} {form : Form} {place : ℕ} (e : message.what ≡ Ok (what.Update number form place)) where
+  what_is : (message_of lists letter bytes).what ≡ Ok (what.Update number form place)
   what_is = ap (λ (m : Message). m.what) (sym is) ∙ e
 
   abbrev item : Item
@@ -136,7 +137,7 @@ module _ (lists : Lists) (headers : Headers lists) (letter : ℕ) (fronts : Fron
       record_by_rows form item (rows_behind form item own subject_is) cells' message.cells (same ∙ ap (λ (m : Message). take (length (rows_of form)) m.cells) (sym is))
 
   -- where it is taken
-  pub update_kept : (a : Act) → a ≡ Taken → (stores : List ℕ) (kept : ℕ) → store_cells * kept ≤ length stores
+  pub update_kept : (a : Result Act Refusal) → a ≡ Ok Taken → (stores : List ℕ) (kept : ℕ) → store_cells * kept ≤ length stores
       → (cells cells' : List ℕ) → cells' ≡ sets cells 0 (cells_read lists letter bytes) → length cells' ≡ most_rows
       → (kept' : ℕ) (stores' : List ℕ) → KeptFor (subject_of form) form stores kept fronts place number cells' kept' stores'
       → Keeps (records_wanted lists) message.length stores kept (changed_by a (updated lists (segment_of lists.contracts letter) place (subject_of form) form number message.cells)) kept' stores'

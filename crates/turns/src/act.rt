@@ -3,7 +3,7 @@ ghost use Rattle.std.specs.Prelude.{◌≡◌, true, ◌<◌, length};
 ghost use Rattle.lookup.specs.Answers.{place_of};
 ghost use Rattle.pairs.specs.Lists.{lists};
 ghost use Rattle.sequence.specs.RowLaid.{sound_gap_row};
-ghost use Rattle.turns.specs.Acts.{counted, none, total, Ready, NumberActs, MessageActs, JudgedMessages, Turned};
+ghost use Rattle.turns.specs.Acts.{act_of, counted, is_taken, none, total, Ready, NumberActs, MessageActs, JudgedMessages, Turned};
 
 use layout::MOST_ROWS;
 use message::What;
@@ -17,13 +17,12 @@ pub enum Act {
     Taken,
     Old,
     Heartbeat,
-    Refused(Refusal),
 }
 
 // With the message's length, how many stores are kept behind it, and how many keys its lookup compared.
 #[derive(Clone, Copy)]
 pub struct Step {
-    pub act: Act,
+    pub act: Result<Act, Refusal>,
     pub length: usize,
     pub kept: usize,
     pub compared: usize,
@@ -44,15 +43,29 @@ pub struct Counts {
     pub heartbeats: usize,
 }
 
-fn number_acts(row: &mut [u32; sequence::CELLS], i: usize, number: u32) -> Act
+fn act_of(taken: Taken) -> Act
+    ensures { result ≡ act_of taken }
+{
+    match taken {
+        Taken::Taken => Act::Taken,
+        Taken::Old => Act::Old,
+    }
+}
+
+fn number_acts(row: &mut [u32; sequence::CELLS], i: usize, number: u32) -> Result<Act, Refusal>
     requires { sound_gap_row row.old ≡ true }
     ensures { NumberActs row.old i number result row.new }
 {
     match taking::take(row, number) {
-        Taken::Taken => Act::Taken,
-        Taken::Old => Act::Old,
-        Taken::Full => Act::Refused(Refusal::Gaps(i)),
+        Ok(taken) => Ok(act_of(taken)),
+        Err(_) => Err(Refusal::Gaps(i)),
     }
+}
+
+fn is_taken(act: Result<Act, Refusal>) -> bool
+    ensures { result ≡ is_taken act }
+{
+    matches!(act, Ok(Act::Taken))
 }
 
 // Message i, which begins here; its segment's records begin at `fronts`, and `cells` is for its rows.
@@ -77,16 +90,18 @@ fn message_acts(
     let what = message.what;
     let mut kept = kept;
     let act = match what {
-        What::Heartbeat => Act::Heartbeat,
-        What::PassedOver(number) => number_acts(row, i, number),
-        What::Update(number, form, place) => {
-            let act = number_acts(row, i, number);
-            if let Act::Taken = act {
-                kept = stores::keep_update(stores, kept, fronts, place, form, number, cells);
+        Ok(what) => match what {
+            What::Heartbeat => Ok(Act::Heartbeat),
+            What::PassedOver(number) => number_acts(row, i, number),
+            What::Update(number, form, place) => {
+                let act = number_acts(row, i, number);
+                if is_taken(act) {
+                    kept = stores::keep_update(stores, kept, fronts, place, form, number, cells);
+                }
+                act
             }
-            act
-        }
-        What::Bad(fault) => Act::Refused(state::of_fault(fault, i)),
+        },
+        Err(fault) => Err(state::of_fault(fault, i)),
     };
     Step {
         act,
@@ -98,7 +113,7 @@ fn message_acts(
 
 fn counted(counts: Counts, act: Act) -> Counts
     requires { total counts < 65536 }
-    ensures { result ≡ counted act counts }
+    ensures { result ≡ counted (Ok act) counts }
 {
     let taken = counts.taken;
     let old = counts.old;
@@ -119,7 +134,6 @@ fn counted(counts: Counts, act: Act) -> Counts
             old,
             heartbeats: heartbeats + 1,
         },
-        Act::Refused(_) => counts,
     }
 }
 
@@ -160,21 +174,19 @@ pub fn judge_messages(
     let mut kept = 0;
     let mut compared = 0;
     let mut at = 0;
-    let mut i = 0;
-    while i < count {
+    for i in 0..count {
         let part = &data[at..];
         let step = message_acts(
             list, spreads, letter, segment, fronts, row, stores, kept, i, part, &mut cells,
         );
         compared += step.compared;
-        let act = step.act;
-        if let Act::Refused(refusal) = act {
-            return answered(Judged::Refused(refusal, compared), 0);
-        }
+        let act = match step.act {
+            Ok(act) => act,
+            Err(refusal) => return answered(Judged::Refused(refusal, compared), 0),
+        };
         counts = counted(counts, act);
         kept = step.kept;
         at += step.length;
-        i += 1;
     }
     if at < data.len() {
         return answered(Judged::Refused(Refusal::Count, compared), 0);

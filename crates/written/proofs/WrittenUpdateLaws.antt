@@ -1,7 +1,7 @@
 -- A message that was written: its rows are good, it stands in front of the lent bytes, and a heartbeat, where its segment is listed,
 -- and an update, where its contract or pair is, are what they were written from.
 use Prim.Native.Nat.{ℕ, ◌+◌, ◌^◌, ◌≤◌, ◌<◌}
-use Rattle.std.specs.Prelude.{◌≡◌, Bool, cond, length, take, drop, Ok, Option, Some}
+use Rattle.std.specs.Prelude.{◌≡◌, Bool, cond, length, take, drop, Ok, Option, Some, Result}
 use Rattle.std.proofs.Math.Path.{refl, ap, sym}
 use Rattle.std.proofs.Common.{◌∙◌, get_or-take, get_or-drop}
 use Rattle.std.proofs.Math.Bool.{true, false}
@@ -36,6 +36,7 @@ use Rattle.compose.specs.WriteLaws.{good_length}
 use Rattle.message.specs.declared.body.Outline.{Outline}
 use Rattle.message.specs.declared.body.What.{What}
 use Rattle.message.specs.declared.body.What.TheVariants as what
+use Rattle.head.specs.declared.head.Fault.{Fault}
 use Rattle.head.specs.Fields.{segment_letter, length_of, number_of, data_of, form_in}
 use Rattle.head.specs.Head.{head_rules}
 use Rattle.head.specs.Rules.{head_of}
@@ -130,7 +131,7 @@ module _ (item : Item) (code : Code) (level : Level) (number : ℕ) (key : List 
           hold_good (head_rules letter (segment_of lists.contracts letter) written) (five, (six, (seven, (ap takes_length form_is, (nine, (rw (form_is, number_is few) number_fits, tt))))))
 
       -- one that tells of nothing is a heartbeat
-      pub heartbeat_is : subject_of form ≡ Nothing → (message_of lists (segment_letter code.0) written).what ≡ what.Heartbeat
+      pub heartbeat_is : subject_of form ≡ Nothing → (message_of lists (segment_letter code.0) written).what ≡ Ok what.Heartbeat
       heartbeat_is none_told =
           let letter : ℕ = segment_letter code.0 in
           ap (λ (m : Message). m.what) (good_head lists letter written head_good)
@@ -187,7 +188,7 @@ module _ (item : Item) (code : Code) (level : Level) (number : ℕ) (key : List 
 
       module _ (few : number < 2 ^ 32) (lists : Lists) where
         -- it is what it acts as
-        contents : is_some (segment_of lists.contracts (segment_letter code.0)) ≡ true → (w : What) → w ≡ of_named (acts_as written) number (message_place lists (segment_letter code.0) written)
+        contents : is_some (segment_of lists.contracts (segment_letter code.0)) ≡ true → (w : Result What Fault) → w ≡ of_named (acts_as written) number (message_place lists (segment_letter code.0) written)
             → message_of lists (segment_letter code.0) written ≡ record { what = w; length = message_length (rows_of form); cells = zeros_behind (seen_values (rows_of form) (values form)) }
         contents letter_listed w e =
             let letter : ℕ = segment_letter code.0 in
@@ -196,16 +197,16 @@ module _ (item : Item) (code : Code) (level : Level) (number : ℕ) (key : List 
             (rw data_is (rows_back 0 (rows_of form) key (values form) rows_good)) (rw (number_is few) e)
 
         -- in another market it is passed over
-        pub passed_is : updates item market ≡ false → is_some (segment_of lists.contracts (segment_letter code.0)) ≡ true → (message_of lists (segment_letter code.0) written).what ≡ what.PassedOver number
-        passed_is other letter_listed = ap (λ (m : Message). m.what) (contents letter_listed (what.PassedOver number) (rw (acts_as_lem false other)))
+        pub passed_is : updates item market ≡ false → is_some (segment_of lists.contracts (segment_letter code.0)) ≡ true → (message_of lists (segment_letter code.0) written).what ≡ Ok (what.PassedOver number)
+        passed_is other letter_listed = ap (λ (m : Message). m.what) (contents letter_listed (Ok (what.PassedOver number)) (rw (acts_as_lem false other)))
 
         -- one whose contract or pair is listed updates its record
         module _ (normal : updates item market ≡ true) (place : ℕ) (listed : key_place item lists (segment_letter code.0) key ≡ some place) where
           abbrev message : Message
           message =
-              record { what = what.Update number form place; length = message_length (rows_of form); cells = zeros_behind (seen_values (rows_of form) (values form)) }
+              record { what = Ok (what.Update number form place); length = message_length (rows_of form); cells = zeros_behind (seen_values (rows_of form) (values form)) }
 
           pub message_is : message_of lists (segment_letter code.0) written ≡ message
           message_is =
-              contents (ap is_some (key_found item lists (segment_letter code.0) key place listed).1) (what.Update number form place)
+              contents (ap is_some (key_found item lists (segment_letter code.0) key place listed).1) (Ok (what.Update number form place))
               (rw (acts_as_lem true normal, tells.1, key_is, listed))

@@ -11,19 +11,19 @@ row_of-row-requires c =
     let asked : AskedFor (lends (lists a.list.now a.spreads.now) a.rows.now a.records.now) a.letter c.in-Segment.segment = asked_segment _ _ _ (rw c.in-Segment.is at c.check_segment.ensures) in
     row_there (lends (lists a.list.now a.spreads.now) a.rows.now a.records.now) a.letter asked.0 _ asked.1
 
-pub returns-in-Runs : goal.returns-in-Runs
-returns-in-Runs c =
+pub returns-in-Ok : goal.returns-in-Ok
+returns-in-Ok c =
     let a = c.args in
     let asked : AskedFor (lends (lists a.list.now a.spreads.now) a.rows.now a.records.now) a.letter c.in-Segment.segment = asked_segment _ _ _ (rw c.in-Segment.is at c.check_segment.ensures) in
-    listed_runs (lends (lists a.list.now a.spreads.now) a.rows.now a.records.now) a.letter asked.0 _ asked.1 a.cells.now _ _ _
-    (rw (c.row_of-row.ensures, c.in-Runs.is) at c.list.ensures)
+    listed_runs (lends (lists a.list.now a.spreads.now) a.rows.now a.records.now) a.letter asked.0 _ asked.1 a.cells.now _ _
+    (rw (c.row_of-row.ensures, c.in-Ok.is) at c.list.ensures)
 
-pub returns-in-Short : goal.returns-in-Short
-returns-in-Short c =
+pub returns-in-Err : goal.returns-in-Err
+returns-in-Err c =
     let a = c.args in
     let asked : AskedFor (lends (lists a.list.now a.spreads.now) a.rows.now a.records.now) a.letter c.in-Segment.segment = asked_segment _ _ _ (rw c.in-Segment.is at c.check_segment.ensures) in
     listed_short (lends (lists a.list.now a.spreads.now) a.rows.now a.records.now) a.letter asked.0 _ asked.1 a.cells.now _ _
-    (rw (c.row_of-row.ensures, c.in-Short.is) at c.list.ensures)
+    (rw (c.row_of-row.ensures, c.in-Err.is) at c.list.ensures)
 
 pub returns-in-Refused : goal.returns-in-Refused
 returns-in-Refused c =

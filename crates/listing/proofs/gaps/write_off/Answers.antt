@@ -29,8 +29,8 @@ put_row-requires c =
       ((sound_row_exactly off.write_off.new.row).0 (wrote_off_row sound own)).0,
     )
 
-pub returns-in-Removed : goal.returns-in-Removed
-returns-in-Removed c =
+pub returns-in-Some : goal.returns-in-Some
+returns-in-Some c =
     let asked : let a = c.args in AskedFor (lends (lists a.list.now a.spreads.now) a.rows.now a.records.now) a.letter c.in-Segment.segment = asked_segment _ _ _ (rw c.in-Segment.is at c.check_segment.ensures)
     in
     let own : let told = c in WroteOff (gap_row_of told.args.rows.now told.in-Segment.segment) c.write_off.result c.write_off.new.row = rw c.row_of-row.ensures at c.write_off.ensures in
@@ -40,17 +40,17 @@ returns-in-Removed c =
     let told = off in
     let a = told.args in
     rw put.put_row.ensures
-    (off_removed (lends (lists a.list.now a.spreads.now) a.rows.now a.records.now) a.letter asked.0 _ asked.1 _ _ _ (rw first.in-Removed.is at own))
+    (off_removed (lends (lists a.list.now a.spreads.now) a.rows.now a.records.now) a.letter asked.0 _ asked.1 _ _ (rw first.in-Some.is at own))
 
-pub returns-in-NoGap : goal.returns-in-NoGap
-returns-in-NoGap c =
+pub returns-in-None : goal.returns-in-None
+returns-in-None c =
     let asked : let a = c.args in AskedFor (lends (lists a.list.now a.spreads.now) a.rows.now a.records.now) a.letter c.in-Segment.segment = asked_segment _ _ _ (rw c.in-Segment.is at c.check_segment.ensures)
     in
     let own : let told = c in WroteOff (gap_row_of told.args.rows.now told.in-Segment.segment) c.write_off.result c.write_off.new.row = rw c.row_of-row.ensures at c.write_off.ensures in
     let off = c in
     let told = off in
     let a = told.args in
-    off_none (lends (lists a.list.now a.spreads.now) a.rows.now a.records.now) a.letter asked.0 _ asked.1 _ (rw c.in-NoGap.is at own)
+    off_none (lends (lists a.list.now a.spreads.now) a.rows.now a.records.now) a.letter asked.0 _ asked.1 _ (rw c.in-None.is at own)
 
 pub returns-in-Refused : goal.returns-in-Refused
 returns-in-Refused c =

@@ -1,5 +1,6 @@
 -- The rows of its form, and then its key.
 -- what is known once the rows are read
+use Rattle.std.specs.Prelude.{Result}
 use Rattle.std.proofs.Common.{ℕ, ◌-◌, ◌≡◌, subst, List, arith, take, drop}
 use Rattle.std.proofs.Math.Option.{Option}
 use mathlib.Core.Path.{subst⁻¹}
@@ -7,6 +8,7 @@ use Rattle.pairs.specs.Lists.{lists}
 use Rattle.layout.specs.declared.read.Verdict.{Verdict}
 use Rattle.message.specs.declared.body.Outline.{Outline}
 use Rattle.message.specs.declared.body.What.{What}
+use Rattle.head.specs.declared.head.Fault.{Fault}
 use Rattle.lookup.specs.Answers.{place_of}
 use Rattle.forms.specs.declared.forms.Form.{Form}
 use Rattle.forms.specs.declared.forms.Item.{Item}
@@ -73,7 +75,7 @@ module _ (c : After-read_update) where
       (subst (λ (d : List ℕ). Outlines (bare (of_named (acting (is.Form form) (market_in d)) c.number_of-number.result (place d)) whole) (compared_as (acting (is.Form form) (market_in d)) (steps d)) r) data_is o))
 
   -- a fault is told with the length that its field has
-  at_length : {w : What} {compared : ℕ} {r : Outline} → Outlines (bare w (length_of bytes)) compared r → Outlines (bare w whole) compared r
+  at_length : {w : Result What Fault} {compared : ℕ} {r : Outline} → Outlines (bare w (length_of bytes)) compared r → Outlines (bare w whole) compared r
   at_length {w} {compared} {r} o = subst⁻¹ (λ (n : ℕ). Outlines (bare w n) compared r) whole_is o
 
 pub returns-in-Good : goal.returns-in-Good

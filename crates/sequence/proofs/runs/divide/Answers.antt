@@ -8,5 +8,5 @@ pub returns : goal.returns
 returns c =
     let a = c.args in
     let p = c.requires in
-    ap (λ (ns : List ℕ). set (set (set ns (cell a.i + 1) a.end) (cell a.i + 2) a.begin) 2 (c.number-n.result + 1)) c.spread.ensures
+    ap (λ (ns : List ℕ). set (set (set ns (cell a.i + 1) a.end) (cell a.i + 2) a.begin) 2 (c.number-n.result + 1)) c.copy_within.ensures.after
     ∙ rw c.number-n.ensures.0 (divide_row a.row.now p.0.wide a.i p.0.stands a.end a.begin)

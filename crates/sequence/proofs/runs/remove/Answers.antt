@@ -7,5 +7,5 @@ pub returns : goal.returns
 returns c =
     let a = c.args in
     let p = c.requires in
-    ap (λ (ns : List ℕ). set ns 2 (c.number-n.result - 1)) c.draw_in.ensures
+    ap (λ (ns : List ℕ). set ns 2 (c.number-n.result - 1)) c.copy_within.ensures.after
     ∙ rw c.number-n.ensures.0 (remove_row a.row.now p.wide a.i p.stands)

@@ -31,7 +31,7 @@ returns-then-last-number c =
 pub returns-then-number-eq-MOST : goal.returns-then-number-eq-MOST
 returns-then-number-eq-MOST c =
     let a = c.args in
-    fill_full a.row.now a.number a.i c.requires (omega arith) (omega arith) (omega arith)
+    fill_full a.row.now a.number a.i c.requires _ (omega arith) (omega arith) (omega arith)
 
 pub returns : goal.returns
 returns c =

@@ -58,6 +58,14 @@ unfolding size size_in
 size_more zero h = absurd (omega arith)
 size_more (suc n) h = rw (le-ltb (suc n) 10 h, steps_enough n (suc n / 10) (suc n / 10) (omega arith) (omega arith))
 
+-- one more than the largest power of ten that is no larger
+pub size_power : (k n : ℕ) → 10 ^ k ≤ n → n < 10 * 10 ^ k → size n ≡ suc k
+size_power zero n low high = size_one n high
+size_power (suc k) n low high =
+    let floor : 10 ^ k * 10 ≤ n = rw pow-suc at low in
+    let ceiling : n < 10 * (10 ^ k * 10) = rw pow-suc at high in
+    size_more n (omega (arith, ten_pos k)) ∙ ap suc (size_power k (n / 10) (omega arith) (omega arith))
+
 pub size_pos : (n : ℕ) → 0 < size n
 size_pos n = ⊎_elim (λ (h : 10 ≤ n). omega (arith, size_more n h)) (λ (h : n < 10). omega (arith, size_one n h)) (order 10 n)
 

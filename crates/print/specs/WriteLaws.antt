@@ -1,9 +1,11 @@
 -- How long a text is, when a field is filled and when it is refused, and what the writer promises then.
-use Rattle.std.specs.Prelude.{ℕ, ◌+◌, ◌/◌, ◌^◌, ◌<◌, ◌≤◌, ◌≡◌, refl, Bool, true, false, List, map, ◌⊎◌, length, Ok, Err}
+use Rattle.std.specs.Prelude.{ℕ, ◌+◌, ◌/◌, ◌^◌, ◌<◌, ◌≤◌, ◌≡◌, refl, Bool, true, false, List, map, ◌⊎◌, length, cond, ◌==◌, Ok, Err}
 use Rattle.std.proofs.Common.{arith, length-append, le-leb}
 use Rattle.std.proofs.lemmas.List.{length-replicate, length-map}
 use Rattle.std.proofs.lemmas.Bool.{lt-leb}
+use Rattle.laws.specs.Refused.{field_no}
 use Rattle.laws.specs.Tests.{and_false}
+use Rattle.laws.specs.Told.{told}
 use Rattle.decimal.specs.Denotes.{digit_char, pointed, below_zero, Denotes, AllSpaces}
 use Rattle.print.specs.Write.{last_digits, size, trimmed, text_of, signed_text, Written, filled, refused, spaced, in_field, has_side, written_as, blank_text, NoText, Put, put_number, Wrote}
 use Rattle.decimal.specs.declared.Kind.{Kind}
@@ -62,16 +64,17 @@ pub wrote_filled : {w : Written} {text : List ℕ} (before : List ℕ) {after : 
     Wrote w before (Ok tt) after
 wrote_filled before e filling = rw e (record { answers = refl; leaves = filling })
 
+-- the answer by its number
+abbrev put_of : ℕ → Put
+put_of n = cond (n == 0) (Ok tt) (cond (n == field_no) (Err Malformed) (Err OutOfRange))
+
+put_back : (r : Put) → put_of (put_number r) ≡ r
+put_back (Ok done) = refl
+put_back (Err Malformed) = refl
+put_back (Err OutOfRange) = refl
+
 pub put_number_apart : (a b : Put) → put_number a ≡ put_number b → a ≡ b
-put_number_apart (Ok a) (Ok b) e = refl
-put_number_apart (Ok a) (Err Malformed) e = absurd (omega arith)
-put_number_apart (Ok a) (Err OutOfRange) e = absurd (omega arith)
-put_number_apart (Err Malformed) (Ok b) e = absurd (omega arith)
-put_number_apart (Err Malformed) (Err Malformed) e = refl
-put_number_apart (Err Malformed) (Err OutOfRange) e = absurd (omega arith)
-put_number_apart (Err OutOfRange) (Ok b) e = absurd (omega arith)
-put_number_apart (Err OutOfRange) (Err Malformed) e = absurd (omega arith)
-put_number_apart (Err OutOfRange) (Err OutOfRange) e = refl
+put_number_apart = told put_number put_of put_back
 
 -- ---- none
 

@@ -17,11 +17,7 @@ struct Decimal {
 pub fn blank(field: &mut [u8])
     ensures { field.new ≡ blank_text (length field.old) }
 {
-    let mut i = 0;
-    while i < field.len() {
-        field[i] = b' ';
-        i += 1;
-    }
+    field.fill(b' ');
 }
 
 // The same amount with no needless zero behind the point.
@@ -29,16 +25,14 @@ fn stripped(units: u64, places: usize) -> Decimal
     ensures { Stripped places units result.places result.units }
 {
     let mut n = units;
-    let mut left = places;
-    while 0 < left {
+    for left in (0..places).rev() {
         if n % 10 != 0 {
             return Decimal {
                 units: n,
-                places: left,
+                places: left + 1,
             };
         }
         n /= 10;
-        left -= 1;
     }
     Decimal {
         units: n,
@@ -51,10 +45,8 @@ fn whole(units: u64, places: usize) -> u64
     ensures { result ≡ units / 10 ^ places }
 {
     let mut n = units;
-    let mut left = places;
-    while 0 < left {
+    for _ in 0..places {
         n /= 10;
-        left -= 1;
     }
     n
 }
@@ -63,13 +55,7 @@ fn whole(units: u64, places: usize) -> u64
 fn size(n: u64) -> usize
     ensures { result ≡ size n }
 {
-    let mut left = n;
-    let mut count: usize = 1;
-    while 10 <= left {
-        left /= 10;
-        count += 1;
-    }
-    count
+    n.max(1).ilog10() as usize + 1
 }
 
 // How many characters the sign and the digits of a number take.
@@ -85,9 +71,7 @@ fn put_digits(n: u64, field: &mut [u8])
     ensures { field.new ≡ digits_in n (length field.old) }
 {
     let mut left = n;
-    let mut i = field.len();
-    while 0 < i {
-        i -= 1;
+    for i in (0..field.len()).rev() {
         field[i] = b'0' + (left % 10) as u8;
         left /= 10;
     }
@@ -145,8 +129,8 @@ fn lay(minus: bool, n: u64, behind: usize, field: &mut [u8]) -> Result<(), Field
 pub fn write(below: bool, units: u64, kind: Kind, field: &mut [u8]) -> Result<(), FieldFault>
     ensures { Wrote (written_as kind (length field.old) below units) field.old result field.new }
 {
-    let minus = below & (units != 0);
-    if minus & !kind.signed {
+    let minus = below && units != 0;
+    if minus && !kind.signed {
         return Err(FieldFault::OutOfRange);
     }
     if kind.most < units {

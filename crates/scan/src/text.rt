@@ -1,7 +1,7 @@
 // How a number in text is read: one walk in the order of document 01's sentence. A place moves forward through the text: past the
 // spaces, the minus, the digits, the point and its digits, the spaces, to the end. Each part stays while it may and hands the place
 // on to the next; what the next does not expect is malformed.
-ghost use Rattle.std.specs.Prelude.{◌≡◌, ◌+◌, ◌-◌, ◌^◌, ◌<◌, drop};
+ghost use Rattle.std.specs.Prelude.{◌≡◌, ◌+◌, ◌-◌, ◌^◌, ◌<◌, ◌≤◌, length, drop};
 ghost use Rattle.scan.specs.Read.{read_as};
 ghost use Rattle.scan.specs.Parts.{point_at, PassedSpaces, PassedDigits, Unsigned, UnsignedBehind};
 
@@ -32,7 +32,7 @@ pub fn read(text: &[u8], kind: Kind) -> Result<Held, FieldFault>
         return Ok(Held::Nothing);
     }
     // At most one minus, where the kind has a sign.
-    if kind.signed & (text[first] == MINUS) {
+    if kind.signed && text[first] == MINUS {
         return unsigned(text, first + 1, kind).map(units::below_zero);
     }
     unsigned(text, first, kind)
@@ -40,7 +40,8 @@ pub fn read(text: &[u8], kind: Kind) -> Result<Held, FieldFault>
 
 // Behind the sign, or where there is none: the number without it.
 fn unsigned(text: &[u8], first: usize, kind: Kind) -> Result<Held, FieldFault>
-    requires { kind.most + 1 < 2 ^ 64 }
+    requires within { first ≤ length text.now }
+    requires small { kind.most + 1 < 2 ^ 64 }
     ensures { Unsigned kind text.now first result }
 {
     // One or more digits.
@@ -64,25 +65,24 @@ fn unsigned(text: &[u8], first: usize, kind: Kind) -> Result<Held, FieldFault>
 
 // Past the spaces.
 fn spaces(text: &[u8], from: usize) -> usize
+    requires { from ≤ length text.now }
     ensures { PassedSpaces text.now from result }
 {
-    let mut at = from;
-    while at < text.len() {
+    for at in from..text.len() {
         if text[at] != SPACE {
             return at;
         }
-        at += 1;
     }
-    at
+    text.len()
 }
 
 // Past the digits, each of them one more behind the amount.
 fn digits(text: &[u8], from: usize, before: u64) -> Walked
+    requires { from ≤ length text.now }
     ensures { PassedDigits text.now from before result }
 {
-    let mut at = from;
     let mut amount = before;
-    while at < text.len() {
+    for at in from..text.len() {
         let d = units::digit(text[at]);
         if d > 9 {
             return Walked { at, amount };
@@ -91,27 +91,28 @@ fn digits(text: &[u8], from: usize, before: u64) -> Walked
             return over(text, at + 1);
         }
         amount = amount * 10 + d;
-        at += 1;
     }
-    Walked { at, amount }
+    Walked {
+        at: text.len(),
+        amount,
+    }
 }
 
 // Past the other digits of an amount over the ceiling.
 fn over(text: &[u8], from: usize) -> Walked
+    requires { from ≤ length text.now }
     ensures { PassedDigits text.now from (2 ^ 64 - 1) result }
 {
-    let mut at = from;
-    while at < text.len() {
+    for at in from..text.len() {
         if units::digit(text[at]) > 9 {
             return Walked {
                 at,
                 amount: units::CEILING,
             };
         }
-        at += 1;
     }
     Walked {
-        at,
+        at: text.len(),
         amount: units::CEILING,
     }
 }
@@ -120,11 +121,7 @@ fn over(text: &[u8], from: usize) -> Walked
 fn point_at(text: &[u8], at: usize, places: usize) -> bool
     ensures { result ≡ point_at places text.now at }
 {
-    if at < text.len() {
-        (places != 0) & (text[at] == POINT)
-    } else {
-        false
-    }
+    at < text.len() && places != 0 && text[at] == POINT
 }
 
 // Behind the last digit: spaces up to the end.
@@ -135,7 +132,8 @@ fn behind(
     digits: usize,
     kind: Kind,
 ) -> Result<Held, FieldFault>
-    requires { kind.most + 1 < 2 ^ 64 }
+    requires within { from ≤ length text.now }
+    requires small { kind.most + 1 < 2 ^ 64 }
     ensures { UnsignedBehind kind amount digits (drop from text.now) result }
 {
     let end = spaces(text, from);

@@ -36,13 +36,11 @@ fn filled(amount: u64, noughts: usize) -> u64
     ensures { cap result ≡ cap (amount * 10 ^ noughts) }
 {
     let mut n = amount;
-    let mut left = noughts;
-    while 0 < left {
+    for put in 0..noughts {
         if is_full(n, 0) {
             return CEILING;
         }
         n *= 10;
-        left -= 1;
     }
     n
 }

@@ -1,18 +1,13 @@
--- `print::text::lay` meets its contract: the text is the sign and the whole part's digits, and where there are places the point and
--- the digits behind it. A field that is too narrow for the whole part, or for all of it, is not written.
+-- `lay` lays out the sign and the whole part's digits, and where there are places the point and the digits behind it. A field that
+-- is too narrow for the whole part, or for all of it, is not written.
 -- once the whole part, and its size with the sign, are known: what becomes of the field
-use Prim.Native.Nat.{ℕ, suc, ◌+◌, ◌-◌, ◌/◌, ◌%◌, ◌^◌, ◌≤◌, ◌<◌}
-use mathlib.Core.Path.{◌≡◌, sym, ap, ◌∙◌}
-use mathlib.Core.Bool.{Bool}
-use mathlib.Core.List.{List, ◌∷◌, ◌++◌, append_assoc}
-use native.Mathlib.Omega.{arith}
-use lib.ListN.{length, length-append}
+use Rattle.std.specs.Prelude.{ℕ, suc, ◌+◌, ◌-◌, ◌/◌, ◌%◌, ◌^◌, ◌≤◌, ◌<◌, ◌≡◌, Bool, List, ◌∷◌, ◌++◌, length, Ok, Err}
+use Rattle.std.proofs.Common.{sym, ap, ◌∙◌, append_assoc, arith, length-append}
 use Rattle.decimal.specs.Denotes.{point, sign}
 use Rattle.print.specs.Write.{size, text_of, signed_text, Wrote, in_field}
 use Rattle.print.specs.WriteSteps.{digits_in, behind_in, front_in, whole_in}
 use Rattle.print.specs.WriteLaws.{chars_length, narrow, fitting, spaced_length, wrote_refused, wrote_filled}
 use Rattle.print.specs.WriteStepsLaws.{text_unpointed, text_pointed, text_longer, front_signed, front_length}
-use Rattle.std.specs.Prelude.{Ok, Err}
 use Rattle.decimal.specs.declared.FieldFault.TheVariants.{OutOfRange}
 use Rattle.print.proofs.Parts.{put_both}
 use Rattle.print.proofs.text.lay.Goals as goal
@@ -70,37 +65,28 @@ module _
         (e ∙ rw (front_long, append_assoc, spaces, left, ← text))
 
 pub returns-then-width-count : goal.returns-then-width-count
-returns-then-width-count c =
-    let start = c in
-    no_room _ start.args.minus _ _ _ _ c.whole-front.ensures c.front_size-count.ensures c.if-width-count.true
+returns-then-width-count c = no_room _ c.args.minus _ _ _ _ c.whole-front.ensures c.front_size-count.ensures c.if-width-count.true
 
 pub returns-then-behind-eq0 : goal.returns-then-behind-eq0
 returns-then-behind-eq0 c =
-    let sized = c in
-    let minus = sized.args.minus in
-    whole-fits _ minus _ _ _ _ sized.whole-front.ensures sized.front_size-count.ensures
+    whole-fits _ c.args.minus _ _ _ _ c.whole-front.ensures c.front_size-count.ensures
     c.if-behind-eq0.true c.if-width-count.false _ c.put_whole.ensures
 
 pub returns-then-width-count-2 : goal.returns-then-width-count-2
 returns-then-width-count-2 c =
-    let start = c in
-    let sized = c in
-    no-room-behind _ start.args.minus _ _ _ _ sized.whole-front.ensures sized.front_size-count.ensures start.requires c.if-behind-eq0.false c.if-width-count-2.true
+    no-room-behind _ c.args.minus _ _ _ _ c.whole-front.ensures c.front_size-count.ensures c.requires c.if-behind-eq0.false c.if-width-count-2.true
 
 pub returns : goal.returns
 returns c =
-    let sized = c in
-    let start = sized in
-    let minus = start.args.minus in
-    let n = start.args.n in
-    let count = sized.front_size-count.result in
-    let front = sized.whole-front.result in
-    let field = start.args.field.now in
-    let at = length field - start.args.behind - 1 in
+    let minus = c.args.minus in
+    let count = c.front_size-count.result in
+    let front = c.whole-front.result in
+    let field = c.args.field.now in
+    let at = length field - c.args.behind - 1 in
     let room : count ≤ at = omega arith in
-    let signed : length (sign minus) ≤ count = omega (arith, sized.front_size-count.ensures) in
-    pointed-fits _ minus _ _ _ _ sized.whole-front.ensures sized.front_size-count.ensures start.requires
+    let signed : length (sign minus) ≤ count = omega (arith, c.front_size-count.ensures) in
+    pointed-fits _ minus _ _ _ _ c.whole-front.ensures c.front_size-count.ensures c.requires
     c.if-behind-eq0.false at (omega arith) room _
-    (put_both field at (whole_in minus front count) (behind_in point n) (omega arith)
+    (put_both field at (whole_in minus front count) (behind_in point c.args.n) (omega arith)
     (spaced_length at (front_in minus front count) (rw (front_length minus front count signed) room))
     _ _ c.put_whole-2.ensures c.put_behind.ensures)

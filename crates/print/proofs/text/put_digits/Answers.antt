@@ -1,13 +1,9 @@
--- `print::text::put_digits` meets its contract. The loop's invariant: the field as it was up to i, and behind that the digits of the
--- places passed; what is left is the number without them.
-use Prim.Native.Nat.{ℕ, zero, suc, ◌≤◌, ◌<◌, ◌-◌, ◌/◌, ◌%◌, ◌^◌}
-use mathlib.Core.Path.{◌≡◌, refl, ◌∙◌}
-use mathlib.Core.List.{List, append-nil}
-use native.Mathlib.Nat.{div-one, sub_self, sub-zero}
-use native.Mathlib.Numerals.{sub-one}
-use native.Mathlib.Omega.{arith}
-use lib.ListN.{length, set, length-set}
-use lib.Seq.{take-length}
+-- `put_digits` puts the digits from the last place on: the field as it was up to a place, and behind that the digits of the places
+-- passed; what is left is the number without them.
+use Rattle.std.specs.Prelude.{ℕ, zero, suc, ◌≤◌, ◌<◌, ◌-◌, ◌/◌, ◌%◌, ◌^◌, ◌≡◌, List, length, set}
+use Rattle.std.proofs.Common.{◌∙◌, append-nil, div-one, sub-one, arith}
+use Rattle.std.proofs.Math.Nat.{sub_self, sub-zero}
+use Rattle.std.proofs.Math.Seq.{take-length}
 use Rattle.decimal.specs.Denotes.{digit_char}
 use Rattle.laws.specs.Powers.{tenth_last}
 use Rattle.laws.specs.Lists.{set_before}
@@ -29,22 +25,19 @@ filled_more n (suc i) field p h =
     (set_before field (digits_in n (length field - suc i)) i (digit_char (n / 10 ^ (length field - suc i) % 10)) h)
 
 pub loop-i-init : goal.loop-i-init
-loop-i-init c = (omega arith, refl, rw (sub_self, div-one), filled_none c.args.n c.args.field.now)
+loop-i-init c = (rw (sub_self, div-one), filled_none c.args.n c.args.field.now)
 
 pub loop-i-preserved : goal.loop-i-preserved
 loop-i-preserved c =
     let field = c.args.field.now in
-    let n = c.args.n in
     let i = c.loop-i.i in
     let more : length field - (i - 1) ≡ suc (length field - i) = omega arith in (
-      omega arith,
-      simp length-set (omega arith),
-      rw (c.loop-i.invariant.2, more, tenth_last),
-      rw (c.loop-i.invariant.3, c.loop-i.invariant.2) (filled_more n i field c.loop-i-test.true c.loop-i.invariant.0),
+      rw (c.loop-i.invariant.0, more, tenth_last),
+      rw (c.loop-i.invariant.1, c.loop-i.invariant.0) (filled_more c.args.n i field c.loop-i-test.true (omega arith)),
     )
 
 pub returns : goal.returns
 unfolding filled_from
 returns c =
     let none : c.loop-i.i ≡ 0 = omega arith in
-    c.loop-i.invariant.3 ∙ rw (none, sub-zero)
+    c.loop-i.invariant.1 ∙ rw (none, sub-zero)

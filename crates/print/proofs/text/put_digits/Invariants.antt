@@ -1,9 +1,5 @@
--- `print::text::put_digits`, the loop's invariant: the field as it was up to i, and behind that the digits of the places passed; what
--- is left is the number without them.
-use Prim.Native.Nat.{ℕ, ◌≤◌, ◌-◌, ◌/◌, ◌^◌}
-use mathlib.Core.Path.{◌≡◌}
-use mathlib.Core.List.{List, ◌++◌}
-use lib.ListN.{length, take}
+-- the field as it was up to i, and behind that the digits of the places passed; what is left is the number without them
+use Rattle.std.specs.Prelude.{ℕ, ◌-◌, ◌/◌, ◌^◌, ◌≡◌, List, ◌++◌, length, take}
 use Rattle.print.specs.WriteSteps.{digits_in}
 use Rattle.print.proofs.text.put_digits.Given as goal
 
@@ -12,8 +8,4 @@ unfoldable pub filled_from : ℕ → ℕ → List ℕ → List ℕ
 filled_from n i field = take i field ++ digits_in n (length field - i)
 
 abbrev pub invariant-loop-i : goal.invariant-loop-i
-invariant-loop-i l =
-    (l.i ≤ length l.initial.field) × (length l.field ≡ length l.initial.field) × (l.left ≡ l.n / 10 ^ (length l.initial.field - l.i)) × (l.field ≡ filled_from l.n l.i l.initial.field)
-
-abbrev pub decreases-loop-i : goal.decreases-loop-i
-decreases-loop-i l = l.i
+invariant-loop-i l = (l.left ≡ l.n / 10 ^ (length l.initial.field - l.i)) × (l.field ≡ filled_from l.n l.i l.initial.field)

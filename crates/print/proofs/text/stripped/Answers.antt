@@ -1,6 +1,5 @@
--- `print::text::stripped` meets its contract. The loop's invariant: what is left, at the places that are left, has the amount's text.
-use Prim.Native.Nat.{◌-◌}
-use mathlib.Core.Path.{sym, ◌∙◌}
+-- `stripped` leaves out one needless zero after another: what is left, at the places that are left, has the amount's text.
+use Rattle.std.proofs.Common.{◌-◌, sym, ◌∙◌}
 use Rattle.laws.specs.Order.{one_below}
 use Rattle.print.specs.WriteStepsLaws.{text_tens}
 use Rattle.print.proofs.text.stripped.Goals as goal

@@ -1,12 +1,7 @@
--- `print::text::whole` meets its contract. The loop's invariant: what is left, at the places that are left, is what stands before
--- the point.
-use Prim.Native.Nat.{◌-◌}
-use mathlib.Core.Path.{◌∙◌}
-use Rattle.laws.specs.Powers.{tenth_first}
-use Rattle.laws.specs.Order.{one_below}
+-- `whole` cuts off one place behind the point after another.
+use Rattle.std.proofs.Common.{add-one}
+use Rattle.laws.specs.Powers.{tenth_last}
 use Rattle.print.proofs.text.whole.Goals as goal
 
-pub loop-left-preserved : goal.loop-left-preserved
-loop-left-preserved c =
-    let down = one_below c.loop-left.left c.loop-left-test.true in
-    tenth_first c.loop-left.n (c.loop-left.left - 1) ∙ rw down at c.loop-left.invariant
+pub loop-preserved : goal.loop-preserved
+loop-preserved c = rw (c.loop.invariant, tenth_last, add-one)

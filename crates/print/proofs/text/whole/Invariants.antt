@@ -1,9 +1,5 @@
-use Prim.Native.Nat.{◌/◌, ◌^◌}
-use mathlib.Core.Path.{◌≡◌}
+use Rattle.std.proofs.Common.{◌≡◌, ◌/◌, ◌^◌}
 use Rattle.print.proofs.text.whole.Given as goal
 
-abbrev pub invariant-loop-left : goal.invariant-loop-left
-invariant-loop-left l = l.n / 10 ^ l.left ≡ l.units / 10 ^ l.places
-
-abbrev pub decreases-loop-left : goal.decreases-loop-left
-decreases-loop-left l = l.left
+abbrev pub invariant-loop : goal.invariant-loop
+invariant-loop l = l.n ≡ l.units / 10 ^ l.counter

@@ -5,15 +5,10 @@ use Rattle.scan.proofs.text.digits.Goals as goal
 
 pub returns-then-is_full : goal.returns-then-is_full
 returns-then-is_full c =
-    let full = c in
-    let read = full in
-    let turn = read in
-    turn.loop-at.invariant _
-    (digits_one _ _ _ _ _ _ turn.loop-at-test.true (omega arith) (read.digit-d.ensures.digit (omega arith)) (omega (arith, full.is_full.ensures.full c.if-is_full.true)) c.over.ensures)
+    c.loop-at.invariant _
+    (digits_one _ _ _ _ _ _ c.loop-at-test.true (omega arith) (c.digit-d.ensures.digit (omega arith)) (omega (arith, c.is_full.ensures.full c.if-is_full.true)) c.over.ensures)
 
 pub loop-at-preserved : goal.loop-at-preserved
 loop-at-preserved c = λ to h.
-    let read = c in
-    let turn = read in
-    turn.loop-at.invariant to
-    (digits_one _ _ _ _ _ to turn.loop-at-test.true (omega arith) (read.digit-d.ensures.digit (omega arith)) refl h)
+    c.loop-at.invariant to
+    (digits_one _ _ _ _ _ to c.loop-at-test.true (omega arith) (c.digit-d.ensures.digit (omega arith)) refl h)

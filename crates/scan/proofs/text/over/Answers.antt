@@ -5,6 +5,5 @@ use Rattle.scan.proofs.text.over.Goals as goal
 
 pub loop-at-preserved : goal.loop-at-preserved
 loop-at-preserved c = λ to h.
-    let turn = c in
-    turn.loop-at.invariant to
-    (digits_one _ _ _ _ _ to turn.loop-at-test.true (omega arith) (c.digit.ensures.digit (omega arith)) (omega arith) h)
+    c.loop-at.invariant to
+    (digits_one _ _ _ _ _ to c.loop-at-test.true (omega arith) (c.digit.ensures.digit (omega arith)) (omega arith) h)

@@ -1,12 +1,12 @@
--- `point_at` tests what `point_at` does: each answer rewrites by the test of the place.
-use Rattle.std.proofs.Common.{le-ltb, lt-ltb}
+-- `point_at` tests what `point_at` does: a point that stands is tested last.
+use Rattle.std.proofs.Common.{arith, lt-ltb, le-ltb, ne_eqb}
 use Rattle.scan.specs.Parts.{point_at}
 use Rattle.scan.proofs.text.point_at.Goals as goal
 
-pub returns-then-at-text : goal.returns-then-at-text
+pub returns-then-places-ne0 : goal.returns-then-places-ne0
 unfolding point_at
-returns-then-at-text c = simp (lt-ltb _ _ c.if-at-text.true)
+returns-then-places-ne0 c = simp (lt-ltb _ _ c.if-places-ne0.true.0, ne_eqb _ _ c.if-places-ne0.true.1)
 
-pub returns-else-at-text : goal.returns-else-at-text
+pub returns-else-places-ne0 : goal.returns-else-places-ne0
 unfolding point_at
-returns-else-at-text c = simp (le-ltb _ _ c.if-at-text.false)
+returns-else-places-ne0 c = grind (arith, lt-ltb, le-ltb)

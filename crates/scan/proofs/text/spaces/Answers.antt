@@ -4,5 +4,4 @@ use Rattle.scan.proofs.text.spaces.Goals as goal
 
 pub loop-at-preserved : goal.loop-at-preserved
 loop-at-preserved c = λ end h.
-    let turn = c in
-    turn.loop-at.invariant end (spaces_one _ _ end turn.loop-at-test.true c.if-text-at-ne-SPACE.false h)
+    c.loop-at.invariant end (spaces_one _ _ end c.loop-at-test.true c.if-text-at-ne-SPACE.false h)

@@ -1,9 +1,5 @@
-use Rattle.std.proofs.Common.{◌≡◌, ◌*◌, ◌^◌}
-use Rattle.scan.specs.Parts.{cap}
+use Rattle.std.proofs.Common.{◌≡◌, ◌*◌, ◌^◌, ◌-◌}
 use Rattle.scan.proofs.units.filled.Given as goal
 
-abbrev pub invariant-loop-left : goal.invariant-loop-left
-invariant-loop-left l = cap (l.n * 10 ^ l.left) ≡ cap (l.amount * 10 ^ l.noughts)
-
-abbrev pub decreases-loop-left : goal.decreases-loop-left
-decreases-loop-left l = l.left
+abbrev pub invariant-loop-put : goal.invariant-loop-put
+invariant-loop-put l = l.n * 10 ^ (l.noughts - l.put) ≡ l.amount * 10 ^ l.noughts

@@ -1,5 +1,5 @@
 -- A batch that breaks a rule before its messages is refused; of any other its messages decide.
-use Rattle.std.specs.Prelude.{ℕ, ◌-◌, ◌≤◌, ◌<◌, ◌≡◌, List, ◌++◌, length, take, drop}
+use Rattle.std.specs.Prelude.{ℕ, ◌-◌, ◌≤◌, ◌<◌, ◌≡◌, List, ◌++◌, length, take, drop, Result, Ok, Err}
 use Rattle.std.proofs.Common.{ap, ap₂, sym, ◌∙◌, arith, length-drop}
 use Rattle.laws.specs.Rules.{first_broken, Hold}
 use Rattle.laws.specs.RulesLaws.{none_hold, hold_append}
@@ -8,8 +8,6 @@ use Rattle.head.specs.Fields.{segment_letter_of}
 use Rattle.state.specs.declared.answers.Judged.{Judged}
 use Rattle.state.specs.declared.answers.Judged.TheVariants.{Refused}
 use Rattle.state.specs.declared.refusal.Refusal.{Refusal}
-use Rattle.state.specs.declared.state.Checked.{Checked}
-use Rattle.state.specs.declared.state.Checked.TheVariants as checks
 use Rattle.state.specs.Memory.{Lent}
 use Rattle.turns.specs.Turns.{refused}
 use Rattle.batch.specs.Batch.{batch_rules, batch_letter, count_of, batch_data}
@@ -26,11 +24,11 @@ use Rattle.batch.specs.Promises.{JudgedBatch, TookBatch}
 use Rattle.batch.specs.Scratch.{DataReady, data_acts, data_numbers, JudgedData, TookData}
 use Rattle.state.specs.StateLaws.{state_exact}
 
-module _ (lent : Lent) (batch : List ℕ) (checked : Checked) (is : checked_numbers checked ≡ checked_by (first_broken (state_rules lent ++ batch_rules batch))) where
+module _ (lent : Lent) (batch : List ℕ) (checked : Result (Unit {0}) Refusal) (is : checked_numbers checked ≡ checked_by (first_broken (state_rules lent ++ batch_rules batch))) where
   first : first_broken (state_rules lent ++ batch_rules batch) ≡ checked_refusal checked
   first = sym (checked_told checked (first_broken (state_rules lent ++ batch_rules batch)) is)
 
-  module _ (refusal : Refusal) (e : checked ≡ checks.Refused refusal) where
+  module _ (refusal : Refusal) (e : checked ≡ Err refusal) where
     refuses : batch_acts lent batch ≡ refused refusal
     refuses = rule_refuses lent batch refusal (first ∙ ap checked_refusal e)
 
@@ -48,7 +46,7 @@ module _ (lent : Lent) (batch : List ℕ) (checked : Checked) (is : checked_numb
           left = sym (ap (lent_after lent (batch_letter batch)) refuses);
         }
 
-  module _ (e : checked ≡ checks.Good) where
+  module _ (e : checked ≡ Ok tt) where
     held : Hold (state_rules lent) × Hold (batch_rules batch)
     held = (hold_append (state_rules lent) (batch_rules batch)).0 (none_hold (state_rules lent ++ batch_rules batch) (first ∙ ap checked_refusal e))
 

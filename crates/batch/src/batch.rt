@@ -15,7 +15,7 @@ ghost use Rattle.stores.specs.Stores.{Room};
 
 use crate::scratch;
 use slots::Fronts;
-use state::{Checked, Judged, Refusal};
+use state::{Judged, Refusal};
 
 // The bytes of flag, data size and number of messages.
 const FRONT: usize = 5;
@@ -39,40 +39,44 @@ const SOME_DATA: usize = (FEW + 1) * LEAST_UPDATE;
 const MANY_DATA: usize = (SOME + 1) * LEAST_UPDATE;
 
 // Under 5 bytes (1), flag (2, 3), the rest of 1, no messages (4).
-fn check(batch: &[u8]) -> Checked
+fn check(batch: &[u8]) -> Result<(), Refusal>
     ensures { checked_numbers result ≡ checked_by (first_broken (batch_rules batch.now)) }
 {
     if batch.len() < FRONT {
-        return Checked::Refused(Refusal::Size);
+        return Err(Refusal::Size);
     }
     let flag = wire::u8_at(batch, 0);
     if flag == 0 {
-        return Checked::Refused(Refusal::Packed);
+        return Err(Refusal::Packed);
     }
     if 1 < flag {
-        return Checked::Refused(Refusal::Flag);
+        return Err(Refusal::Flag);
     }
     let size = wire::u16_at(batch, 1) as usize;
     if MOST_DATA < size {
-        return Checked::Refused(Refusal::Size);
+        return Err(Refusal::Size);
     }
     if batch.len() != size + FRONT {
-        return Checked::Refused(Refusal::Size);
+        return Err(Refusal::Size);
     }
     if wire::u16_at(batch, 3) == 0 {
-        return Checked::Refused(Refusal::Count);
+        return Err(Refusal::Count);
     }
-    Checked::Good
+    Ok(())
 }
 
 // The state, and then the batch before its messages.
-fn check_all(list: &[u8], spreads: &[u8], rows: &[u32], records: &[u64], batch: &[u8]) -> Checked
+fn check_all(
+    list: &[u8],
+    spreads: &[u8],
+    rows: &[u32],
+    records: &[u64],
+    batch: &[u8],
+) -> Result<(), Refusal>
     ensures { checked_numbers result ≡ checked_by (first_broken (state_rules (lends (lists list.now spreads.now) rows.now records.now) ++ batch_rules batch.now)) }
 {
-    match state::check_state(list, spreads, rows, records) {
-        Checked::Refused(refusal) => Checked::Refused(refusal),
-        Checked::Good => check(batch),
-    }
+    state::check_state(list, spreads, rows, records)?;
+    check(batch)
 }
 
 // Where a segment's records begin.
@@ -117,8 +121,8 @@ pub fn judge(list: &[u8], spreads: &[u8], rows: &[u32], records: &[u64], batch: 
     ensures { JudgedBatch (lends (lists list.now spreads.now) rows.now records.now) batch.now result }
 {
     match check_all(list, spreads, rows, records, batch) {
-        Checked::Refused(refusal) => Judged::Refused(refusal, 0),
-        Checked::Good => {
+        Err(refusal) => Judged::Refused(refusal, 0),
+        Ok(()) => {
             let count = wire::u16_at(batch, 3) as usize;
             judge_data(list, spreads, rows, &batch[FRONT..], count)
         }
@@ -194,8 +198,8 @@ pub fn take(
     ensures { TookBatch (lends (lists list.now spreads.now) rows.old records.old) batch.now result (lends (lists list.now spreads.now) rows.new records.new) }
 {
     match check_all(list, spreads, rows, records, batch) {
-        Checked::Refused(refusal) => Judged::Refused(refusal, 0),
-        Checked::Good => {
+        Err(refusal) => Judged::Refused(refusal, 0),
+        Ok(()) => {
             let count = wire::u16_at(batch, 3) as usize;
             take_data(list, spreads, rows, records, &batch[FRONT..], count)
         }

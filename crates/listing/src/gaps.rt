@@ -3,7 +3,7 @@ ghost use Rattle.pairs.specs.Lists.{lists};
 ghost use Rattle.state.specs.Memory.{lends};
 ghost use Rattle.listing.specs.ListPromises.{ListedRuns, WroteOffRun};
 
-use state::{Asked, Listed, Refusal, WrittenOff};
+use state::{Listed, Refusal, WrittenOff};
 
 pub fn list_gaps(
     list: &[u8],
@@ -16,14 +16,14 @@ pub fn list_gaps(
     ensures { ListedRuns (lends (lists list.now spreads.now) rows.now records.now) letter cells.old result cells.new }
 {
     match state::check_segment(list, spreads, rows, records, letter) {
-        Asked::Segment(segment) => {
+        Ok(segment) => {
             let row = state::row_of(rows, segment);
             match sequence::list(&row, cells) {
                 Ok(gaps) => Listed::Runs(gaps.highest, gaps.runs),
                 Err(short) => Listed::Refused(Refusal::Memory(short.wanted)),
             }
         }
-        Asked::Refused(refusal) => Listed::Refused(refusal),
+        Err(refusal) => Listed::Refused(refusal),
     }
 }
 
@@ -37,7 +37,7 @@ pub fn write_off(
     ensures { WroteOffRun (lends (lists list.now spreads.now) rows.old records.now) letter result (lends (lists list.now spreads.now) rows.new records.now) }
 {
     match state::check_segment(list, spreads, rows, records, letter) {
-        Asked::Segment(segment) => {
+        Ok(segment) => {
             let mut row = state::row_of(rows, segment);
             match sequence::write_off(&mut row) {
                 Some(run) => {
@@ -47,6 +47,6 @@ pub fn write_off(
                 None => WrittenOff::Refused(Refusal::NoGap),
             }
         }
-        Asked::Refused(refusal) => WrittenOff::Refused(refusal),
+        Err(refusal) => WrittenOff::Refused(refusal),
     }
 }

@@ -1,6 +1,6 @@
 -- What reading a record answers, as it computes: 01 "What may be asked". A contract's record and a pair's are read alike: `show` gives
 -- the quote that a form's cells hold, `blank` the one with every row none.
-use Rattle.std.specs.Prelude.{ℕ, suc, ◌+◌, ◌≤◌, ◌≡◌, Bool, true, false, cond, List, [], ◌∷◌, ◌++◌, eqb, length, get_or, set, take, drop, replicate}
+use Rattle.std.specs.Prelude.{ℕ, suc, ◌+◌, ◌≤◌, ◌≡◌, Bool, true, false, cond, List, [], ◌∷◌, ◌++◌, eqb, length, get_or, set, take, drop, replicate, Result, Ok, Err}
 use Rattle.std.proofs.Math.Option.{Option, none, some}
 use Rattle.laws.specs.Rules.{first_broken}
 use Rattle.pairs.specs.Lists.{Lists}
@@ -22,8 +22,6 @@ use Rattle.spread.specs.Spread.{spread_quote_of}
 use Rattle.message.specs.Message.{key_place}
 use Rattle.state.specs.declared.refusal.Refusal.{Refusal}
 use Rattle.state.specs.declared.answers.Recorded.{Recorded}
-use Rattle.reading.specs.declared.record.Place.{Place}
-use Rattle.reading.specs.declared.record.Place.TheVariants.{At, Refused}
 use Rattle.state.specs.Refusals.{refusal_numbers}
 use Rattle.state.specs.Answers.{recorded_numbers, answered}
 use Rattle.state.specs.Memory.{Lent}
@@ -41,13 +39,13 @@ unfoldable pub record_of_key : Item → Lists → ℕ → List ℕ → Level →
 record_of_key item lists letter key level = slot_at lists (slot_there item lists letter level (key_place item lists letter key))
 
 -- 01, the order of checks: where the record begins that is asked for, or the refusal
-abbrev pub place_numbers : Place → List ℕ
-place_numbers (At at) = 0 ∷ at ∷ []
-place_numbers (Refused refusal) = refusal_numbers refusal
+abbrev pub place_numbers : Result ℕ Refusal → List ℕ
+place_numbers (Ok at) = 0 ∷ at ∷ []
+place_numbers (Err refusal) = refusal_numbers refusal
 
 -- 01, the order of checks: the record's place where no rule is broken, and then it stands in lent memory; or else the first
 -- broken rule's refusal
-pub record Finds (item : Item) (lent : Lent) (letter : ℕ) (key : List ℕ) (level : Level) (answer : Place) : Type 0 where
+pub record Finds (item : Item) (lent : Lent) (letter : ℕ) (key : List ℕ) (level : Level) (answer : Result ℕ Refusal) : Type 0 where
   pub says : place_numbers answer ≡ answered (first_broken (record_rules item lent letter key)) (record_of_key item lent.lists letter key level ∷ [])
   pub inside : first_broken (record_rules item lent letter key) ≡ none → record_of_key item lent.lists letter key level + cells_in_front item + record_rows item level ≤ length lent.records
 

@@ -1,5 +1,5 @@
 -- Laws of reading a record: where it stands, and its cells by row.
-use Rattle.std.specs.Prelude.{ℕ, ◌+◌, ◌-◌, ◌≤◌, ◌<◌, ◌≡◌, refl, Bool, List, [], ◌∷◌, ◌++◌, length, take, drop, replicate}
+use Rattle.std.specs.Prelude.{ℕ, ◌+◌, ◌-◌, ◌≤◌, ◌<◌, ◌≡◌, refl, Bool, List, [], ◌∷◌, ◌++◌, length, take, drop, replicate, Ok, Err, Option as Found, Some, None, ok_or}
 use Rattle.std.proofs.Math.Path.{ap, sym}
 use Rattle.std.proofs.Common.{ap₂, ◌∙◌, arith, length-append, length-drop, length-take-le}
 use Rattle.std.proofs.Math.Option.{Option, none, some}
@@ -10,6 +10,7 @@ use Rattle.laws.specs.Rules.{first_broken}
 use Rattle.laws.specs.RulesLaws.{front_broken, last_holds, last_broken}
 use Rattle.files.specs.File.{count_at}
 use Rattle.pairs.specs.Lists.{Headers}
+use Rattle.lookup.specs.Answers.{place_of}
 use Rattle.lookup.specs.Lookup.{segment_of}
 use Rattle.lookup.specs.LookupLaws.{segment_has, key_at_place}
 use Rattle.forms.specs.declared.rows.Level.{Level}
@@ -32,7 +33,6 @@ use Rattle.state.specs.Refusals.{Rule}
 use Rattle.state.specs.AnswersLaws.{accepted_by, refused_by_lem}
 use Rattle.state.specs.State.{segment_rules}
 use Rattle.state.specs.StateLaws.{state_held}
-use Rattle.reading.specs.declared.record.Place.TheVariants as place
 use Rattle.reading.specs.Record.{slot_there, record_of_key, Finds, stamp_seen, cells_at}
 use Rattle.reading.specs.ReadRules.{record_rules}
 
@@ -110,6 +110,15 @@ module _ (item : Item) (lent : Lent) (letter : ℕ) (key : List ℕ) where
           let there = (segment_has lent.lists.contracts letter i s).0 in
           omega (arith, (state_held lent letter e).records_lent, slot_inside lent.lists headers (slot item i place level) (there, place_under), cells_by_rows item level)
 
+-- a place that is found or refused is so by what was looked up
+pub place_found : (found : Found ℕ) (r : Refusal) {place : ℕ} → ok_or found r ≡ Ok place → place_of found ≡ some place
+place_found (Some p) r e = cc
+place_found None r e = cc
+
+pub place_refused : (found : Found ℕ) (r : Refusal) {answer : Refusal} → ok_or found r ≡ Err answer → (place_of found ≡ none) × (answer ≡ r)
+place_refused (Some p) r e = cc
+place_refused None r e = (refl, (cc))
+
 -- ---- the record that is found
 
 module _ (item : Item) (lent : Lent) (letter : ℕ) (key : List ℕ) (level : Level) where
@@ -122,18 +131,18 @@ module _ (item : Item) (lent : Lent) (letter : ℕ) (key : List ℕ) (level : Le
   abbrev pub FoundAt : ℕ → Type 0
   FoundAt at = (checks ≡ none) × (at ≡ here) × (at + cells_in_front item + record_rows item level ≤ length lent.records)
 
-  pub finds_at : checks ≡ none → {at : ℕ} → at ≡ here → at + cells_in_front item + record_rows item level ≤ length lent.records → Finds item lent letter key level (place.At at)
+  pub finds_at : checks ≡ none → {at : ℕ} → at ≡ here → at + cells_in_front item + record_rows item level ≤ length lent.records → Finds item lent letter key level (Ok at)
   finds_at e same there = record { says = rw (e, same); inside = λ _. rw (← same) there }
 
-  pub finds_refused : (r : Refusal) → checks ≡ some r → Finds item lent letter key level (place.Refused r)
+  pub finds_refused : (r : Refusal) → checks ≡ some r → Finds item lent letter key level (Err r)
   finds_refused r e = record { says = rw e; inside = λ n. absurd (clash (cc)) }
 
 module _ {item : Item} {lent : Lent} {letter : ℕ} {key : List ℕ} {level : Level} where
-  pub found_at : {at : ℕ} → Finds item lent letter key level (place.At at) → FoundAt item lent letter key level at
+  pub found_at : {at : ℕ} → Finds item lent letter key level (Ok at) → FoundAt item lent letter key level at
   found_at {at} f =
       let t = accepted_by (checks item lent letter key level) (here item lent letter key level ∷ []) (at ∷ []) f.says in
       let same : at ≡ here item lent letter key level = cc t.1 in
       (t.0, same, rw same (f.inside t.0))
 
-  pub found_refused : {r : Refusal} → Finds item lent letter key level (place.Refused r) → checks item lent letter key level ≡ some r
+  pub found_refused : {r : Refusal} → Finds item lent letter key level (Err r) → checks item lent letter key level ≡ some r
   found_refused {r} f = refused_by_lem (checks item lent letter key level) (here item lent letter key level ∷ []) r f.says

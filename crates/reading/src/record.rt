@@ -12,7 +12,7 @@ ghost use Rattle.reading.specs.Reads.{ReadRecord, ReadSpread};
 use layout::{Form, Item, KEY_BYTES, KEY_ROWS, Level, MOST_ROWS, PAIR_BYTES, Session};
 use quote::Quote;
 use spread::SpreadQuote;
-use state::{Asked, Recorded, Refusal};
+use state::{Recorded, Refusal};
 
 // The time stamp's row: the one behind the market type's.
 const TIME_STAMP: usize = KEY_ROWS + 1;
@@ -29,13 +29,6 @@ pub struct Reading {
 pub struct SpreadReading {
     pub answer: Recorded,
     pub quote: SpreadQuote,
-}
-
-// Where the record that is asked for stands.
-#[derive(Clone, Copy)]
-enum Place {
-    At(usize),
-    Refused(Refusal),
 }
 
 // Of contracts F's alone show their time stamp: D and T have none, whatever stands in its cell.
@@ -66,7 +59,7 @@ fn cells_at(item: Item, stamped: bool, records: &[u64], at: usize, level: Level)
     cells
 }
 
-// The state, the letter's segment, and then the key: 13 where it isn't listed.
+// Where the record that is asked for stands: the state, the letter's segment, and then the key, 13 where it isn't listed.
 fn find_record(
     item: Item,
     list: &[u8],
@@ -76,23 +69,14 @@ fn find_record(
     letter: u8,
     key: &[u8],
     level: Level,
-) -> Place
+) -> Result<usize, Refusal>
     ensures { Finds item (lends (lists list.now spreads.now) rows.now records.now) letter key.now level result }
 {
-    match state::check_segment(list, spreads, rows, records, letter) {
-        Asked::Segment(segment) => {
-            let sought = message::find(list, spreads, item, Some(segment), key);
-            let found = sought.found;
-            match found {
-                Some(place) => {
-                    let fronts = slots::fronts_of(list, spreads, segment);
-                    Place::At(slots::record_at(fronts, item, place, level))
-                }
-                None => Place::Refused(Refusal::Contract(0)),
-            }
-        }
-        Asked::Refused(refusal) => Place::Refused(refusal),
-    }
+    let segment = state::check_segment(list, spreads, rows, records, letter)?;
+    let sought = message::find(list, spreads, item, Some(segment), key);
+    let place = sought.found.ok_or(Refusal::Contract(0))?;
+    let fronts = slots::fronts_of(list, spreads, segment);
+    Ok(slots::record_at(fronts, item, place, level))
 }
 
 fn blank() -> Quote
@@ -167,8 +151,8 @@ pub fn read_record(
         key,
         level,
     ) {
-        Place::At(at) => read_at(records, at, stamp_shown(letter), level),
-        Place::Refused(refusal) => Reading {
+        Ok(at) => read_at(records, at, stamp_shown(letter), level),
+        Err(refusal) => Reading {
             answer: Recorded::Refused(refusal),
             quote: blank(),
         },
@@ -196,8 +180,8 @@ pub fn read_spread(
         pair,
         level,
     ) {
-        Place::At(at) => read_spread_at(records, at, level),
-        Place::Refused(refusal) => SpreadReading {
+        Ok(at) => read_spread_at(records, at, level),
+        Err(refusal) => SpreadReading {
             answer: Recorded::Refused(refusal),
             quote: blank_spread(),
         },

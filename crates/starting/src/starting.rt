@@ -8,7 +8,7 @@ ghost use Rattle.starting.specs.Start.{start_of, each_starts, start_rules};
 ghost use Rattle.starting.specs.StartActs.{started_rows};
 ghost use Rattle.starting.specs.StartPromises.{StartedBox};
 
-use state::{Checked, Refusal, Started};
+use state::{Refusal, Started};
 
 // A segment's start number; one that is missing counts as 0.
 fn start_of(starts: &[u32], segment: usize) -> u32
@@ -33,17 +33,23 @@ fn each_starts(starts: &[u32], segments: usize) -> bool
     true
 }
 
-fn check_start(list: &[u8], spreads: &[u8], starts: &[u32], rows: usize, records: usize) -> Checked
+fn check_start(
+    list: &[u8],
+    spreads: &[u8],
+    starts: &[u32],
+    rows: usize,
+    records: usize,
+) -> Result<(), Refusal>
     ensures { checked_numbers result ≡ checked_by (first_broken (start_rules (lists list.now spreads.now) starts.now rows records)) }
 {
     if !contracts::sound(list, files::CONTRACTS) {
-        return Checked::Refused(Refusal::List);
+        return Err(Refusal::List);
     }
     if !pairs::spreads_sound(list, spreads) {
-        return Checked::Refused(Refusal::List);
+        return Err(Refusal::List);
     }
     if !each_starts(starts, files::segments(list)) {
-        return Checked::Refused(Refusal::Numbering(0));
+        return Err(Refusal::Numbering(0));
     }
     state::check_memory(list, spreads, rows, records)
 }
@@ -82,11 +88,11 @@ pub fn start(
     ensures { StartedBox (lends (lists list.now spreads.now) rows.old records.old) starts.now result (lends (lists list.now spreads.now) rows.new records.new) }
 {
     match check_start(list, spreads, starts, rows.len(), records.len()) {
-        Checked::Good => {
+        Ok(()) => {
             begin_rows(starts, rows, files::segments(list));
             clear(records, slots::records_wanted(list, spreads));
             Started::Started
         }
-        Checked::Refused(refusal) => Started::Refused(refusal),
+        Err(refusal) => Started::Refused(refusal),
     }
 }

@@ -1,6 +1,6 @@
 -- The answers of the public calls, and of the checks before them, by document 01's numbers: 0 and the values of what is
 -- accepted, or a refusal's.
-use Rattle.std.specs.Prelude.{ℕ, List, [], ◌∷◌, ◌++◌}
+use Rattle.std.specs.Prelude.{ℕ, List, [], ◌∷◌, ◌++◌, Result, Ok, Err}
 use Rattle.std.proofs.Math.Option.{Option, none, some}
 use Rattle.layout.specs.Cells.{session_cell}
 use Rattle.state.specs.declared.refusal.Refusal.{Refusal}
@@ -10,8 +10,6 @@ use Rattle.state.specs.declared.answers.Listed.{Listed}
 use Rattle.state.specs.declared.answers.WrittenOff.{WrittenOff}
 use Rattle.state.specs.declared.answers.Recorded.{Recorded}
 use Rattle.state.specs.declared.answers.Written.{Written}
-use Rattle.state.specs.declared.state.Checked.{Checked}
-use Rattle.state.specs.declared.state.Asked.{Asked}
 use Rattle.state.specs.Refusals.{refusal_numbers}
 
 -- 01 "What may be asked": start, which answers nothing more
@@ -47,14 +45,14 @@ written_numbers (Written.Message length) = 0 ∷ length ∷ []
 written_numbers (Written.Refused refusal) = refusal_numbers refusal
 
 -- 01, the order of checks: one that refuses nothing answers nothing more
-abbrev pub checked_numbers : Checked → List ℕ
-checked_numbers Checked.Good = 0 ∷ []
-checked_numbers (Checked.Refused refusal) = refusal_numbers refusal
+abbrev pub checked_numbers : Result (Unit {0}) Refusal → List ℕ
+checked_numbers (Ok _) = 0 ∷ []
+checked_numbers (Err refusal) = refusal_numbers refusal
 
 -- 01, the order of checks: the segment that is asked for, by its place in the list
-abbrev pub asked_numbers : Asked → List ℕ
-asked_numbers (Asked.Segment segment) = 0 ∷ segment ∷ []
-asked_numbers (Asked.Refused refusal) = refusal_numbers refusal
+abbrev pub asked_numbers : Result ℕ Refusal → List ℕ
+asked_numbers (Ok segment) = 0 ∷ segment ∷ []
+asked_numbers (Err refusal) = refusal_numbers refusal
 
 -- 01, the table of refusals: the numbers of the first broken rule's refusal, or else 0 and the values of an accepted call
 abbrev pub answered : Option Refusal → List ℕ → List ℕ

@@ -1,5 +1,5 @@
 -- An answer's numbers tell the answer: a way back from the numbers, and so which rule was broken, or that none was.
-use Rattle.std.specs.Prelude.{ℕ, ◌≡◌, refl, cond, List, [], ◌∷◌, eqb, get_or, drop}
+use Rattle.std.specs.Prelude.{ℕ, ◌≡◌, refl, cond, List, [], ◌∷◌, eqb, get_or, drop, Result, Ok, Err}
 use Rattle.std.proofs.Common.{sym, ap}
 use Rattle.std.proofs.Math.Option.{Option, none, some}
 use Rattle.laws.specs.Told.{told}
@@ -12,8 +12,6 @@ use Rattle.state.specs.declared.answers.Listed.{Listed}
 use Rattle.state.specs.declared.answers.WrittenOff.{WrittenOff}
 use Rattle.state.specs.declared.answers.Recorded.{Recorded}
 use Rattle.state.specs.declared.answers.Written.{Written}
-use Rattle.state.specs.declared.state.Checked.{Checked}
-use Rattle.state.specs.declared.state.Checked.TheVariants as checked
 use Rattle.state.specs.Refusals.{refusal_numbers}
 use Rattle.state.specs.RefusalsLaws.{refusal_of, accepts, refusal_behind, refusal_back, refusal_told, never}
 use Rattle.state.specs.Answers.{judged_numbers, started_numbers, listed_numbers, written_off_numbers, recorded_numbers, written_numbers, checked_numbers, answered, left_by, checked_by}
@@ -33,13 +31,13 @@ accepted_by (some s) values answer e = absurd (never s answer (sym e))
 -- ---- checks
 
 -- the refusal that a check answers, where there is one
-abbrev pub checked_refusal : Checked → Option Refusal
-checked_refusal checked.Good = none
-checked_refusal (checked.Refused refusal) = some refusal
+abbrev pub checked_refusal : Result (Unit {0}) Refusal → Option Refusal
+checked_refusal (Ok _) = none
+checked_refusal (Err refusal) = some refusal
 
-pub checked_told : (c : Checked) (o : Option Refusal) → checked_numbers c ≡ checked_by o → checked_refusal c ≡ o
-checked_told checked.Good o e = sym (accepted_by o [] [] e).0
-checked_told (checked.Refused r) o e = sym (refused_by_lem o [] r e)
+pub checked_told : (c : Result (Unit {0}) Refusal) (o : Option Refusal) → checked_numbers c ≡ checked_by o → checked_refusal c ≡ o
+checked_told (Ok _) o e = sym (accepted_by o [] [] e).0
+checked_told (Err r) o e = sym (refused_by_lem o [] r e)
 
 -- ---- answers
 

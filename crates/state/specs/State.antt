@@ -1,5 +1,5 @@
 -- The checks of the state that is handed to a call, and what they answer.
-use Rattle.std.specs.Prelude.{ℕ, ◌≡◌, List, [], ◌∷◌, ◌++◌, leb, length}
+use Rattle.std.specs.Prelude.{ℕ, ◌≡◌, List, [], ◌∷◌, ◌++◌, leb, length, Result}
 use Rattle.std.proofs.Math.Option.{Option, none, some}
 use Rattle.laws.specs.Rules.{first_broken}
 use Rattle.pairs.specs.Lists.{Lists}
@@ -8,8 +8,8 @@ use Rattle.lookup.specs.Lookup.{segment_of}
 use Rattle.contracts.specs.SoundTests.{header_sound}
 use Rattle.pairs.specs.SpreadTests.{spread_header_sound}
 use Rattle.head.specs.Tests.{is_some}
+use Rattle.state.specs.declared.refusal.Refusal.{Refusal}
 use Rattle.state.specs.declared.refusal.Refusal.TheVariants.{Code, Memory, List as ListOf, State}
-use Rattle.state.specs.declared.state.Asked.{Asked}
 use Rattle.state.specs.Refusals.{Rule}
 use Rattle.state.specs.Answers.{asked_numbers, answered}
 use Rattle.state.specs.Memory.{Lent, gap_rows_wanted}
@@ -42,6 +42,6 @@ segment_values none = []
 segment_values (some segment) = segment ∷ []
 
 -- 01, the order of checks: the segment of the letter where no rule is broken, or the first broken rule's refusal
-abbrev pub Asks : Lent → ℕ → Asked → Type 0
+abbrev pub Asks : Lent → ℕ → Result ℕ Refusal → Type 0
 Asks lent letter answer =
     asked_numbers answer ≡ answered (first_broken (segment_rules lent letter)) (segment_values (segment_of lent.lists.contracts letter))

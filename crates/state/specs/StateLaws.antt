@@ -1,5 +1,5 @@
 -- Laws of the state: the cells wanted, when its checks refuse nothing, and what a good state gives.
-use Rattle.std.specs.Prelude.{ℕ, ◌+◌, ◌*◌, ◌≤◌, ◌<◌, ◌≡◌, refl, true, false, ◌↔◌, List, [], ◌∷◌, ◌++◌, length}
+use Rattle.std.specs.Prelude.{ℕ, ◌+◌, ◌*◌, ◌≤◌, ◌<◌, ◌≡◌, refl, true, false, ◌↔◌, List, [], ◌∷◌, ◌++◌, length, Ok, Err, Option as Found, Some, None, ok_or}
 use Rattle.std.proofs.Common.{ap, ap₂, sym, ◌∙◌, true≢false, arith, le-leb, leb-true}
 use Rattle.std.proofs.Math.Option.{Option, none, some}
 use Rattle.laws.specs.Rules.{first_broken, Hold}
@@ -8,6 +8,7 @@ use Rattle.files.specs.File.{sum_below, segments_of, count_at, contracts_of}
 use Rattle.files.specs.BelowLaws.{each_passes, all_pass, sum_same}
 use Rattle.files.specs.FileLaws.{before_sum}
 use Rattle.contracts.specs.HeaderLaws.{header_exact}
+use Rattle.lookup.specs.Answers.{place_of}
 use Rattle.lookup.specs.Lookup.{segment_of}
 use Rattle.lookup.specs.LookupLaws.{segment_has}
 use Rattle.contracts.specs.SoundTests.{header_sound}
@@ -19,7 +20,6 @@ use Rattle.sequence.specs.RowLaid.{sound_gap_row}
 use Rattle.head.specs.Tests.{is_some}
 use Rattle.state.specs.declared.refusal.Refusal.{Refusal}
 use Rattle.state.specs.declared.refusal.Refusal.TheVariants.{Code, List as ListOf, State}
-use Rattle.state.specs.declared.state.Asked.TheVariants as asked
 use Rattle.state.specs.Refusals.{Rule}
 use Rattle.state.specs.Memory.{Lent, gap_row_cells, gap_rows_wanted, gap_row_of}
 use Rattle.state.specs.MemoryRows.{gap_rows_sound}
@@ -164,18 +164,23 @@ module _ (lent : Lent) where
 
     -- what is answered of it
 
-    pub asks_segment : first_broken (segment_rules lent letter) ≡ none → (i : ℕ) → segment_of lent.lists.contracts letter ≡ some i → Asks lent letter (asked.Segment i)
+    pub asks_segment : first_broken (segment_rules lent letter) ≡ none → (i : ℕ) → segment_of lent.lists.contracts letter ≡ some i → Asks lent letter (Ok i)
     asks_segment e i s = rw (e, s)
 
-    pub asks_refused : (r : Refusal) → first_broken (segment_rules lent letter) ≡ some r → Asks lent letter (asked.Refused r)
+    pub asks_refused : (r : Refusal) → first_broken (segment_rules lent letter) ≡ some r → Asks lent letter (Err r)
     asks_refused r e = rw e
 
-    pub asked_segment : (i : ℕ) → Asks lent letter (asked.Segment i) → AskedFor lent letter i
+    pub asks_listed : first_broken (state_rules lent) ≡ none → (listed : Found ℕ) → place_of listed ≡ segment_of lent.lists.contracts letter
+        → Asks lent letter (ok_or listed (Code 0))
+    asks_listed e (Some i) s = asks_segment (segment_holds e i (sym s)) i (sym s)
+    asks_listed e None s = asks_refused (Code 0) (letter_broken e (sym s))
+
+    pub asked_segment : (i : ℕ) → Asks lent letter (Ok i) → AskedFor lent letter i
     asked_segment i a =
         let t = accepted_by (first_broken (segment_rules lent letter)) (segment_values (segment_of lent.lists.contracts letter)) (i ∷ []) a in
         (t.0, one_value (segment_of lent.lists.contracts letter) i t.1)
 
-    pub asked_refused : (r : Refusal) → Asks lent letter (asked.Refused r) → first_broken (segment_rules lent letter) ≡ some r
+    pub asked_refused : (r : Refusal) → Asks lent letter (Err r) → first_broken (segment_rules lent letter) ≡ some r
     asked_refused r a = refused_by_lem (first_broken (segment_rules lent letter)) (segment_values (segment_of lent.lists.contracts letter)) r a
 
     -- the row of a segment that is asked for is there, and sound

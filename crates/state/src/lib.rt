@@ -10,4 +10,4 @@ mod state;
 pub use answers::{Judged, Listed, Recorded, Started, Written, WrittenOff};
 pub use gap_rows::{copy_row, put_row, row_of};
 pub use refusal::{Refusal, of_fault, refusal_numbers};
-pub use state::{Asked, Checked, check_memory, check_segment, check_state};
+pub use state::{check_memory, check_segment, check_state};

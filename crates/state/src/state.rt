@@ -9,32 +9,19 @@ ghost use Rattle.state.specs.State.{state_rules, memory_rules, Asks};
 
 use crate::refusal::Refusal;
 
-#[derive(Clone, Copy)]
-pub enum Checked {
-    Good,
-    Refused(Refusal),
-}
-
-// The segment that is asked for.
-#[derive(Clone, Copy)]
-pub enum Asked {
-    Segment(usize),
-    Refused(Refusal),
-}
-
 // 15 for gap rows and then for records, by the numbers of cells lent.
-pub fn check_memory(list: &[u8], spreads: &[u8], rows: usize, records: usize) -> Checked
+pub fn check_memory(list: &[u8], spreads: &[u8], rows: usize, records: usize) -> Result<(), Refusal>
     ensures { checked_numbers result ≡ checked_by (first_broken (memory_rules (lists list.now spreads.now) rows records)) }
 {
     let rows_wanted = sequence::CELLS * files::segments(list);
     if rows < rows_wanted {
-        return Checked::Refused(Refusal::Memory(rows_wanted));
+        return Err(Refusal::Memory(rows_wanted));
     }
     let records_wanted = slots::records_wanted(list, spreads);
     if records < records_wanted {
-        return Checked::Refused(Refusal::Memory(records_wanted));
+        return Err(Refusal::Memory(records_wanted));
     }
-    Checked::Good
+    Ok(())
 }
 
 // The test behind 18, for the rows of so many segments.
@@ -54,24 +41,25 @@ fn rows_sound(rows: &[u32], segments: usize) -> bool
     true
 }
 
-pub fn check_state(list: &[u8], spreads: &[u8], rows: &[u32], records: &[u64]) -> Checked
+pub fn check_state(
+    list: &[u8],
+    spreads: &[u8],
+    rows: &[u32],
+    records: &[u64],
+) -> Result<(), Refusal>
     ensures { checked_numbers result ≡ checked_by (first_broken (state_rules (lends (lists list.now spreads.now) rows.now records.now))) }
 {
     if !contracts::header_sound(list, files::CONTRACTS) {
-        return Checked::Refused(Refusal::List);
+        return Err(Refusal::List);
     }
     if !pairs::spread_header_sound(list, spreads) {
-        return Checked::Refused(Refusal::List);
+        return Err(Refusal::List);
     }
-    match check_memory(list, spreads, rows.len(), records.len()) {
-        Checked::Good => {
-            if rows_sound(rows, files::segments(list)) {
-                return Checked::Good;
-            }
-            Checked::Refused(Refusal::State)
-        }
-        Checked::Refused(refusal) => Checked::Refused(refusal),
+    check_memory(list, spreads, rows.len(), records.len())?;
+    if !rows_sound(rows, files::segments(list)) {
+        return Err(Refusal::State);
     }
+    Ok(())
 }
 
 // The state, and then the segment of a letter: 6 where it isn't listed.
@@ -81,14 +69,9 @@ pub fn check_segment(
     rows: &[u32],
     records: &[u64],
     letter: u8,
-) -> Asked
+) -> Result<usize, Refusal>
     ensures { Asks (lends (lists list.now spreads.now) rows.now records.now) letter result }
 {
-    match check_state(list, spreads, rows, records) {
-        Checked::Good => match lookup::segment_of(list, letter) {
-            Some(segment) => Asked::Segment(segment),
-            None => Asked::Refused(Refusal::Code(0)),
-        },
-        Checked::Refused(refusal) => Asked::Refused(refusal),
-    }
+    check_state(list, spreads, rows, records)?;
+    lookup::segment_of(list, letter).ok_or(Refusal::Code(0))
 }

@@ -1,6 +1,6 @@
 -- Writing a message from the values of its rows: 01 "The message", "The checksum", "Numbers in text", and the writer's order of
 -- checks.
-use Rattle.std.specs.Prelude.{ℕ, ◌+◌, ◌≤◌, ◌≡◌, true, false, List, [], ◌∷◌, ◌++◌, leb, length, drop, Option, Some, None}
+use Rattle.std.specs.Prelude.{ℕ, ◌+◌, ◌≤◌, ◌≡◌, true, false, List, [], ◌∷◌, ◌++◌, leb, length, drop, Option, Some, None, Result}
 use Rattle.laws.specs.Rules.{first_broken}
 use Rattle.wire.specs.Number.{bytes_of}
 use Rattle.checksum.specs.Checksum.{checksum_of}
@@ -16,8 +16,8 @@ use Rattle.forms.specs.Sizes.{bare_length}
 use Rattle.compose.specs.Write.{Laid, write_rows, over_front, where_good}
 use Rattle.head.specs.Fields.{zero_sum}
 use Rattle.state.specs.declared.answers.Written.{Written}
+use Rattle.state.specs.declared.refusal.Refusal.{Refusal}
 use Rattle.state.specs.declared.refusal.Refusal.TheVariants.{Code as CodeOver, Numbering, Field, Range, Memory}
-use Rattle.state.specs.declared.state.Checked.{Checked}
 use Rattle.writer.specs.declared.writing.Code.{Code}
 use Rattle.state.specs.Answers.{written_numbers, answered, left_by, checked_numbers, checked_by}
 use Rattle.state.specs.Refusals.{Rule}
@@ -109,7 +109,7 @@ message_put code number bytes out = message_bytes code number bytes ++ drop (len
 -- ---- the words of the inner contracts
 
 -- a word of our own: rows laid over scratch memory
-pub record LaysRows (rows : Laid) (before : List ℕ) (answer : Checked) (after : List ℕ) : Type 0 where
+pub record LaysRows (rows : Laid) (before : List ℕ) (answer : Result (Unit {0}) Refusal) (after : List ℕ) : Type 0 where
   pub answers : checked_numbers answer ≡ checked_by (first_broken (rows_rules rows.verdict))
   pub leaves : after ≡ where_good rows.verdict (over_front rows.bytes before) before
 

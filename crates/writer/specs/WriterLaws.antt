@@ -1,6 +1,6 @@
 -- Laws of writing a message: each check in its turn, and the message laid over the front of the lent bytes.
 use Prim.Native.Nat.{ℕ, suc, ◌+◌, ◌-◌, ◌≤◌, ◌<◌}
-use Rattle.std.specs.Prelude.{◌≡◌, refl, true, false, get_or, set, take, Option, Some, None}
+use Rattle.std.specs.Prelude.{◌≡◌, refl, true, false, get_or, set, take, Option, Some, None, Result}
 use Rattle.std.proofs.Math.Path.{ap, sym}
 use Rattle.std.proofs.Common.{◌∙◌, le-leb, length-drop, take_all, take_at, drop-drop}
 use mathlib.Core.List.{List, [], ◌∷◌, ◌++◌, append_assoc}
@@ -32,7 +32,6 @@ use Rattle.head.specs.Tests.{takes_number}
 use Rattle.state.specs.declared.answers.Written.{Written}
 use Rattle.state.specs.declared.refusal.Refusal.{Refusal}
 use Rattle.state.specs.declared.refusal.Refusal.TheVariants.{Code as CodeOver, Numbering, Memory}
-use Rattle.state.specs.declared.state.Checked.{Checked}
 use Rattle.writer.specs.declared.writing.Code.{Code}
 use Rattle.state.specs.Answers.{left_by, answered, checked_numbers, checked_by}
 use Rattle.state.specs.Refusals.{Rule}
@@ -52,7 +51,7 @@ module _ (form : Form) (number : ℕ) where
 -- ---- the rows
 
 -- the rows of a form
-pub form_rows : (form : Form) (key values : List ℕ) {before after : List ℕ} {v : Verdict} {answer : Checked}
+pub form_rows : (form : Form) (key values : List ℕ) {before after : List ℕ} {v : Verdict} {answer : Result (Unit {0}) Refusal}
     → WritesUpdate (write_rows 0 (rows_of form) key values) before v after → checked_numbers answer ≡ checked_by (first_broken (rows_rules v))
     → LaysRows (data_written (Some form) key values) before answer after
 unfolding data_written
@@ -202,7 +201,7 @@ module _ (form : Option Form) (code : Code) (number : ℕ) (key values out : Lis
       long_rows = long_data form key values (rows_pass rows.verdict good)
 
       -- the rows as they lie on scratch memory
-      pub laid_rows : {before after : List ℕ} {answer : Checked} → length rows.bytes ≤ length before → LaysRows rows before answer after
+      pub laid_rows : {before after : List ℕ} {answer : Result (Unit {0}) Refusal} → length rows.bytes ≤ length before → LaysRows rows before answer after
           → take (data_length (rows_written form)) after ≡ rows.bytes
       laid_rows {before} room l =
           let n : ℕ = data_length (rows_written form) in

@@ -12,7 +12,7 @@ use layout::{
 };
 use quote::Quote;
 use spread::SpreadQuote;
-use state::{Checked, Refusal, Written};
+use state::{Refusal, Written};
 
 // Any two bytes.
 #[derive(Clone, Copy)]
@@ -23,18 +23,23 @@ const HEAD: usize = 8;
 
 const END: u8 = 13;
 
-fn of_verdict(verdict: Verdict) -> Checked
+fn of_verdict(verdict: Verdict) -> Result<(), Refusal>
     ensures { checked_numbers result ≡ checked_by (first_broken (rows_rules verdict)) }
 {
     match verdict {
-        Verdict::Good => Checked::Good,
-        Verdict::Field(row) => Checked::Refused(Refusal::Field(0, row)),
-        Verdict::Range(row) => Checked::Refused(Refusal::Range(0, row)),
+        Verdict::Good => Ok(()),
+        Verdict::Field(row) => Err(Refusal::Field(0, row)),
+        Verdict::Range(row) => Err(Refusal::Range(0, row)),
     }
 }
 
 // The rows of a form, the first bad one deciding: 11 and 12. A heartbeat has none.
-fn lay_rows(form: Form, key: &[u8], values: &[u64; MOST_ROWS], data: &mut [u8]) -> Checked
+fn lay_rows(
+    form: Form,
+    key: &[u8],
+    values: &[u64; MOST_ROWS],
+    data: &mut [u8],
+) -> Result<(), Refusal>
     ensures { LaysRows (data_written (Some form) key.now values.now) «data».old result «data».new }
 {
     of_verdict(compose::write_update(form, key, values, data))
@@ -110,8 +115,8 @@ fn write_form(
     }
     let mut data = [0u8; MOST_DATA];
     match lay_rows(form, key, values, &mut data) {
-        Checked::Refused(refusal) => Written::Refused(refusal),
-        Checked::Good => put_message(code, number, &data, layout::data_length(form), out),
+        Err(refusal) => Written::Refused(refusal),
+        Ok(()) => put_message(code, number, &data, layout::data_length(form), out),
     }
 }
 

@@ -7,11 +7,11 @@ use Rattle.batch.proofs.batch.judge.Goals as goal
 
 pub judge_data-requires : goal.judge_data-requires
 judge_data-requires c =
-    data_ready (lends (lists c.args.list.now c.args.spreads.now) c.args.rows.now c.args.records.now) c.args.batch.now _ c.check_all.ensures c.in-Good.is _ c.u16_at-count.ensures (omega (arith, c.u16_at-count.type_inv))
+    data_ready (lends (lists c.args.list.now c.args.spreads.now) c.args.rows.now c.args.records.now) c.args.batch.now _ c.check_all.ensures c.in-Ok.is _ c.u16_at-count.ensures (omega (arith, c.u16_at-count.type_inv))
 
-pub returns-in-Refused : goal.returns-in-Refused
-returns-in-Refused c = refused_judged _ _ _ c.check_all.ensures _ c.in-Refused.is
+pub returns-in-Err : goal.returns-in-Err
+returns-in-Err c = refused_judged _ _ _ c.check_all.ensures _ c.in-Err.is
 
-pub returns-in-Good : goal.returns-in-Good
-returns-in-Good c =
-    judged_batch (lends (lists c.args.list.now c.args.spreads.now) c.args.rows.now c.args.records.now) c.args.batch.now _ c.check_all.ensures c.in-Good.is _ c.u16_at-count.ensures _ c.judge_data.ensures
+pub returns-in-Ok : goal.returns-in-Ok
+returns-in-Ok c =
+    judged_batch (lends (lists c.args.list.now c.args.spreads.now) c.args.rows.now c.args.records.now) c.args.batch.now _ c.check_all.ensures c.in-Ok.is _ c.u16_at-count.ensures _ c.judge_data.ensures

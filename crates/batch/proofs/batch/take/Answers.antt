@@ -8,14 +8,14 @@ use Rattle.batch.proofs.batch.take.Goals as goal
 pub take_data-requires : goal.take_data-requires
 take_data-requires c =
     let lent = lends (lists c.args.list.now c.args.spreads.now) c.args.rows.now c.args.records.now in (
-      data_ready lent c.args.batch.now _ c.check_all.ensures c.in-Good.is _ c.u16_at-count.ensures (omega (arith, c.u16_at-count.type_inv)),
-      (checked_state lent c.args.batch.now _ c.check_all.ensures c.in-Good.is).records_lent,
-      data_short lent c.args.batch.now _ c.check_all.ensures c.in-Good.is,
+      data_ready lent c.args.batch.now _ c.check_all.ensures c.in-Ok.is _ c.u16_at-count.ensures (omega (arith, c.u16_at-count.type_inv)),
+      (checked_state lent c.args.batch.now _ c.check_all.ensures c.in-Ok.is).records_lent,
+      data_short lent c.args.batch.now _ c.check_all.ensures c.in-Ok.is,
     )
 
-pub returns-in-Refused : goal.returns-in-Refused
-returns-in-Refused c = refused_took _ _ _ c.check_all.ensures _ c.in-Refused.is
+pub returns-in-Err : goal.returns-in-Err
+returns-in-Err c = refused_took _ _ _ c.check_all.ensures _ c.in-Err.is
 
-pub returns-in-Good : goal.returns-in-Good
-returns-in-Good c =
-    took_batch_lem (lends (lists c.args.list.now c.args.spreads.now) c.args.rows.now c.args.records.now) c.args.batch.now _ c.check_all.ensures c.in-Good.is _ c.u16_at-count.ensures _ _ c.take_data.ensures
+pub returns-in-Ok : goal.returns-in-Ok
+returns-in-Ok c =
+    took_batch_lem (lends (lists c.args.list.now c.args.spreads.now) c.args.rows.now c.args.records.now) c.args.batch.now _ c.check_all.ensures c.in-Ok.is _ c.u16_at-count.ensures _ _ c.take_data.ensures

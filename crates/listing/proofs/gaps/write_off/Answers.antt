@@ -10,7 +10,7 @@ use Rattle.listing.proofs.gaps.write_off.Goals as goal
 
 pub row_of-row-requires : goal.row_of-row-requires
 row_of-row-requires c =
-    let asked : let a = c.args in AskedFor (lends (lists a.list.now a.spreads.now) a.rows.now a.records.now) a.letter c.in-Segment.segment = asked_segment _ _ _ (rw c.in-Segment.is at c.check_segment.ensures)
+    let asked : let a = c.args in AskedFor (lends (lists a.list.now a.spreads.now) a.rows.now a.records.now) a.letter c.in-Ok.segment = asked_segment _ _ _ (rw c.in-Ok.is at c.check_segment.ensures)
     in
     let told = c in
     let a = told.args in
@@ -18,9 +18,9 @@ row_of-row-requires c =
 
 pub put_row-requires : goal.put_row-requires
 put_row-requires c =
-    let asked : let a = c.args in AskedFor (lends (lists a.list.now a.spreads.now) a.rows.now a.records.now) a.letter c.in-Segment.segment = asked_segment _ _ _ (rw c.in-Segment.is at c.check_segment.ensures)
+    let asked : let a = c.args in AskedFor (lends (lists a.list.now a.spreads.now) a.rows.now a.records.now) a.letter c.in-Ok.segment = asked_segment _ _ _ (rw c.in-Ok.is at c.check_segment.ensures)
     in
-    let own : let told = c in WroteOff (gap_row_of told.args.rows.now told.in-Segment.segment) c.write_off.result c.write_off.new.row = rw c.row_of-row.ensures at c.write_off.ensures in
+    let own : let told = c in WroteOff (gap_row_of told.args.rows.now told.in-Ok.segment) c.write_off.result c.write_off.new.row = rw c.row_of-row.ensures at c.write_off.ensures in
     let off = c in
     let told = off in
     let a = told.args in
@@ -31,9 +31,9 @@ put_row-requires c =
 
 pub returns-in-Some : goal.returns-in-Some
 returns-in-Some c =
-    let asked : let a = c.args in AskedFor (lends (lists a.list.now a.spreads.now) a.rows.now a.records.now) a.letter c.in-Segment.segment = asked_segment _ _ _ (rw c.in-Segment.is at c.check_segment.ensures)
+    let asked : let a = c.args in AskedFor (lends (lists a.list.now a.spreads.now) a.rows.now a.records.now) a.letter c.in-Ok.segment = asked_segment _ _ _ (rw c.in-Ok.is at c.check_segment.ensures)
     in
-    let own : let told = c in WroteOff (gap_row_of told.args.rows.now told.in-Segment.segment) c.write_off.result c.write_off.new.row = rw c.row_of-row.ensures at c.write_off.ensures in
+    let own : let told = c in WroteOff (gap_row_of told.args.rows.now told.in-Ok.segment) c.write_off.result c.write_off.new.row = rw c.row_of-row.ensures at c.write_off.ensures in
     let put = c in
     let first = put in
     let off = first in
@@ -44,16 +44,16 @@ returns-in-Some c =
 
 pub returns-in-None : goal.returns-in-None
 returns-in-None c =
-    let asked : let a = c.args in AskedFor (lends (lists a.list.now a.spreads.now) a.rows.now a.records.now) a.letter c.in-Segment.segment = asked_segment _ _ _ (rw c.in-Segment.is at c.check_segment.ensures)
+    let asked : let a = c.args in AskedFor (lends (lists a.list.now a.spreads.now) a.rows.now a.records.now) a.letter c.in-Ok.segment = asked_segment _ _ _ (rw c.in-Ok.is at c.check_segment.ensures)
     in
-    let own : let told = c in WroteOff (gap_row_of told.args.rows.now told.in-Segment.segment) c.write_off.result c.write_off.new.row = rw c.row_of-row.ensures at c.write_off.ensures in
+    let own : let told = c in WroteOff (gap_row_of told.args.rows.now told.in-Ok.segment) c.write_off.result c.write_off.new.row = rw c.row_of-row.ensures at c.write_off.ensures in
     let off = c in
     let told = off in
     let a = told.args in
     off_none (lends (lists a.list.now a.spreads.now) a.rows.now a.records.now) a.letter asked.0 _ asked.1 _ (rw c.in-None.is at own)
 
-pub returns-in-Refused : goal.returns-in-Refused
-returns-in-Refused c =
+pub returns-in-Err : goal.returns-in-Err
+returns-in-Err c =
     let d = c in
     let a = d.args in
-    off_refused (lends (lists a.list.now a.spreads.now) a.rows.now a.records.now) a.letter _ (asked_refused (lends (lists a.list.now a.spreads.now) a.rows.now a.records.now) a.letter _ (rw c.in-Refused.is at d.check_segment.ensures))
+    off_refused (lends (lists a.list.now a.spreads.now) a.rows.now a.records.now) a.letter _ (asked_refused (lends (lists a.list.now a.spreads.now) a.rows.now a.records.now) a.letter _ (rw c.in-Err.is at d.check_segment.ensures))

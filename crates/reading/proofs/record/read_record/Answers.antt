@@ -8,9 +8,9 @@ use Rattle.reading.specs.RecordLaws.{found_refused}
 use Rattle.reading.specs.ReadsLaws.{record_refused}
 use Rattle.reading.proofs.record.read_record.Goals as goal
 
-pub returns-in-Refused : goal.returns-in-Refused
-returns-in-Refused c =
+pub returns-in-Err : goal.returns-in-Err
+returns-in-Err c =
     let a = c.args in
     let lent = lends (lists a.list.now a.spreads.now) a.rows.now a.records.now in
     rw c.blank.ensures
-    (record_refused quote_of blank Contract lent a.letter a.key.now a.level _ (found_refused (rw c.in-Refused.is at c.find_record.ensures)))
+    (record_refused quote_of blank Contract lent a.letter a.key.now a.level _ (found_refused (rw c.in-Err.is at c.find_record.ensures)))

@@ -1,5 +1,5 @@
 -- The loop's invariant: the first j numbers of the segment's row are copied.
-use Rattle.std.proofs.Common.{ℕ, ◌-◌, ◌*◌, sym, ap, ap₂, ◌∙◌, List, ◌++◌, add-one, arith, set, take, drop, length-set, length-drop, get_or-drop}
+use Rattle.std.proofs.Common.{ℕ, ◌*◌, sym, ap, ap₂, ◌∙◌, List, ◌++◌, add-one, arith, set, take, drop, length-set, length-drop, get_or-drop}
 use Rattle.laws.specs.Lists.{copy_one}
 use Rattle.state.specs.Memory.{gap_row_cells}
 use Rattle.state.proofs.gap_rows.copy_row.Goals as goal

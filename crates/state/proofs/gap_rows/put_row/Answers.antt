@@ -1,5 +1,5 @@
 -- The loop's invariant: the first j numbers of the row stand in its place, and every other is as it was.
-use Rattle.std.proofs.Common.{ℕ, ◌+◌, ◌-◌, ◌*◌, sym, ap, ◌∙◌, List, add-one, arith, get_or, set, length-set}
+use Rattle.std.proofs.Common.{ℕ, ◌+◌, ◌*◌, sym, ap, ◌∙◌, List, add-one, arith, get_or, set, length-set}
 use lib.Seq.{paste, paste-suc}
 use Rattle.state.specs.Memory.{gap_row_cells}
 use Rattle.state.proofs.gap_rows.put_row.Goals as goal

@@ -1,6 +1,5 @@
 -- The loop's invariant: the rows of the segments passed are sound.
-use Rattle.std.proofs.Common.{ℕ, ◌+◌, ◌-◌, ◌*◌, ◌≡◌, sym, ◌∙◌, true, arith}
-use borrow.Author.Tests.{not-true}
+use Rattle.std.proofs.Common.{ℕ, ◌+◌, ◌-◌, ◌*◌, ◌≡◌, sym, ◌∙◌, arith}
 use Rattle.files.specs.BelowLaws.{one_fails}
 use Rattle.sequence.specs.RowLaid.{sound_gap_row}
 use Rattle.state.specs.Memory.{gap_row_cells, gap_row_of}

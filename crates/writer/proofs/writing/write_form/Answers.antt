@@ -12,7 +12,7 @@ use Rattle.compose.specs.Write.{Laid}
 use Rattle.state.specs.AnswersLaws.{checked_refusal, checked_told}
 use Rattle.writer.specs.Writer.{code_rules, rows_rules, data_written, LaysRows}
 use Rattle.writer.specs.WriterLaws.{other_number, code_holds, code_refused, rows_refused, sent, long_rows, laid_rows}
-use Rattle.writer.proofs.writing.write_form.Goals.{In-Good, After-lay_rows}
+use Rattle.writer.proofs.writing.write_form.Goals.{In-Ok, After-lay_rows}
 use Rattle.writer.proofs.writing.write_form.Goals as goal
 
 -- what is known once the rows are laid
@@ -30,12 +30,12 @@ module _ (l : After-lay_rows) where
   lays = l.lay_rows.ensures
 
 -- and all of them good
-module _ (t : In-Good) where
+module _ (t : In-Ok) where
   abbrev laid : After-lay_rows
-  laid = (goal.at.In-Good t).After-lay_rows
+  laid = (goal.at.In-Ok t).After-lay_rows
 
   passed : first_broken (rows_rules (rows laid).verdict) ≡ none
-  passed = sym (checked_told laid.lay_rows.result _ (lays laid).answers) ∙ ap checked_refusal t.in-Good.is
+  passed = sym (checked_told laid.lay_rows.result _ (lays laid).answers) ∙ ap checked_refusal t.in-Ok.is
 
   long : length (rows laid).bytes ≡ data_length (rows_of t.args.form)
   long =
@@ -57,19 +57,19 @@ returns-then-not-takes_number c =
 
 pub put_message-requires : goal.put_message-requires
 put_message-requires c =
-    let t = (goal.at.put_message-requires c).In-Good in
+    let t = (goal.at.put_message-requires c).In-Ok in
     let there = simp length-take at (ap length (in_front t)) in
     rw c.data_length.ensures ((fits t.args.form).data_fits, omega (arith, there, long t))
 
-pub returns-in-Refused : goal.returns-in-Refused
-returns-in-Refused c =
-    let l = (goal.at.returns-in-Refused c).After-lay_rows in
+pub returns-in-Err : goal.returns-in-Err
+returns-in-Err c =
+    let l = (goal.at.returns-in-Err c).After-lay_rows in
     let a = c.args in
-    rows_refused (form l) a.code a.number a.key.now a.values.now a.out.now (coded l) _ (sym (checked_told l.lay_rows.result (first_broken (rows_rules (rows l).verdict)) (lays l).answers) ∙ ap checked_refusal c.in-Refused.is)
+    rows_refused (form l) a.code a.number a.key.now a.values.now a.out.now (coded l) _ (sym (checked_told l.lay_rows.result (first_broken (rows_rules (rows l).verdict)) (lays l).answers) ∙ ap checked_refusal c.in-Err.is)
 
-pub returns-in-Good : goal.returns-in-Good
-returns-in-Good c =
-    let t = (goal.at.returns-in-Good c).In-Good in
+pub returns-in-Ok : goal.returns-in-Ok
+returns-in-Ok c =
+    let t = (goal.at.returns-in-Ok c).In-Ok in
     let l = laid t in
     let a = c.args in
     sent (form l) a.code a.number a.key.now a.values.now a.out.now (coded l) (passed t)

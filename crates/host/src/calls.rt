@@ -98,6 +98,7 @@ fn read(
     told::tell(told::of_recorded(recorded), answer)
 }
 
+// Kept: a function for each level, as the C interface names them.
 pub fn quotebox_read_level1(
     list: &[u8],
     spreads: &[u8],
@@ -164,6 +165,7 @@ fn write(
     told::tell(told::of_written(written), answer)
 }
 
+// Kept: a function for each level, as the C interface names them.
 pub fn quotebox_write_level1(
     code: &[u8; 2],
     number: u32,

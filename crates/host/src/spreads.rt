@@ -27,6 +27,7 @@ fn read_spread(
     told::tell(told::of_recorded(recorded), answer)
 }
 
+// Kept: a function for each level, as the C interface names them.
 pub fn quotebox_read_spread1(
     list: &[u8],
     spreads: &[u8],
@@ -93,6 +94,7 @@ fn write_spread(
     told::tell(told::of_written(written), answer)
 }
 
+// Kept: a function for each level, as the C interface names them.
 pub fn quotebox_write_spread1(
     code: &[u8; 2],
     number: u32,

@@ -1,4 +1,5 @@
 // A function for each public call of pairs, which is the one of crate `host`. None has a `requires`: they stand any contents.
+// Kept: each with its slices and arrays one by one, as the C interface has them.
 ghost use Rattle.pairs.specs.Lists.{lists};
 ghost use Rattle.forms.specs.declared.rows.Level.TheVariants.{One, Two};
 ghost use Rattle.state.specs.Memory.{lends};

@@ -34,6 +34,14 @@ pub struct Outline {
     pub compared: usize,
 }
 
+// Where a message's key is looked up: the lists, and the segment of its batch's letter, where that is listed.
+#[derive(Clone, Copy)]
+struct Lists<'a> {
+    list: &'a [u8],
+    spreads: &'a [u8],
+    segment: Option<usize>,
+}
+
 // The place of a key in a segment of its file, where there is one.
 pub fn find(list: &[u8], spreads: &[u8], item: Item, segment: Option<usize>, key: &[u8]) -> Sought
     ensures { Seeks item (lists list.now spreads.now) key.now (place_of segment) result }
@@ -58,19 +66,16 @@ fn key_of(item: Item, data: &[u8]) -> &[u8]
 }
 
 // 13, once the rows are good.
-fn placed(
-    list: &[u8],
-    spreads: &[u8],
-    segment: Option<usize>,
-    data: &[u8],
-    whole: usize,
-    number: u32,
-    form: Form,
-    item: Item,
-) -> Outline
-    ensures { Outlines (bare (of_place number form (place_there item (lists list.now spreads.now) (take (key_bytes_of item) «data».now) (place_of segment))) whole) (compared_there item (lists list.now spreads.now) (take (key_bytes_of item) «data».now) (place_of segment)) result }
+fn placed(there: &Lists, data: &[u8], whole: usize, number: u32, form: Form, item: Item) -> Outline
+    ensures { Outlines (bare (of_place number form (place_there item (lists there.now.list.now there.now.spreads.now) (take (key_bytes_of item) «data».now) (place_of there.now.segment))) whole) (compared_there item (lists there.now.list.now there.now.spreads.now) (take (key_bytes_of item) «data».now) (place_of there.now.segment)) result }
 {
-    let sought = find(list, spreads, item, segment, key_of(item, data));
+    let sought = find(
+        there.list,
+        there.spreads,
+        item,
+        there.segment,
+        key_of(item, data),
+    );
     let found = sought.found;
     let what = match found {
         Some(place) => Ok(What::Update(number, form, place)),
@@ -94,21 +99,12 @@ fn updates(item: Item, data: &[u8]) -> bool
 }
 
 // An update with good rows: another market's is passed over, and its key isn't looked up.
-fn acted(
-    list: &[u8],
-    spreads: &[u8],
-    segment: Option<usize>,
-    data: &[u8],
-    whole: usize,
-    number: u32,
-    form: Form,
-    item: Item,
-) -> Outline
+fn acted(there: &Lists, data: &[u8], whole: usize, number: u32, form: Form, item: Item) -> Outline
     requires { TellsOf item form }
-    ensures { Outlines (bare (of_named (acting (Named.Form form) (market_in «data».now)) number (places_in (lists list.now spreads.now) «data».now (place_of segment))) whole) (compared_as (acting (Named.Form form) (market_in «data».now)) (keys_in (lists list.now spreads.now) «data».now (place_of segment))) result }
+    ensures { Outlines (bare (of_named (acting (Named.Form form) (market_in «data».now)) number (places_in (lists there.now.list.now there.now.spreads.now) «data».now (place_of there.now.segment))) whole) (compared_as (acting (Named.Form form) (market_in «data».now)) (keys_in (lists there.now.list.now there.now.spreads.now) «data».now (place_of there.now.segment))) result }
 {
     if updates(item, data) {
-        return placed(list, spreads, segment, data, whole, number, form, item);
+        return placed(there, data, whole, number, form, item);
     }
     Outline {
         what: Ok(What::PassedOver(number)),
@@ -131,9 +127,7 @@ fn bad(fault: Fault, bytes: &[u8]) -> Outline
 
 // An update: its first bad row, and then its key.
 fn update(
-    list: &[u8],
-    spreads: &[u8],
-    segment: Option<usize>,
+    there: &Lists,
     bytes: &[u8],
     whole: usize,
     form: Form,
@@ -141,29 +135,22 @@ fn update(
     cells: &mut [u64; MOST_ROWS],
 ) -> Outline
     requires { Framed bytes.now × (whole ≡ length_of bytes.now) × (form_in bytes.now ≡ Named.Form form) × TellsOf item form }
-    ensures { ReadsMessage (contents_by (places_there (lists list.now spreads.now) bytes.now (place_of segment)) bytes.now) (compared_as (acts_as bytes.now) (keys_there (lists list.now spreads.now) bytes.now (place_of segment))) (rows_read bytes.now).cells cells.old result cells.new }
+    ensures { ReadsMessage (contents_by (places_there (lists there.now.list.now there.now.spreads.now) bytes.now (place_of there.now.segment)) bytes.now) (compared_as (acts_as bytes.now) (keys_there (lists there.now.list.now there.now.spreads.now) bytes.now (place_of there.now.segment))) (rows_read bytes.now).cells cells.old result cells.new }
 {
     let number = head::number_of(bytes);
     let end = whole - head::TRAILER;
     let data = &bytes[head::DATA..end];
     match layout::read_update(form, data, cells) {
-        Verdict::Good => acted(list, spreads, segment, data, whole, number, form, item),
+        Verdict::Good => acted(there, data, whole, number, form, item),
         Verdict::Field(row) => bad(Fault::Field(row), bytes),
         Verdict::Range(row) => bad(Fault::Range(row), bytes),
     }
 }
 
 // What a message with a good head is.
-fn contents(
-    list: &[u8],
-    spreads: &[u8],
-    segment: Option<usize>,
-    bytes: &[u8],
-    named: Named,
-    cells: &mut [u64; MOST_ROWS],
-) -> Outline
+fn contents(there: &Lists, bytes: &[u8], named: Named, cells: &mut [u64; MOST_ROWS]) -> Outline
     requires { (framed bytes.now ≡ true) × (named ≡ form_in bytes.now) }
-    ensures { ReadsMessage (contents_by (places_there (lists list.now spreads.now) bytes.now (place_of segment)) bytes.now) (compared_as (acts_as bytes.now) (keys_there (lists list.now spreads.now) bytes.now (place_of segment))) (rows_read bytes.now).cells cells.old result cells.new }
+    ensures { ReadsMessage (contents_by (places_there (lists there.now.list.now there.now.spreads.now) bytes.now (place_of there.now.segment)) bytes.now) (compared_as (acts_as bytes.now) (keys_there (lists there.now.list.now there.now.spreads.now) bytes.now (place_of there.now.segment))) (rows_read bytes.now).cells cells.old result cells.new }
 {
     let whole = head::length_of(bytes);
     match named {
@@ -173,16 +160,9 @@ fn contents(
                 length: whole,
                 compared: 0,
             },
-            Subject::Of(item, _) => {
-                update(list, spreads, segment, bytes, whole, form, item, cells)
-            }
+            Subject::Of(item, _) => { update(there, bytes, whole, form, item, cells) }
         },
-        Named::NoLength => Outline {
-            what: Ok(What::PassedOver(head::number_of(bytes))),
-            length: whole,
-            compared: 0,
-        },
-        Named::PassedOver => Outline {
+        Named::NoLength | Named::PassedOver => Outline {
             what: Ok(What::PassedOver(head::number_of(bytes))),
             length: whole,
             compared: 0,
@@ -206,22 +186,15 @@ fn heartbeat(bytes: &[u8]) -> Outline
 }
 
 // A message with a good frame, code and trailer, by its form. Most messages of a quiet line are heartbeats, and theirs is the short way.
-fn formed(
-    list: &[u8],
-    spreads: &[u8],
-    segment: Option<usize>,
-    bytes: &[u8],
-    named: Named,
-    cells: &mut [u64; MOST_ROWS],
-) -> Outline
+fn formed(there: &Lists, bytes: &[u8], named: Named, cells: &mut [u64; MOST_ROWS]) -> Outline
     requires { (framed bytes.now ≡ true) × (named ≡ form_in bytes.now) }
-    ensures { ReadsFormed (places_there (lists list.now spreads.now) bytes.now (place_of segment)) (keys_there (lists list.now spreads.now) bytes.now (place_of segment)) bytes.now cells.old result cells.new }
+    ensures { ReadsFormed (places_there (lists there.now.list.now there.now.spreads.now) bytes.now (place_of there.now.segment)) (keys_there (lists there.now.list.now there.now.spreads.now) bytes.now (place_of there.now.segment)) bytes.now cells.old result cells.new }
 {
     if head::is_heartbeat(named) {
         return heartbeat(bytes);
     }
     match head::judge_form(bytes, named) {
-        Ok(()) => contents(list, spreads, segment, bytes, named, cells),
+        Ok(()) => contents(there, bytes, named, cells),
         Err(fault) => bad(fault, bytes),
     }
 }
@@ -240,7 +213,14 @@ pub fn read(
     ensures { ReadsMessage (message_of (lists list.now spreads.now) letter bytes.now) (message_compared (lists list.now spreads.now) letter bytes.now) (cells_read (lists list.now spreads.now) letter bytes.now) cells.old result cells.new }
 {
     match head::judge_frame(letter, segment, bytes) {
-        Ok(()) => formed(list, spreads, segment, bytes, head::form_in(bytes), cells),
+        Ok(()) => {
+            let there = Lists {
+                list,
+                spreads,
+                segment,
+            };
+            formed(&there, bytes, head::form_in(bytes), cells)
+        }
         Err(fault) => bad(fault, bytes),
     }
 }

@@ -16,11 +16,7 @@ fn put(cells: &mut [u64], at: usize, part: &[u64])
     requires { at + length part.now ≤ length cells.old }
     ensures { cells.new ≡ sets cells.old at part.now }
 {
-    let mut i = 0;
-    while i < part.len() {
-        cells[at + i] = part[i];
-        i += 1;
-    }
+    cells[at..at + part.len()].copy_from_slice(part);
 }
 
 // The record of a contract's update behind its number: the session, the market type, the time stamp, which some have not, and the rest.
@@ -131,11 +127,8 @@ pub fn make_all(records: &mut [u64], stores: &[u64], kept: usize)
     requires { (store_cells * kept ≤ length stores.now) × AllFit (length records.old) kept stores.now }
     ensures { records.new ≡ made kept stores.now records.old }
 {
-    let mut i = 0;
-    while i < kept {
+    for i in 0..kept {
         let at = STORE * i;
-        let end = at + STORE;
-        make(records, &stores[at..end]);
-        i += 1;
+        make(records, &stores[at..at + STORE]);
     }
 }

@@ -1,5 +1,5 @@
 -- Each by its law.
-use Rattle.std.proofs.Common.{ℕ, List, ◌≡◌, sym, ◌∙◌}
+use Rattle.std.proofs.Common.{⊎_elim, ℕ, List, ◌≡◌, sym, ◌∙◌}
 use Rattle.forms.specs.AnswersLaws.{subject_told}
 use Rattle.head.specs.Fields.{length_of, form_in}
 use Rattle.head.specs.HeadLaws.{framed_exact}
@@ -26,7 +26,10 @@ pub returns-in-Nothing : goal.returns-in-Nothing
 returns-in-Nothing c = let d = (goal.at.returns-in-Nothing c).After-length_of-whole in heartbeat_reads _ _ (bytes d) _ (whole_is d) d.args.cells.now _ (form_is d ∙ c.in-Form.is) (sym (subject_told c.subject_of.result _ c.subject_of.ensures) ∙ c.in-Nothing.is)
 
 pub returns-in-NoLength : goal.returns-in-NoLength
-returns-in-NoLength c = let d = (goal.at.returns-in-NoLength c).After-length_of-whole in rw c.number_of.ensures (no_length_reads _ _ (bytes d) _ (whole_is d) d.args.cells.now (form_is d ∙ c.in-NoLength.is))
-
-pub returns-in-PassedOver : goal.returns-in-PassedOver
-returns-in-PassedOver c = let d = (goal.at.returns-in-PassedOver c).After-length_of-whole in rw c.number_of-in-PassedOver.ensures (passed_over_reads _ _ (bytes d) _ (whole_is d) d.args.cells.now (form_is d ∙ c.in-PassedOver.is))
+returns-in-NoLength c =
+    let d = (goal.at.returns-in-NoLength c).After-length_of-whole in
+    rw c.number_of.ensures
+    (⊎_elim
+    (λ e. no_length_reads _ _ (bytes d) _ (whole_is d) d.args.cells.now (form_is d ∙ e))
+    (λ e. passed_over_reads _ _ (bytes d) _ (whole_is d) d.args.cells.now (form_is d ∙ e))
+    c.in-NoLength.is)

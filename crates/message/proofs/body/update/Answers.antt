@@ -40,11 +40,11 @@ module _ (c : After-read_update) where
 
   -- the place of its key
   abbrev found : Item → Option ℕ
-  found = places_there (lists c.args.list.now c.args.spreads.now) bytes (place_of c.args.segment)
+  found = places_there (lists c.args.there.now.list.now c.args.there.now.spreads.now) bytes (place_of c.args.there.now.segment)
 
   -- the keys compared with it
   abbrev keys : Item → ℕ
-  keys = keys_there (lists c.args.list.now c.args.spreads.now) bytes (place_of c.args.segment)
+  keys = keys_there (lists c.args.there.now.list.now c.args.there.now.spreads.now) bytes (place_of c.args.there.now.segment)
 
   whole_is : whole ≡ length_of bytes
   whole_is = c.requires.1
@@ -62,13 +62,13 @@ module _ (c : After-read_update) where
       (rw data_is at c.read_update.ensures) answer o
 
   -- what acts by the data acts by the message
-  good-is : {r : Outline} → Outlines (bare (of_named (acting (is.Form form) (market_in (take (whole - 3 - 8) (drop 8 bytes)))) c.number_of-number.result (places_in (lists c.args.list.now c.args.spreads.now) (take (whole - 3 - 8) (drop 8 bytes)) (place_of c.args.segment))) whole)
-      (compared_as (acting (is.Form form) (market_in (take (whole - 3 - 8) (drop 8 bytes)))) (keys_in (lists c.args.list.now c.args.spreads.now) (take (whole - 3 - 8) (drop 8 bytes)) (place_of c.args.segment))) r
+  good-is : {r : Outline} → Outlines (bare (of_named (acting (is.Form form) (market_in (take (whole - 3 - 8) (drop 8 bytes)))) c.number_of-number.result (places_in (lists c.args.there.now.list.now c.args.there.now.spreads.now) (take (whole - 3 - 8) (drop 8 bytes)) (place_of c.args.there.now.segment))) whole)
+      (compared_as (acting (is.Form form) (market_in (take (whole - 3 - 8) (drop 8 bytes)))) (keys_in (lists c.args.there.now.list.now c.args.there.now.spreads.now) (take (whole - 3 - 8) (drop 8 bytes)) (place_of c.args.there.now.segment))) r
       → Outlines (bare (of_named (acts_as bytes) (number_of bytes) found) whole) (compared_as (acts_as bytes) keys) r
   unfolding message_key acts_as
   good-is {r} o =
-      let place : List ℕ → Item → Option ℕ = λ d. places_in (lists c.args.list.now c.args.spreads.now) d (place_of c.args.segment) in
-      let steps : List ℕ → Item → ℕ = λ d. keys_in (lists c.args.list.now c.args.spreads.now) d (place_of c.args.segment) in
+      let place : List ℕ → Item → Option ℕ = λ d. places_in (lists c.args.there.now.list.now c.args.there.now.spreads.now) d (place_of c.args.there.now.segment) in
+      let steps : List ℕ → Item → ℕ = λ d. keys_in (lists c.args.there.now.list.now c.args.there.now.spreads.now) d (place_of c.args.there.now.segment) in
       let named : form_in bytes ≡ is.Form form = c.requires.2 in
       rw named
       (subst (λ (n : ℕ). Outlines (bare (of_named (acting (is.Form form) (market_in (data_of bytes))) n (place (data_of bytes))) whole) (compared_as (acting (is.Form form) (market_in (data_of bytes))) (steps (data_of bytes))) r) c.number_of-number.ensures

@@ -1,15 +1,11 @@
--- The loop's invariant: the first i part are put, the rest are as they were.
-use Rattle.std.proofs.Common.{ℕ, ◌+◌, ap, ◌∙◌, List, add-one, arith, get_or, set, length-set}
-use Rattle.laws.specs.Lists.{sets_more}
+-- The part stands in its place, and the rest as it was.
+use Rattle.std.proofs.Common.{◌∙◌, refl, sym, arith, length, take_all}
+use Rattle.std.proofs.lemmas.List.Edits.{sets-eq}
+use Rattle.std.proofs.lemmas.Slice.{put_mid-paste}
 use Rattle.stores.proofs.stores.put.Goals as goal
 
-pub loop-i-preserved : goal.loop-i-preserved
-loop-i-preserved c =
-    let l = c.loop-i in
-    let a = c.args in (
-      omega arith,
-      length-set l.cells (a.at + l.i) _ ∙ l.invariant.1,
-      ap (λ (r : List ℕ). set r (a.at + l.i) (get_or a.part.now l.i 0)) l.invariant.2
-          ∙ sets_more a.cells.now a.part.now a.at l.i 0 (omega arith)
-          ∙ rw (add-one l.i),
-    )
+pub returns : goal.returns
+returns c =
+    let a = c.args in
+    put_mid-paste a.at _ a.cells.now _ a.part.now (length a.part.now) c.copy_from_slice.ensures.after (omega arith) refl
+    ∙ rw (take_all (length a.part.now) a.part.now (omega arith)) (sym (sets-eq a.part.now a.cells.now a.at c.requires))

@@ -1,12 +1,12 @@
 -- M-102, worked: how many keys a lookup compares among a few, and what a batch answers of its lookups.
 use Rattle.std.specs.Prelude.{ℕ, zero, suc, ◌+◌, ◌*◌, ◌≡◌, refl, cond, List, [], ◌∷◌, map, ltb, eqb}
-use Rattle.files.specs.declared.key.Stands.{Stands}
-use Rattle.files.specs.declared.key.Stands.TheVariants.{Below, Same, Above}
+use Rattle.std.specs.declared.cmp.Ordering.{Ordering}
+use Rattle.std.specs.declared.cmp.Ordering.TheVariants.{Less, Equal, Greater}
 use Rattle.lookup.specs.Halving.{halved_in, halved}
 
 -- a word of our own: a row of keys that are 1, 3, 5 and so on; how a number stands to key k of it
-abbrev stands_at : ℕ → ℕ → Stands
-stands_at sought k = cond (ltb sought (2 * k + 1)) Below (cond (eqb sought (2 * k + 1)) Same Above)
+abbrev stands_at : ℕ → ℕ → Ordering
+stands_at sought k = cond (ltb sought (2 * k + 1)) Less (cond (eqb sought (2 * k + 1)) Equal Greater)
 
 -- a word of our own: the numbers from n on, so many
 abbrev from : ℕ → ℕ → List ℕ

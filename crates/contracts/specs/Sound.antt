@@ -2,7 +2,7 @@
 use Rattle.std.specs.Prelude.{ℕ, ◌+◌, ◌*◌, ◌≤◌, ◌<◌, ◌≡◌, ◌⊎◌, List, length, get_or}
 use Rattle.wire.specs.Bytes.{lowest_byte, highest_byte}
 use Rattle.files.specs.declared.habit.Habit.{Habit}
-use Rattle.files.specs.declared.key.Stands.TheVariants.{Below}
+use Rattle.std.specs.declared.cmp.Ordering.TheVariants.{Less}
 use Rattle.files.specs.File.{segments_of, entry_at, letter_at, zero_at, count_at, offset_at, key_by}
 use Rattle.files.specs.Habits.{contracts}
 use Rattle.files.specs.Keys.{order_of}
@@ -58,7 +58,7 @@ pub record SoundBy (habit : Habit) (list : List ℕ) : Type 0 where
   pub header : HeaderBy habit list
   pub key_bytes_lem : (i k b : ℕ) → i < segments_of list → k < count_at list i → b < habit.key
       → (lowest_byte ≤ get_or (key_by habit list i k) b 0) × (get_or (key_by habit list i k) b 0 ≤ highest_byte)
-  pub keys_ascend : (i k : ℕ) → i < segments_of list → k + 1 < count_at list i → order_of (key_by habit list i k) (key_by habit list i (k + 1)) ≡ Below
+  pub keys_ascend : (i k : ℕ) → i < segments_of list → k + 1 < count_at list i → order_of (key_by habit list i k) (key_by habit list i (k + 1)) ≡ Less
 
 -- 01, the table's row 16: the full check of a contract list
 abbrev pub SoundList : List ℕ → Type 0

@@ -8,8 +8,8 @@ use Rattle.laws.specs.Tests.{both, conj}
 use Rattle.wire.specs.Bytes.{all_printable}
 use Rattle.wire.specs.BytesLaws.{all_printable_exact}
 use Rattle.files.specs.declared.habit.Habit.{Habit}
-use Rattle.files.specs.declared.key.Stands.{Stands}
-use Rattle.files.specs.declared.key.Stands.TheVariants.{Below, Same, Above}
+use Rattle.std.specs.declared.cmp.Ordering.{Ordering}
+use Rattle.std.specs.declared.cmp.Ordering.TheVariants.{Less, Equal, Greater}
 use Rattle.files.specs.Below.{all_below}
 use Rattle.files.specs.BelowLaws.{each_passes, all_pass}
 use Rattle.files.specs.File.{segments_of, count_at, key_by}
@@ -19,10 +19,10 @@ use Rattle.files.specs.KeysLaws.{below_trans}
 use Rattle.contracts.specs.Sound.{SoundBy}
 use Rattle.contracts.specs.SoundTests.{header_sound_by, is_below, key_ascends, key_sound, body_sound, sound_by}
 
-below_true : (o : Stands) → is_below o ≡ true → o ≡ Below
-below_true Below e = refl
-below_true Same e = cc
-below_true Above e = cc
+below_true : (o : Ordering) → is_below o ≡ true → o ≡ Less
+below_true Less e = refl
+below_true Equal e = cc
+below_true Greater e = cc
 
 module _ (habit : Habit) (list : List ℕ) where
   key_next : (i k : ℕ) → key_ascends habit list i (k + 1) ≡ is_below (order_of (key_by habit list i k) (key_by habit list i (k + 1)))
@@ -75,8 +75,8 @@ module _ {habit : Habit} (list : List ℕ) where
 
   -- within a segment every key stands below all behind it
   pub keys_climb : SoundBy habit list → (i j k : ℕ) → i < segments_of list → j < k → k < count_at list i
-      → order_of (key_by habit list i j) (key_by habit list i k) ≡ Below
+      → order_of (key_by habit list i j) (key_by habit list i k) ≡ Less
   keys_climb s i j k l m o =
-      climbs (λ a b. order_of (key_by habit list i a) (key_by habit list i b) ≡ Below)
+      climbs (λ a b. order_of (key_by habit list i a) (key_by habit list i b) ≡ Less)
       (λ a b c p q. below_trans (key_by habit list i a) (key_by habit list i b) (key_by habit list i c) p q)
       (count_at list i) (λ a p. s.keys_ascend i a l p) j k m o

@@ -3,8 +3,8 @@
 use Rattle.std.specs.Prelude.{ℕ, zero, suc, ◌+◌, ◌*◌, Bool, true, false, ◌&&◌, ◌||◌, List, leb, ltb, eqb, length}
 use Rattle.wire.specs.Bytes.{all_printable}
 use Rattle.files.specs.declared.habit.Habit.{Habit}
-use Rattle.files.specs.declared.key.Stands.{Stands}
-use Rattle.files.specs.declared.key.Stands.TheVariants.{Below, Same, Above}
+use Rattle.std.specs.declared.cmp.Ordering.{Ordering}
+use Rattle.std.specs.declared.cmp.Ordering.TheVariants.{Less, Equal, Greater}
 use Rattle.files.specs.Below.{all_below}
 use Rattle.files.specs.File.{segments_of, entry_at, letter_at, zero_at, count_at, offset_at, key_by, contracts_before}
 use Rattle.files.specs.Habits.{contracts}
@@ -34,10 +34,10 @@ entry_sound habit list i =
     is_letter (letter_at list i) && letter_ascends list i && eqb (zero_at list i) 0 && within habit.fewest habit.most (count_at list i) && eqb (offset_at list i) (body_at habit list i)
 
 -- 01 "The contract list": strictly ascending, so that the same is not below
-abbrev pub is_below : Stands → Bool
-is_below Below = true
-is_below Same = false
-is_below Above = false
+abbrev pub is_below : Ordering → Bool
+is_below Less = true
+is_below Equal = false
+is_below Greater = false
 
 -- 01 "The contract list": each key but the first of its segment stands above the one before it
 abbrev pub key_ascends : Habit → List ℕ → ℕ → ℕ → Bool

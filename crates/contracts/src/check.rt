@@ -1,19 +1,12 @@
 ghost use Rattle.std.specs.Prelude.{◌≡◌, ◌<◌};
-ghost use Rattle.files.specs.File.{count_at, key_by};
-ghost use Rattle.contracts.specs.Inner.{part_sound, each_sound};
-ghost use Rattle.contracts.specs.SoundTests.{within, is_letter, letter_ascends, body_at, entry_sound, header_sound_by, is_below, key_ascends, key_sound, body_sound, sound_by};
+ghost use Rattle.files.specs.File.{segments_of, count_at, key_by};
+ghost use Rattle.files.specs.Below.{all_below};
+ghost use Rattle.contracts.specs.SoundTests.{within, is_letter, letter_ascends, body_at, entry_sound, header_sound_by, key_ascends, key_sound, body_sound, sound_by};
 
-use files::{Habit, Stands};
+use files::Habit;
 
 // The most segments of a list.
 pub const MOST_SEGMENTS: usize = 3;
-
-// What is looked at of a segment: its entry in the contents, or its body.
-#[derive(Clone, Copy)]
-pub enum Part {
-    Entry,
-    Body,
-}
 
 // Tests are joined by `&` and `|`: none can fail, so that none has to wait for another.
 
@@ -68,16 +61,6 @@ pub fn key_of(list: &[u8], habit: Habit, segment: usize, place: usize) -> &[u8]
     files::key_in(list, habit, files::offset_at(list, segment), place)
 }
 
-fn is_below(order: Stands) -> bool
-    ensures { result ≡ is_below order }
-{
-    match order {
-        Stands::Below => true,
-        Stands::Same => false,
-        Stands::Above => false,
-    }
-}
-
 fn key_ascends(list: &[u8], habit: Habit, segment: usize, place: usize) -> bool
     requires { place < count_at list.now segment }
     ensures { result ≡ key_ascends habit list.now segment place }
@@ -85,10 +68,8 @@ fn key_ascends(list: &[u8], habit: Habit, segment: usize, place: usize) -> bool
     if place == 0 {
         return true;
     }
-    is_below(files::order_of(
-        key_of(list, habit, segment, place - 1),
-        key_of(list, habit, segment, place),
-    ))
+    let before = key_of(list, habit, segment, place - 1);
+    files::order_of(before, key_of(list, habit, segment, place)).is_lt()
 }
 
 fn key_sound(list: &[u8], habit: Habit, segment: usize, place: usize) -> bool
@@ -102,38 +83,19 @@ fn key_sound(list: &[u8], habit: Habit, segment: usize, place: usize) -> bool
 fn body_sound(list: &[u8], habit: Habit, segment: usize) -> bool
     ensures { result ≡ body_sound habit list.now segment }
 {
-    let count = files::count_at(list, segment);
-    let mut place = 0;
-    while place < count {
-        if !key_sound(list, habit, segment, place) {
-            return false;
-        }
-        place += 1;
-    }
-    true
+    (0..files::count_at(list, segment)).all(|place| key_sound(list, habit, segment, place))
 }
 
-fn part_sound(list: &[u8], habit: Habit, segment: usize, part: Part) -> bool
-    ensures { result ≡ part_sound habit list.now part segment }
+pub fn entries_sound(list: &[u8], habit: Habit) -> bool
+    ensures { result ≡ all_below (segments_of list.now) (entry_sound habit list.now) }
 {
-    match part {
-        Part::Entry => entry_sound(list, habit, segment),
-        Part::Body => body_sound(list, habit, segment),
-    }
+    (0..files::segments(list)).all(|segment| entry_sound(list, habit, segment))
 }
 
-pub fn each_sound(list: &[u8], habit: Habit, part: Part) -> bool
-    ensures { result ≡ each_sound habit list.now part }
+pub fn bodies_sound(list: &[u8], habit: Habit) -> bool
+    ensures { result ≡ all_below (segments_of list.now) (body_sound habit list.now) }
 {
-    let listed = files::segments(list);
-    let mut i = 0;
-    while i < listed {
-        if !part_sound(list, habit, i, part) {
-            return false;
-        }
-        i += 1;
-    }
-    true
+    (0..files::segments(list)).all(|segment| body_sound(list, habit, segment))
 }
 
 // The check of the calls after start: all that stands before the bodies, and the size.
@@ -142,7 +104,7 @@ pub fn header_sound(list: &[u8], habit: Habit) -> bool
 {
     let listed = files::segments(list);
     if within(1, MOST_SEGMENTS, listed) {
-        each_sound(list, habit, Part::Entry) & (list.len() == body_at(list, habit, listed))
+        entries_sound(list, habit) & (list.len() == body_at(list, habit, listed))
     } else {
         false
     }
@@ -152,5 +114,5 @@ pub fn header_sound(list: &[u8], habit: Habit) -> bool
 pub fn sound(list: &[u8], habit: Habit) -> bool
     ensures { result ≡ sound_by habit list.now }
 {
-    header_sound(list, habit) && each_sound(list, habit, Part::Body)
+    header_sound(list, habit) && bodies_sound(list, habit)
 }

@@ -3,4 +3,6 @@
 
 mod check;
 
-pub use check::{MOST_SEGMENTS, Part, each_sound, header_sound, is_letter, key_of, sound};
+pub use check::{
+    MOST_SEGMENTS, bodies_sound, entries_sound, header_sound, is_letter, key_of, sound,
+};

@@ -1,6 +1,8 @@
 -- Laws of what is asked of every number below another.
 use Rattle.std.specs.Prelude.{ℕ, zero, suc, ◌+◌, ◌*◌, ◌≤◌, ◌<◌, ◌≡◌, refl, ◌⊎◌, Bool, true, false, not, ◌&&◌}
-use Rattle.std.proofs.Common.{ap, ap₂, sym, ◌∙◌, inl, inr, ⊎_elim, suc-mul, add-one, arith}
+use Rattle.std.specs.List.{list_all, range_with_len}
+use Rattle.std.proofs.Common.{ap, ap₂, sym, ◌∙◌, inl, inr, ⊎_elim, suc-mul, add-one, add-zero, arith}
+use Rattle.std.proofs.Math.Bool.{and_assoc}
 use Rattle.std.proofs.Math.Option.{Option, none, some}
 use Rattle.std.proofs.lemmas.Bool.{not-true, not-false}
 use Rattle.laws.specs.Choice.{either, never}
@@ -56,6 +58,11 @@ module _ (p : ℕ → Bool) where
       (λ (k : i < n). rw (first_here n i k before e))
       (order n i)
 
+  -- where each fails, none is the first to pass
+  pub none_first : (n : ℕ) → ((i : ℕ) → i < n → p i ≡ false) → first_below n p ≡ none
+  none_first zero each = refl
+  none_first (suc n) each = rw (none_first n (λ i h. each i (omega arith)), each n (omega arith)) refl
+
   pub first_passes : (n i : ℕ) → first_below n p ≡ some i → (i < n) × (p i ≡ true)
   first_passes zero i e = absurd (never e)
   first_passes (suc n) i e = go (first_passes n) (first_below n p) refl (either (p n))
@@ -96,6 +103,26 @@ module _ (p q : ℕ → Bool) where
   pub all_same : (n : ℕ) → ((i : ℕ) → i < n → p i ≡ q i) → all_below n p ≡ all_below n q
   all_same zero same = refl
   all_same (suc n) same = ap₂ ◌&&◌ (all_same n (λ i h. same i (omega arith))) (same n (omega arith))
+
+-- the first of the numbers settles it, or else those behind it
+first_of_all : (p : ℕ → Bool) (n : ℕ) → all_below (suc n) p ≡ p 0 && all_below n (λ i. p (suc i))
+first_of_all p zero = last (p 0)
+  where
+    last : (b : Bool) → true && b ≡ b && true
+    last true = refl
+    last false = refl
+first_of_all p (suc n) = rw (first_of_all p n) (and_assoc (p 0) (all_below n (λ i. p (suc i))) (p (suc n)))
+
+-- a test of all numbers from one on is what a chain over their range asks
+all_from : (p : ℕ → Bool) (a n : ℕ) → list_all p (range_with_len a n) ≡ all_below n (λ i. p (a + i))
+all_from p a zero = refl
+all_from p a (suc n) =
+    let here : p a ≡ p (a + 0) = ap p (sym (add-zero a)) in
+    let behind = all_from p (a + 1) n ∙ all_same (λ i. p (a + 1 + i)) (λ i. p (a + suc i)) n (λ i h. ap p (omega arith)) in
+    ap₂ ◌&&◌ here behind ∙ sym (first_of_all (λ i. p (a + i)) n)
+
+pub all_listed : (p : ℕ → Bool) (n : ℕ) → list_all p (range_with_len 0 n) ≡ all_below n p
+all_listed p n = all_from p 0 n ∙ all_same (λ i. p (0 + i)) p n (λ i h. ap p (omega arith))
 
 module _ (f g : ℕ → ℕ) where
   pub sum_same : (n : ℕ) → ((i : ℕ) → i < n → f i ≡ g i) → sum_below n f ≡ sum_below n g

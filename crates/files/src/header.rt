@@ -53,12 +53,9 @@ pub fn offset_at(list: &[u8], segment: usize) -> usize
 pub fn contracts_before(list: &[u8], segment: usize) -> usize
     ensures { result ≡ contracts_before list.now segment }
 {
-    let end = wire::least(segment, segments(list));
-    let mut sum: usize = 0;
-    let mut i = 0;
-    while i < end {
+    let mut sum = 0;
+    for i in 0..segment.min(segments(list)) {
         sum += count_at(list, i);
-        i += 1;
     }
     sum
 }

@@ -1,59 +1,24 @@
-ghost use Rattle.std.specs.Prelude.{◌≡◌, ◌+◌, ◌*◌, ◌^◌, ◌≤◌, ◌<◌, length, drop};
+ghost use Rattle.std.specs.Prelude.{◌≡◌, ◌+◌, ◌*◌, ◌^◌, ◌<◌};
 ghost use Rattle.files.specs.File.{key_from};
 ghost use Rattle.files.specs.Keys.{order_of};
 
 use crate::habit::Habit;
-
-// How a key stands to another.
-#[derive(Clone, Copy)]
-pub enum Stands {
-    Below,
-    Same,
-    Above,
-}
-
-// The order of what is left of two keys from a byte on.
-fn order_from(a: &[u8], b: &[u8], from: usize) -> Stands
-    requires { from ≤ length a.now }
-    ensures { result ≡ order_of (drop from a.now) (drop from b.now) }
-{
-    let mut i = from;
-    while i < a.len() {
-        if b.len() <= i {
-            return Stands::Above;
-        }
-        if a[i] < b[i] {
-            return Stands::Below;
-        }
-        if b[i] < a[i] {
-            return Stands::Above;
-        }
-        i += 1;
-    }
-    if i < b.len() {
-        Stands::Below
-    } else {
-        Stands::Same
-    }
-}
+use std::cmp::Ordering;
 
 // By the first byte in which they differ; what a longer one begins with stands below it. Eight bytes are compared as one number.
-pub fn order_of(a: &[u8], b: &[u8]) -> Stands
+// Kept: `a.cmp(b)` alone takes twice as long where the first eight bytes differ.
+pub fn order_of(a: &[u8], b: &[u8]) -> Ordering
     ensures { result ≡ order_of a.now b.now }
 {
-    let mut i = 0;
-    while (i + 8 <= a.len()) & (i + 8 <= b.len()) {
-        let x = wire::u64_at(a, i);
-        let y = wire::u64_at(b, i);
-        if x < y {
-            return Stands::Below;
+    let words = a.len().min(b.len()) / 8;
+    for i in 0..words {
+        let x = wire::u64_at(a, 8 * i);
+        let y = wire::u64_at(b, 8 * i);
+        if x != y {
+            return x.cmp(&y);
         }
-        if y < x {
-            return Stands::Above;
-        }
-        i += 8;
     }
-    order_from(a, b, i)
+    a[8 * words..].cmp(&b[8 * words..])
 }
 
 // The key of so many bytes that begins at a place of the list: what stands past the end is left out.

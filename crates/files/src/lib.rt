@@ -10,4 +10,4 @@ pub use header::{
     ENTRY, NUMBER, all_contracts, contracts_before, count_at, letter_at, offset_at, segments,
     zero_at,
 };
-pub use key::{Stands, key_in, order_of};
+pub use key::{key_in, order_of};

@@ -8,18 +8,18 @@ use Rattle.std.proofs.Math.Nat.{two-pow-succ}
 use native.Mathlib.Omega.{arith}
 use Rattle.laws.specs.Order.{three}
 use Rattle.laws.specs.Choice.{never}
-use Rattle.files.specs.declared.key.Stands.{Stands}
-use Rattle.files.specs.declared.key.Stands.TheVariants.{Below, Same, Above}
+use Rattle.std.specs.declared.cmp.Ordering.{Ordering}
+use Rattle.std.specs.declared.cmp.Ordering.TheVariants.{Less, Equal, Greater}
 use Rattle.lookup.specs.Halving.{Halved, one_more, halved_in, halved_from, halved, digits_in, digits}
 
 -- below, the same or above
-abbrev Which : Stands → Type 0
-Which o = (o ≡ Same) ⊎ ((o ≡ Below) ⊎ (o ≡ Above))
+abbrev Which : Ordering → Type 0
+Which o = (o ≡ Equal) ⊎ ((o ≡ Less) ⊎ (o ≡ Greater))
 
-which : (o : Stands) → Which o
-which Same = inl refl
-which Below = inr (inl refl)
-which Above = inr (inr refl)
+which : (o : Ordering) → Which o
+which Equal = inl refl
+which Less = inr (inl refl)
+which Greater = inr (inr refl)
 
 -- n is under two to the power of its binary digits
 holds : (t n : ℕ) → n ≤ t → n < 2 ^ digits_in t n
@@ -46,18 +46,18 @@ under (suc t) (suc m) (suc d) h =
 pub digits_climb : (n m : ℕ) → n ≤ m → digits n ≤ digits m
 digits_climb n m h = under n n (digits m) (omega (arith, digits_hold m))
 
-module _ (stands : ℕ → Stands) where
+module _ (stands : ℕ → Ordering) where
   module _ (turns low m : ℕ) where
-    matched : stands (low + m / 2) ≡ Same
+    matched : stands (low + m / 2) ≡ Equal
         → halved_in (suc turns) stands low (suc m) ≡ record { place = some (low + m / 2); compared = 1 }
     unfolding halved_in
     matched e = rw (e, halved_in)
 
-    lower : stands (low + m / 2) ≡ Below → halved_in (suc turns) stands low (suc m) ≡ one_more (halved_in turns stands low (m / 2))
+    lower : stands (low + m / 2) ≡ Less → halved_in (suc turns) stands low (suc m) ≡ one_more (halved_in turns stands low (m / 2))
     unfolding halved_in
     lower e = rw (e, halved_in)
 
-    higher : stands (low + m / 2) ≡ Above
+    higher : stands (low + m / 2) ≡ Greater
         → halved_in (suc turns) stands low (suc m) ≡ one_more (halved_in turns stands (low + m / 2 + 1) (m - m / 2))
     unfolding halved_in
     higher e = rw (e, halved_in)
@@ -86,18 +86,18 @@ module _ (stands : ℕ → Stands) where
       go below above (inr (inr e)) = higher t low m e ∙ ap one_more above ∙ sym (higher u low m e)
 
   -- what is found is a match, and lies among the keys left
-  placed : (t low n k : ℕ) → (halved_in t stands low n).place ≡ some k → (low ≤ k) × (k < low + n) × (stands k ≡ Same)
+  placed : (t low n k : ℕ) → (halved_in t stands low n).place ≡ some k → (low ≤ k) × (k < low + n) × (stands k ≡ Equal)
   unfolding halved_in
   placed zero low n k e = absurd (never e)
   placed (suc t) low zero k e = absurd (never e)
   placed (suc t) low (suc m) k e =
       go (placed t low (m / 2) k) (placed t (low + m / 2 + 1) (m - m / 2) k) (which (stands (low + m / 2)))
     where
-      go : ((halved_in t stands low (m / 2)).place ≡ some k → (low ≤ k) × (k < low + m / 2) × (stands k ≡ Same))
+      go : ((halved_in t stands low (m / 2)).place ≡ some k → (low ≤ k) × (k < low + m / 2) × (stands k ≡ Equal))
           → ((halved_in t stands (low + m / 2 + 1) (m - m / 2)).place ≡ some k
-          → (low + m / 2 + 1 ≤ k) × (k < low + m / 2 + 1 + (m - m / 2)) × (stands k ≡ Same))
+          → (low + m / 2 + 1 ≤ k) × (k < low + m / 2 + 1 + (m - m / 2)) × (stands k ≡ Equal))
           → Which (stands (low + m / 2))
-          → (low ≤ k) × (k < low + suc m) × (stands k ≡ Same)
+          → (low ≤ k) × (k < low + suc m) × (stands k ≡ Equal)
       go below above (inl f) =
           let here : low + m / 2 ≡ k = cc (matched t low m f) in
           (omega arith, omega arith, (cc))
@@ -131,15 +131,15 @@ module _ (stands : ℕ → Stands) where
     opened : halved_from stands low n ≡ halved_in (suc (n - 1)) stands low (suc (n - 1))
     opened = let e : n ≡ suc (n - 1) = omega arith in ap (λ (k : ℕ). halved_in k stands low k) e
 
-    pub match_stops : stands (low + (n - 1) / 2) ≡ Same
+    pub match_stops : stands (low + (n - 1) / 2) ≡ Equal
         → halved_from stands low n ≡ record { place = some (low + (n - 1) / 2); compared = 1 }
     match_stops e = opened ∙ matched (n - 1) low (n - 1) e
 
-    pub goes_below : stands (low + (n - 1) / 2) ≡ Below → halved_from stands low n ≡ one_more (halved_from stands low ((n - 1) / 2))
+    pub goes_below : stands (low + (n - 1) / 2) ≡ Less → halved_from stands low n ≡ one_more (halved_from stands low ((n - 1) / 2))
     goes_below e =
         opened ∙ lower (n - 1) low (n - 1) e ∙ ap one_more (enough (n - 1) ((n - 1) / 2) low ((n - 1) / 2) (omega arith) (omega arith))
 
-    pub goes_above : stands (low + (n - 1) / 2) ≡ Above
+    pub goes_above : stands (low + (n - 1) / 2) ≡ Greater
         → halved_from stands low n ≡ one_more (halved_from stands (low + (n - 1) / 2 + 1) (n - 1 - (n - 1) / 2))
     goes_above e =
         let left : ℕ = n - 1 - (n - 1) / 2 in
@@ -148,9 +148,9 @@ module _ (stands : ℕ → Stands) where
 
   -- every key before another is passed, or the other lies beyond: so it is where keys strictly ascend
   abbrev pub Ascends : ℕ → Type 0
-  Ascends n = (j k : ℕ) → j < k → k < n → (stands j ≡ Above) ⊎ (stands k ≡ Below)
+  Ascends n = (j k : ℕ) → j < k → k < n → (stands j ≡ Greater) ⊎ (stands k ≡ Less)
 
-  finds : (t low n all k : ℕ) → Ascends all → n ≤ t → low + n ≤ all → low ≤ k → k < low + n → stands k ≡ Same
+  finds : (t low n all k : ℕ) → Ascends all → n ≤ t → low + n ≤ all → low ≤ k → k < low + n → stands k ≡ Equal
       → (halved_in t stands low n).place ≡ some k
   finds zero low n all k asc turns within h h' e = absurd (omega arith)
   finds (suc t) low zero all k asc turns within h h' e = absurd (omega arith)
@@ -164,12 +164,12 @@ module _ (stands : ℕ → Stands) where
           → (k < low + m / 2) ⊎ ((low + m / 2 < k) ⊎ (k ≡ low + m / 2))
           → (halved_in (suc t) stands low (suc m)).place ≡ some k
       go below above (inl l) =
-          ⊎_elim (λ (f : stands k ≡ Above). (cc))
-          (λ (f : stands (low + m / 2) ≡ Below). ap (λ (r : Halved). r.place) (lower t low m f) ∙ below l)
+          ⊎_elim (λ (f : stands k ≡ Greater). (cc))
+          (λ (f : stands (low + m / 2) ≡ Less). ap (λ (r : Halved). r.place) (lower t low m f) ∙ below l)
           (asc k (low + m / 2) l (omega arith))
       go below above (inr (inl l)) =
-          ⊎_elim (λ (f : stands (low + m / 2) ≡ Above). ap (λ (r : Halved). r.place) (higher t low m f) ∙ above l)
-          (λ (f : stands k ≡ Below). (cc))
+          ⊎_elim (λ (f : stands (low + m / 2) ≡ Greater). ap (λ (r : Halved). r.place) (higher t low m f) ∙ above l)
+          (λ (f : stands k ≡ Less). (cc))
           (asc (low + m / 2) k l (omega arith))
       go below above (inr (inr l)) = cc (matched t low m (ap stands (sym l) ∙ e))
 
@@ -178,9 +178,9 @@ module _ (stands : ℕ → Stands) where
   compared_few n = compared_under n 0 n (digits n) (digits_hold n)
 
   -- a place that is found is one of the row, and its key matches, whatever the keys are
-  pub found_matches : (n k : ℕ) → (halved stands n).place ≡ some k → (k < n) × (stands k ≡ Same)
+  pub found_matches : (n k : ℕ) → (halved stands n).place ≡ some k → (k < n) × (stands k ≡ Equal)
   found_matches n k e = let h = placed n 0 n k e in (omega arith, h.2)
 
   -- where keys strictly ascend, a match is found at its place
-  pub match_found : (n k : ℕ) → Ascends n → k < n → stands k ≡ Same → (halved stands n).place ≡ some k
+  pub match_found : (n k : ℕ) → Ascends n → k < n → stands k ≡ Equal → (halved stands n).place ≡ some k
   match_found n k asc h e = finds n 0 n n k asc (omega arith) (omega arith) (omega arith) (omega arith) e

@@ -2,7 +2,7 @@
 use Rattle.std.specs.Prelude.{ℕ, List, eqb}
 use Rattle.std.proofs.Math.Option.{Option}
 use Rattle.files.specs.declared.habit.Habit.{Habit}
-use Rattle.files.specs.declared.key.Stands.{Stands}
+use Rattle.std.specs.declared.cmp.Ordering.{Ordering}
 use Rattle.files.specs.Below.{first_below}
 use Rattle.files.specs.File.{segments_of, letter_at, count_at, key_by}
 use Rattle.files.specs.Habits.{contracts}
@@ -14,7 +14,7 @@ unfoldable pub segment_of : List ℕ → ℕ → Option ℕ
 segment_of list letter = first_below (segments_of list) (λ i. eqb (letter_at list i) letter)
 
 -- 01 "The contract list": how a key stands to key k of segment i
-abbrev pub stands_to : Habit → List ℕ → ℕ → List ℕ → ℕ → Stands
+abbrev pub stands_to : Habit → List ℕ → ℕ → List ℕ → ℕ → Ordering
 stands_to habit list i key k = order_of key (key_by habit list i k)
 
 -- M-102: a key is looked up in segment i by halving, whatever the bodies hold

@@ -4,7 +4,8 @@ ghost use Rattle.laws.specs.Refused.{code_no};
 ghost use Rattle.lookup.specs.Answers.{found_numbers, looked_up, Reports};
 ghost use Rattle.lookup.specs.Lookup.{segment_of, lookup};
 
-use files::{Habit, Stands};
+use files::Habit;
+use std::cmp::Ordering;
 
 // A key that was looked up: where it is listed, 13 where it is nowhere, and how many keys were compared with it.
 #[derive(Clone, Copy)]
@@ -17,15 +18,7 @@ pub struct Sought {
 pub fn segment_of(list: &[u8], letter: u8) -> Option<usize>
     ensures { found_numbers code_no result ≡ looked_up code_no (segment_of list.now letter) }
 {
-    let listed = files::segments(list);
-    let mut i = 0;
-    while i < listed {
-        if files::letter_at(list, i) == letter {
-            return Some(i);
-        }
-        i += 1;
-    }
-    None
+    (0..files::segments(list)).find(|segment| files::letter_at(list, *segment) == letter)
 }
 
 // The place of a key in a segment, by halving: `left` keys are left, the first of which is key `low`.
@@ -41,16 +34,16 @@ pub fn place_of(list: &[u8], habit: Habit, segment: usize, wanted: &[u8]) -> Sou
         let place = low + below;
         compared += 1;
         match files::order_of(wanted, files::key_in(list, habit, offset, place)) {
-            Stands::Same => {
+            Ordering::Equal => {
                 return Sought {
                     found: Some(place),
                     compared,
                 };
             }
-            Stands::Below => {
+            Ordering::Less => {
                 left = below;
             }
-            Stands::Above => {
+            Ordering::Greater => {
                 low = place + 1;
                 left = left - 1 - below;
             }

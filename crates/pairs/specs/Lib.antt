@@ -1,6 +1,5 @@
 pub mod ContentsLaws
 pub mod Habits
-pub mod Inner
 pub mod Items
 pub mod ItemsLaws
 pub mod Lists

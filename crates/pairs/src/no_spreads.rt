@@ -28,10 +28,8 @@ pub fn put_no_spreads(list: &[u8], out: &mut [u8])
     let listed = files::segments(list);
     let size = no_spreads_size(list) as u32;
     wire::put_u16(out, 0, listed as u16);
-    let mut i = 0;
-    while i < listed {
+    for i in 0..listed {
         let at = files::NUMBER + files::ENTRY * i;
         put_empty_entry(out, at, files::letter_at(list, i), size);
-        i += 1;
     }
 }

@@ -1,12 +1,11 @@
 // The spread list beside the contract list: the same segments, and pairs of keys that are listed there.
 ghost use Rattle.std.specs.Prelude.{◌≡◌, ◌<◌};
-ghost use Rattle.files.specs.File.{count_at};
-ghost use Rattle.pairs.specs.Inner.{part_fits, each_fits};
+ghost use Rattle.files.specs.File.{segments_of, count_at};
+ghost use Rattle.files.specs.Below.{all_below};
 ghost use Rattle.lookup.specs.Lookup.{place_in};
 ghost use Rattle.pairs.specs.SpreadTests.{same_letter, is_found, pair_listed, pairs_listed, spread_header_sound, spreads_sound};
 
 use crate::habit::PAIRS;
-use contracts::Part;
 use files::CONTRACTS;
 
 fn same_letter(list: &[u8], spreads: &[u8], segment: usize) -> bool
@@ -29,45 +28,26 @@ fn pair_listed(list: &[u8], spreads: &[u8], segment: usize, place: usize) -> boo
     ensures { result ≡ pair_listed list.now spreads.now segment place }
 {
     let pair = contracts::key_of(spreads, PAIRS, segment, place);
-    let half = wire::least(CONTRACTS.key as usize, pair.len());
+    let half = (CONTRACTS.key as usize).min(pair.len());
     half_listed(list, segment, &pair[..half]) & half_listed(list, segment, &pair[half..])
 }
 
 fn pairs_listed(list: &[u8], spreads: &[u8], segment: usize) -> bool
     ensures { result ≡ pairs_listed list.now spreads.now segment }
 {
-    let count = files::count_at(spreads, segment);
-    let mut place = 0;
-    while place < count {
-        if !pair_listed(list, spreads, segment, place) {
-            return false;
-        }
-        place += 1;
-    }
-    true
+    (0..files::count_at(spreads, segment)).all(|place| pair_listed(list, spreads, segment, place))
 }
 
-fn part_fits(list: &[u8], spreads: &[u8], segment: usize, part: Part) -> bool
-    ensures { result ≡ part_fits list.now spreads.now part segment }
+fn letters_fit(list: &[u8], spreads: &[u8]) -> bool
+    ensures { result ≡ all_below (segments_of spreads.now) (same_letter list.now spreads.now) }
 {
-    match part {
-        Part::Entry => same_letter(list, spreads, segment),
-        Part::Body => pairs_listed(list, spreads, segment),
-    }
+    (0..files::segments(spreads)).all(|segment| same_letter(list, spreads, segment))
 }
 
-fn each_fits(list: &[u8], spreads: &[u8], part: Part) -> bool
-    ensures { result ≡ each_fits list.now spreads.now part }
+fn pairs_fit(list: &[u8], spreads: &[u8]) -> bool
+    ensures { result ≡ all_below (segments_of spreads.now) (pairs_listed list.now spreads.now) }
 {
-    let listed = files::segments(spreads);
-    let mut i = 0;
-    while i < listed {
-        if !part_fits(list, spreads, i, part) {
-            return false;
-        }
-        i += 1;
-    }
-    true
+    (0..files::segments(spreads)).all(|segment| pairs_listed(list, spreads, segment))
 }
 
 // The check of the calls after start, behind the contract list's.
@@ -75,7 +55,7 @@ pub fn spread_header_sound(list: &[u8], spreads: &[u8]) -> bool
     ensures { result ≡ spread_header_sound list.now spreads.now }
 {
     (contracts::header_sound(spreads, PAIRS) & (files::segments(spreads) == files::segments(list)))
-        && each_fits(list, spreads, Part::Entry)
+        && letters_fit(list, spreads)
 }
 
 // The check of start, behind the contract list's: the pairs too.
@@ -83,6 +63,5 @@ pub fn spreads_sound(list: &[u8], spreads: &[u8]) -> bool
     ensures { result ≡ spreads_sound list.now spreads.now }
 {
     spread_header_sound(list, spreads)
-        && (contracts::each_sound(spreads, PAIRS, Part::Body)
-            & each_fits(list, spreads, Part::Body))
+        && (contracts::bodies_sound(spreads, PAIRS) & pairs_fit(list, spreads))
 }

@@ -17,7 +17,7 @@ returns-then-within c =
     let l = a.list.now in
     let few : within 1 most_segments (segments_of l) ≡ true = tested _ _ _ c.segments-listed.ensures c.within.ensures ∙ c.if-within.true in
     rw few
-    (ap₂ ◌&&◌ c.each_sound.ensures (ap (eqb (length l)) (c.body_at.ensures ∙ ap (body_at a.habit l) d.segments-listed.ensures)))
+    (ap₂ ◌&&◌ c.entries_sound.ensures (ap (eqb (length l)) (c.body_at.ensures ∙ ap (body_at a.habit l) d.segments-listed.ensures)))
 
 pub returns-else-within : goal.returns-else-within
 unfolding header_sound_by

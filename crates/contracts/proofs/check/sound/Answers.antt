@@ -9,7 +9,7 @@ returns-then-header_sound c =
     let header = c in
     let a = header.args in
     let passes : header_sound_by a.habit a.list.now ≡ true = sym header.header_sound.ensures ∙ c.if-header_sound.true in
-    rw passes c.each_sound.ensures
+    rw passes c.bodies_sound.ensures
 
 pub returns-else-header_sound : goal.returns-else-header_sound
 unfolding sound_by

@@ -1,30 +1,22 @@
--- `lookup::segment_of` meets its contract: the first segment that has the letter, or none.
-use Rattle.std.proofs.Common.{ℕ, Bool, List, ◌≡◌, ◌<◌, sym, ap, ◌∙◌, arith, eqb, eq-eqb}
+-- The first segment that has the letter, or none.
+use Rattle.std.specs.Prelude.{ℕ, Bool, ◌≡◌, Option as Found, Some, None, MatchOption, eqb}
+use Rattle.std.proofs.Math.Option.{Option, none, some}
+use Rattle.std.proofs.Common.{ap, sym, ◌∙◌, rules, tests}
 use Rattle.laws.specs.Refused.{code_no}
-use Rattle.lookup.specs.Answers.{looked_up}
+use Rattle.files.proofs.Ranges.{first_told}
 use Rattle.files.specs.Below.{first_below}
-use Rattle.files.specs.BelowLaws.{first_here}
-use Rattle.files.specs.File.{segments_of, letter_at}
+use Rattle.files.specs.File.{letter_at}
+use Rattle.lookup.specs.Answers.{found_numbers, looked_up}
 use Rattle.lookup.specs.Lookup.{segment_of}
 use Rattle.lookup.proofs.lookup.segment_of.Goals as goal
 
--- the test of segment i
-abbrev has : List ℕ → ℕ → ℕ → Bool
-has list letter i = eqb (letter_at list i) letter
-
-pub returns-then-letter_at-letter : goal.returns-then-letter_at-letter
-unfolding segment_of
-returns-then-letter_at-letter c =
-    let a = c.args in
-    let l = a.list.now in
-    let i = c.loop-i.i in
-    let listed : i < segments_of l = omega arith in
-    let here : letter_at l i ≡ a.letter = omega arith in
-    ap (looked_up code_no) (sym (first_here (has l a.letter) (segments_of l) i listed c.loop-i.invariant.1 (eq-eqb (letter_at l i) a.letter here)))
+numbers : (r : Found ℕ) (o : Option ℕ) → MatchOption r (o ≡ none) (λ i. o ≡ some i) → found_numbers code_no r ≡ looked_up code_no o
+numbers None o e = ap (looked_up code_no) (sym e)
+numbers (Some i) o e = ap (looked_up code_no) (sym e)
 
 pub returns : goal.returns
 unfolding segment_of
 returns c =
-    let l = c.args.list.now in
-    let all : c.loop-i.i ≡ segments_of l = omega arith in
-    sym (ap (looked_up code_no) (sym (ap (λ (n : ℕ). first_below n (has l c.args.letter)) all) ∙ c.loop-i.invariant.1))
+    let has : ℕ → Bool = λ i. eqb (letter_at c.args.list.now i) c.args.letter in
+    numbers c.find.result (first_below c.segments.result has) (first_told _ c.find.result has c.segments.result c.find.ensures.ran (λ x b q k. search (rules, tests)))
+    ∙ ap (λ n. looked_up code_no (first_below n has)) c.segments.ensures

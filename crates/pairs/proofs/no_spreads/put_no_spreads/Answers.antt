@@ -19,7 +19,7 @@ pub loop-i-preserved : goal.loop-i-preserved
 loop-i-preserved c =
     let at = c.loop-i in
     let l = c.args.list.now in
-    (omega arith, rw (← entries_next l c.put_u16.new.s at.i, ← at.invariant.1, ← c.letter_at.ensures, ← c.no_spreads_size-size.ensures) c.put_empty_entry.ensures)
+    rw (← entries_next l c.put_u16.new.s at.i, ← at.invariant, ← c.letter_at.ensures, ← c.no_spreads_size-size.ensures) c.put_empty_entry.ensures
 
 pub returns : goal.returns
 unfolding no_spreads
@@ -27,6 +27,6 @@ returns c =
     let a = c.args in
     let l = a.list.now in
     let all : c.loop-i.i ≡ segments_of l = omega arith in
-    c.loop-i.invariant.1
+    c.loop-i.invariant
     ∙ ap₂ (λ (s : List ℕ) (n : ℕ). sets s 2 (empty_entries l n))
     (c.put_u16.ensures ∙ ap (λ (n : ℕ). sets a.out.now 0 (bytes_of 2 n)) c.segments-listed.ensures) all

@@ -12,12 +12,12 @@ returns c =
     let a = d.args in
     let pair = d.key_of-pair.result.now in
     let here = d.key_of-pair.ensures in
-    let left : length (drop d.least-half.result pair) ≡ length pair - d.least-half.result = length-drop d.least-half.result pair in
-    let first : take d.least-half.result pair ≡ first_half (pair_at a.spreads.now a.segment a.place) =
-    ap (λ (n : ℕ). take n pair) d.least-half.ensures ∙ take_min 39 pair ∙ ap first_half here in
-    let second : take (length pair - d.least-half.result) (drop d.least-half.result pair) ≡ second_half (pair_at a.spreads.now a.segment a.place) =
-    take_all (length pair - d.least-half.result) (drop d.least-half.result pair) (omega arith)
-    ∙ ap (λ (n : ℕ). drop n pair) d.least-half.ensures ∙ drop_min 39 pair ∙ ap second_half here in
+    let left : length (drop d.min-half.result pair) ≡ length pair - d.min-half.result = length-drop d.min-half.result pair in
+    let first : take d.min-half.result pair ≡ first_half (pair_at a.spreads.now a.segment a.place) =
+    ap (λ (n : ℕ). take n pair) d.min-half.ensures ∙ take_min 39 pair ∙ ap first_half here in
+    let second : take (length pair - d.min-half.result) (drop d.min-half.result pair) ≡ second_half (pair_at a.spreads.now a.segment a.place) =
+    take_all (length pair - d.min-half.result) (drop d.min-half.result pair) (omega arith)
+    ∙ ap (λ (n : ℕ). drop n pair) d.min-half.ensures ∙ drop_min 39 pair ∙ ap second_half here in
     ap₂ ◌&&◌
     (c.half_listed.ensures ∙ ap (λ (half : List ℕ). is_found (place_in a.list.now a.segment half)) first)
     (c.half_listed-2.ensures ∙ ap (λ (half : List ℕ). is_found (place_in a.list.now a.segment half)) second)

@@ -16,7 +16,7 @@ tested list spreads h n m e f g = sym (ap₂ ◌&&◌ e (ap₂ eqb f g))
 
 pub returns-then-header_sound-segments : goal.returns-then-header_sound-segments
 unfolding spread_header_sound
-returns-then-header_sound-segments c = rw (tested _ _ _ _ _ c.header_sound.ensures c.segments.ensures c.segments-2.ensures ∙ c.if-header_sound-segments.true) c.each_fits.ensures
+returns-then-header_sound-segments c = rw (tested _ _ _ _ _ c.header_sound.ensures c.segments.ensures c.segments-2.ensures ∙ c.if-header_sound-segments.true) c.letters_fit.ensures
 
 pub returns-else-header_sound-segments : goal.returns-else-header_sound-segments
 unfolding spread_header_sound

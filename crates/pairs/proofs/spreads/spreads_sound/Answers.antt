@@ -9,7 +9,7 @@ returns-then-spread_header_sound c =
     let header = c in
     let a = header.args in
     let passes : spread_header_sound a.list.now a.spreads.now ≡ true = sym header.spread_header_sound.ensures ∙ c.if-spread_header_sound.true in
-    rw passes (ap₂ ◌&&◌ c.each_sound.ensures c.each_fits.ensures)
+    rw passes (ap₂ ◌&&◌ c.bodies_sound.ensures c.pairs_fit.ensures)
 
 pub returns-else-spread_header_sound : goal.returns-else-spread_header_sound
 unfolding spreads_sound

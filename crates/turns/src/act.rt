@@ -19,6 +19,16 @@ pub enum Act {
     Heartbeat,
 }
 
+// What all messages of a batch are judged by: the lists, their letter, where that is listed, and where its segment's records begin.
+#[derive(Clone, Copy)]
+struct Lists<'a> {
+    list: &'a [u8],
+    spreads: &'a [u8],
+    letter: u8,
+    segment: Option<usize>,
+    fronts: Fronts,
+}
+
 // With the message's length, how many stores are kept behind it, and how many keys its lookup compared.
 #[derive(Clone, Copy)]
 pub struct Step {
@@ -68,13 +78,9 @@ fn is_taken(act: Result<Act, Refusal>) -> bool
     matches!(act, Ok(Act::Taken))
 }
 
-// Message i, which begins here; its segment's records begin at `fronts`, and `cells` is for its rows.
+// Message i, which begins here; `cells` is for its rows.
 fn message_acts(
-    list: &[u8],
-    spreads: &[u8],
-    letter: u8,
-    segment: Option<usize>,
-    fronts: Fronts,
+    there: &Lists,
     row: &mut [u32; sequence::CELLS],
     stores: &mut [u64],
     kept: usize,
@@ -82,10 +88,17 @@ fn message_acts(
     bytes: &[u8],
     cells: &mut [u64; MOST_ROWS],
 ) -> Step
-    requires { Ready (lists list.now spreads.now) letter (place_of segment) fronts row.old stores.old kept }
-    ensures { MessageActs (lists list.now spreads.now) letter row.old stores.old kept i bytes.now result row.new stores.new }
+    requires { Ready (lists there.now.list.now there.now.spreads.now) there.now.letter (place_of there.now.segment) there.now.fronts row.old stores.old kept }
+    ensures { MessageActs (lists there.now.list.now there.now.spreads.now) there.now.letter row.old stores.old kept i bytes.now result row.new stores.new }
 {
-    let message = message::read(list, spreads, letter, segment, bytes, cells);
+    let message = message::read(
+        there.list,
+        there.spreads,
+        there.letter,
+        there.segment,
+        bytes,
+        cells,
+    );
     let length = message.length;
     let what = message.what;
     let mut kept = kept;
@@ -96,7 +109,15 @@ fn message_acts(
             What::Update(number, form, place) => {
                 let act = number_acts(row, i, number);
                 if is_taken(act) {
-                    kept = stores::keep_update(stores, kept, fronts, place, form, number, cells);
+                    kept = stores::keep_update(
+                        stores,
+                        kept,
+                        there.fronts,
+                        place,
+                        form,
+                        number,
+                        cells,
+                    );
                 }
                 act
             }
@@ -169,6 +190,13 @@ pub fn judge_messages(
     requires { Ready (lists list.now spreads.now) letter (place_of segment) fronts row.old stores.old 0 × (count < 65536) }
     ensures { JudgedMessages (lists list.now spreads.now) letter row.old (length stores.old) «data».now count result row.new stores.new }
 {
+    let there = Lists {
+        list,
+        spreads,
+        letter,
+        segment,
+        fronts,
+    };
     let mut cells = [0u64; MOST_ROWS];
     let mut counts = none();
     let mut kept = 0;
@@ -176,9 +204,7 @@ pub fn judge_messages(
     let mut at = 0;
     for i in 0..count {
         let part = &data[at..];
-        let step = message_acts(
-            list, spreads, letter, segment, fronts, row, stores, kept, i, part, &mut cells,
-        );
+        let step = message_acts(&there, row, stores, kept, i, part, &mut cells);
         compared += step.compared;
         let act = match step.act {
             Ok(act) => act,

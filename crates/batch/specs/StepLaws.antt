@@ -1,13 +1,13 @@
 -- What one message of a batch does to gaps and counts.
 use Rattle.std.specs.Prelude.{ℕ, suc, ◌+◌, ◌≤◌, ◌≡◌, refl, Bool, true, false, cond, ◌⊎◌, List, [], ◌∷◌, leb, ltb, length, get_or, set, drop, Ok, Err, Result}
+use Rattle.layout.specs.declared.read.BadRow.TheVariants as bad_row
+use Rattle.layout.specs.Answers.{Verdict}
 use Rattle.std.proofs.Common.{ap, sym, ◌∙◌, inl, inr, ⊎_elim, arith, le-leb, ltb-true, ltb-false, drop-set-lt}
 use Rattle.std.proofs.Math.Option.{Option, none, some}
 use Rattle.std.proofs.lemmas.Bool.{lt-leb}
 use Rattle.std.proofs.lemmas.List.Edits.{sets}
 use Rattle.std.proofs.Math.Seq.{length-sets}
 use Rattle.laws.specs.Choice.{either}
-use Rattle.layout.specs.declared.read.Verdict.{Verdict}
-use Rattle.layout.specs.declared.read.Verdict.TheVariants as verdict
 use Rattle.lookup.specs.Lookup.{segment_of}
 use Rattle.pairs.specs.Lists.{Lists, Headers}
 use Rattle.sequence.specs.Gaps.{Gaps, most, takes}
@@ -159,11 +159,11 @@ acting_tells (Of item level) form e market n p = go (updates item market)
     go false = ((λ g. refl), refl)
 
 tells : (v : Verdict) (k : Named) (market n : ℕ) (p : Item → Option ℕ) → Tells (of_verdict v (of_named (acting k market) n p)) (arrived_as k) n
-tells verdict.Good (is.Form form) market n p = acting_tells (subject_of form) form refl market n p
-tells verdict.Good is.NoLength market n p = ((λ g. refl), refl)
-tells verdict.Good is.PassedOver market n p = ((λ g. refl), refl)
-tells (verdict.Field row) k market n p = tt
-tells (verdict.Range row) k market n p = tt
+tells (Ok good) (is.Form form) market n p = acting_tells (subject_of form) form refl market n p
+tells (Ok good) is.NoLength market n p = ((λ g. refl), refl)
+tells (Ok good) is.PassedOver market n p = ((λ g. refl), refl)
+tells (Err (bad_row.Field row)) k market n p = tt
+tells (Err (bad_row.Range row)) k market n p = tt
 
 module _ (lists : Lists) (headers : Headers lists) (letter : ℕ) (box : Box) (i : ℕ) (bytes : List ℕ) (good : verdict_of (message_of lists letter bytes).what ≡ Ok tt) where
   told : Tells (message_of lists letter bytes).what (arrived_as (form_in bytes)) (number_of bytes)

@@ -1,12 +1,12 @@
 -- The verdict of writing rows is that of the first bad row, and there is one such verdict.
 use Rattle.std.specs.Prelude.{ℕ, suc, ◌<◌, ◌≡◌, refl, List, ◌↔◌, length, take, drop}
+use Rattle.layout.specs.Answers.{Verdict}
 use Rattle.std.proofs.Common.{ap, add-zero, add-one, drop-cons, drop-drop, get_or-drop}
 use Rattle.std.proofs.Math.Seq.{drop-length}
 use Rattle.forms.specs.declared.rows.Row.{Row}
 use Rattle.forms.specs.declared.rows.Row.TheVariants.{Key}
 use Rattle.forms.specs.Rows.{total}
 use Rattle.forms.specs.RowsLaws.{total_suc}
-use Rattle.layout.specs.declared.read.Verdict.{Verdict}
 use Rattle.layout.specs.Cells.{key_used}
 use Rattle.layout.specs.FirstBad.{FirstBad}
 use Rattle.layout.specs.FirstBadLaws.{Turn, passes, malforms, overflows, exactly, first_bad}

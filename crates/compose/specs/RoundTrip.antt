@@ -1,5 +1,5 @@
 -- What is written reads back: the cells are the values that were written, and the key stands in front.
-use Rattle.std.specs.Prelude.{ℕ, suc, ◌+◌, ◌-◌, ◌≤◌, ◌<◌, ◌≡◌, refl, Bool, true, false, List, [], ◌∷◌, ◌++◌, length, get_or, take, drop}
+use Rattle.std.specs.Prelude.{ℕ, suc, ◌+◌, ◌-◌, ◌≤◌, ◌<◌, ◌≡◌, refl, Bool, true, false, List, [], ◌∷◌, ◌++◌, length, get_or, take, drop, Ok}
 use Rattle.std.proofs.Common.{ap, sym, ◌∙◌, arith, ne_eqb, lit<, length-drop, take_at, drop_at, take-add, length-take-le}
 use Rattle.std.proofs.Math.Bool.{and-eq-true_iff}
 use Rattle.std.proofs.Math.Seq.{take-append-add}
@@ -11,8 +11,6 @@ use Rattle.decimal.specs.declared.Held.{Held}
 use Rattle.decimal.specs.declared.Held.TheVariants.{Nothing, Units, Below}
 use Rattle.forms.specs.declared.rows.Row.{Row}
 use Rattle.forms.specs.declared.rows.Row.TheVariants.{Key, MarketType, Status, Price, Quantity, Turnover, Difference}
-use Rattle.layout.specs.declared.read.RowRead.TheVariants.{Cell}
-use Rattle.layout.specs.declared.read.Verdict.TheVariants.{Good}
 use Rattle.decimal.specs.declared.Kind.{Kind}
 use Rattle.decimal.specs.Kinds.{price, quantity, turnover, difference}
 use Rattle.forms.specs.declared.rows.Level.{Level}
@@ -35,7 +33,7 @@ use Rattle.compose.specs.WriteLaws.{GoodRow, good_row}
 -- ---- the values
 
 letter_back : (taken : ℕ → Bool) → ((byte : ℕ) → taken byte ≡ true → byte < 256) → (value : ℕ) {t : List ℕ} → letter_text taken value ≡ text t
-    → letter_cell taken (number_at 1 t 0) ≡ Cell (letter_of value)
+    → letter_cell taken (number_at 1 t 0) ≡ Ok (letter_of value)
 letter_back taken small value {t} e =
     let l = letter_is taken value e in
     let byte : number_at 1 (value ∷ []) 0 ≡ value = omega arith in
@@ -44,7 +42,7 @@ letter_back taken small value {t} e =
 -- ---- the rows
 
 number_back : (kind : Kind) → kind.most < minus - 2 → (width : ℕ) (held : Held) → MayHold kind.signed held → {t : List ℕ} → held_text kind width held ≡ text t
-    → number_cell kind t ≡ Cell (value_of kind.signed held)
+    → number_cell kind t ≡ Ok (value_of kind.signed held)
 number_back kind small width Nothing may {t} e =
     let same : t ≡ blank_text width = cc in
     rw (same, none_reads_back kind width)
@@ -55,19 +53,19 @@ number_back kind small width (Below n) may {t} e =
     let most : n ≤ kind.most = (fills_right kind width true n t (filled_is _ e)).small in
     rw (reads_back kind width true n t (filled_is _ e), ne_eqb n 0 (λ z. omega (arith, may.1)), has_value kind.signed (Below n) (omega arith))
 
-row_back : (row : Row) (key : List ℕ) (value : ℕ) {t : List ℕ} → row_text row key value ≡ text t → read_row row t ≡ Cell (seen_value row value)
+row_back : (row : Row) (key : List ℕ) (value : ℕ) {t : List ℕ} → row_text row key value ≡ text t → read_row row t ≡ Ok (seen_value row value)
 unfolding row_text read_row
 row_back (Key width) key value e = refl
 row_back (MarketType markets) key value e = letter_back (is_market_type markets) (market_small markets) value e
 row_back Status key value e = letter_back is_status status_small value e
-row_back (Price width) key value e = number_back price (lit< tt) width (held_of false value) (holds_so false value) e ∙ ap Cell (value_back_lem value)
-row_back (Quantity width) key value e = number_back quantity (lit< tt) width (held_of false value) (holds_so false value) e ∙ ap Cell (value_back_lem value)
-row_back (Turnover width) key value e = number_back turnover (lit< tt) width (held_of false value) (holds_so false value) e ∙ ap Cell (value_back_lem value)
+row_back (Price width) key value e = number_back price (lit< tt) width (held_of false value) (holds_so false value) e ∙ ap Ok (value_back_lem value)
+row_back (Quantity width) key value e = number_back quantity (lit< tt) width (held_of false value) (holds_so false value) e ∙ ap Ok (value_back_lem value)
+row_back (Turnover width) key value e = number_back turnover (lit< tt) width (held_of false value) (holds_so false value) e ∙ ap Ok (value_back_lem value)
 row_back (Difference width) key value e = number_back difference (lit< tt) width (held_of true value) (holds_so true value) e
 
 -- whatever the layout
-pub rows_back : (i : ℕ) (rows : List Row) (key values : List ℕ) → (write_rows i rows key values).verdict ≡ Good
-    → read_rows i rows (write_rows i rows key values).bytes ≡ record { cells = seen_values rows values; verdict = Good }
+pub rows_back : (i : ℕ) (rows : List Row) (key values : List ℕ) → (write_rows i rows key values).verdict ≡ Ok tt
+    → read_rows i rows (write_rows i rows key values).bytes ≡ record { cells = seen_values rows values; verdict = Ok tt }
 rows_back i [] key values good = refl
 rows_back i (row ∷ rows) key values good =
     let rest : Laid = write_rows (suc i) rows (drop (key_used row) key) (drop 1 values) in
@@ -93,7 +91,7 @@ no_key : (key bytes : List ℕ) → KeyInFront 0 key bytes
 no_key key bytes = record { has_it = omega arith; may_be_written = refl; stands = refl }
 
 -- whatever the form
-pub key_in_front_lem : (i : ℕ) (rows : List Row) (key values : List ℕ) → (write_rows i rows key values).verdict ≡ Good
+pub key_in_front_lem : (i : ℕ) (rows : List Row) (key values : List ℕ) → (write_rows i rows key values).verdict ≡ Ok tt
     → KeyInFront (key_in_front rows) key (write_rows i rows key values).bytes
 unfolding row_text
 key_in_front_lem i [] key values good = no_key key []
@@ -119,6 +117,6 @@ key_in_front_lem i (Turnover width ∷ rows) key values good = no_key key _
 key_in_front_lem i (Difference width ∷ rows) key values good = no_key key _
 
 -- 01 "The message": the data of an update begins with its key
-pub key_of_update : (form : Form) (item : Item) (level : Level) → subject_of form ≡ Of item level → (key values : List ℕ) → (write_rows 0 (rows_of form) key values).verdict ≡ Good
+pub key_of_update : (form : Form) (item : Item) (level : Level) → subject_of form ≡ Of item level → (key values : List ℕ) → (write_rows 0 (rows_of form) key values).verdict ≡ Ok tt
     → KeyInFront (key_bytes_of item) key (write_rows 0 (rows_of form) key values).bytes
 key_of_update form item level e key values good = rw (key_first form item level e).bytes_first at (key_in_front_lem 0 (rows_of form) key values good)

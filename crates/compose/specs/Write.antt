@@ -1,20 +1,16 @@
 -- Writing values into the data of an update: 01 "Numbers in text", and the writer's order of checks: 11 and 12 by row.
-use Rattle.std.specs.Prelude.{ℕ, suc, ◌≡◌, Bool, true, false, cond, ◌&&◌, List, [], ◌∷◌, ◌++◌, leb, length, get_or, take, drop}
+use Rattle.std.specs.Prelude.{ℕ, suc, ◌≡◌, Bool, true, false, cond, ◌&&◌, List, [], ◌∷◌, ◌++◌, leb, length, get_or, take, drop, Ok, Err}
+use Rattle.layout.specs.declared.read.BadRow.TheVariants.{Field as FieldAt, Range as RangeAt}
 use Rattle.laws.specs.Refused.{field_no, range_no}
 use Rattle.wire.specs.Bytes.{all_printable}
-use Rattle.print.specs.Write.{blank_text, Written, filled, refused, written_as}
+use Rattle.print.specs.Write.{blank_text, Written, filled, refused, written_as, Put, put_number}
 use Rattle.decimal.specs.declared.Held.{Held}
 use Rattle.decimal.specs.declared.Held.TheVariants.{Nothing, Units, Below}
 use Rattle.forms.specs.declared.rows.Row.{Row}
 use Rattle.forms.specs.declared.rows.Row.TheVariants.{Key, MarketType, Status, Price, Quantity, Turnover, Difference}
-use Rattle.layout.specs.declared.read.Verdict.{Verdict}
-use Rattle.layout.specs.declared.read.Verdict.TheVariants.{Good, Field as FieldAt, Range as RangeAt}
-use Rattle.compose.specs.declared.write.RowsWritten.{RowsWritten}
-use Rattle.compose.specs.declared.write.RowPut.{RowPut}
 use Rattle.decimal.specs.declared.Kind.{Kind}
 use Rattle.decimal.specs.Kinds.{price, quantity, turnover, difference}
-use Rattle.layout.specs.Answers.{verdict_numbers}
-use Rattle.compose.specs.Answers.{row_put_number}
+use Rattle.layout.specs.Answers.{verdict_numbers, Verdict}
 use Rattle.layout.specs.Cells.{key_used}
 use Rattle.layout.specs.Plain.{held_of}
 use Rattle.layout.specs.Read.{is_market_type, is_status}
@@ -64,12 +60,12 @@ pub record Laid : Type 0 where
 -- its place
 abbrev pub text_then : RowText → ℕ → Laid → Laid
 text_then (text characters) i rest = record { bytes = characters ++ rest.bytes; verdict = rest.verdict }
-text_then malformed i rest = record { bytes = []; verdict = FieldAt i }
-text_then out_of_range i rest = record { bytes = []; verdict = RangeAt i }
+text_then malformed i rest = record { bytes = []; verdict = Err (FieldAt i) }
+text_then out_of_range i rest = record { bytes = []; verdict = Err (RangeAt i) }
 
 -- 01, the order of checks: the rows from row i on, in turn, a value each
 abbrev pub write_rows : ℕ → List Row → List ℕ → List ℕ → Laid
-write_rows i [] key values = record { bytes = []; verdict = Good }
+write_rows i [] key values = record { bytes = []; verdict = Ok tt }
 write_rows i (row ∷ rows) key values =
     text_then (row_text row key (get_or values 0 0)) i (write_rows (suc i) rows (drop (key_used row) key) (drop 1 values))
 
@@ -86,24 +82,23 @@ field_after malformed before = before
 field_after out_of_range before = before
 
 -- 01 "What may be asked": what the writer of one row promises: its answer, and the field afterwards
-pub record PutsRow (t : RowText) (before : List ℕ) (answer : RowPut) (after : List ℕ) : Type 0 where
-  pub answers : row_put_number answer ≡ write_refusal t
+pub record PutsRow (t : RowText) (before : List ℕ) (answer : Put) (after : List ℕ) : Type 0 where
+  pub answers : put_number answer ≡ write_refusal t
   pub leaves : after ≡ field_after t before
 
 -- lent memory: bytes laid over the front of a field, as many as it has room for
 abbrev pub over_front : List ℕ → List ℕ → List ℕ
 over_front bytes field = take (length field) bytes ++ drop (length bytes) field
 
--- a word of our own: the answer of writing rows: the bytes stand in front
-pub record WritesRows (rows : Laid) (answer : RowsWritten) : Type 0 where
-  pub answers : verdict_numbers answer.verdict ≡ verdict_numbers rows.verdict
-  pub in_front : take (length rows.bytes) answer.bytes ≡ rows.bytes
+-- a word of our own: the answer of writing rows, and the lent bytes: those of the good rows stand in front
+pub record WritesRows (rows : Laid) (answer : Verdict) (bytes : List ℕ) : Type 0 where
+  pub answers : verdict_numbers answer ≡ verdict_numbers rows.verdict
+  pub in_front : take (length rows.bytes) bytes ≡ rows.bytes
 
 -- 01 "What may be asked": what a refusal leaves as it was
 abbrev pub where_good : Verdict → List ℕ → List ℕ → List ℕ
-where_good Good written before = written
-where_good (FieldAt i) written before = before
-where_good (RangeAt i) written before = before
+where_good (Ok good) written before = written
+where_good (Err bad) written before = before
 
 -- 01 "What may be asked": the answer of writing an update, and the lent data: good rows are laid over its front, a refusal
 -- changes no byte

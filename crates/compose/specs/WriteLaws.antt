@@ -1,11 +1,10 @@
 -- Laws of writing rows, over any rows: the writing goes on row by row, and a good one is as long as its rows are wide.
-use Rattle.std.specs.Prelude.{ℕ, suc, ◌+◌, ◌-◌, min, ◌≤◌, ◌<◌, ◌≡◌, refl, List, [], ◌∷◌, ◌++◌, length, get_or, take, drop}
+use Rattle.std.specs.Prelude.{ℕ, suc, ◌+◌, ◌-◌, min, ◌≤◌, ◌<◌, ◌≡◌, refl, List, [], ◌∷◌, ◌++◌, length, get_or, take, drop, Ok}
+use Rattle.layout.specs.Answers.{Verdict}
 use Rattle.std.proofs.Common.{ap, sym, ◌∙◌, append_assoc, append-nil, arith, add-zero, add-one, length-drop, length-append, drop_of_length-le, length-take-le, drop-cons, drop-drop, get_or-drop}
 use Rattle.laws.specs.Lists.{drop_min}
 use Rattle.forms.specs.declared.rows.Row.{Row}
 use Rattle.forms.specs.declared.rows.Row.TheVariants.{Key}
-use Rattle.layout.specs.declared.read.Verdict.{Verdict}
-use Rattle.layout.specs.declared.read.Verdict.TheVariants.{Good}
 use Rattle.forms.specs.Rows.{width_of, data_length}
 use Rattle.forms.specs.Sizes.{most_data}
 use Rattle.compose.specs.RowTextLaws.{text_width}
@@ -25,7 +24,7 @@ Writing rows key values bytes at used i =
 -- the bytes in front are those of a writing that ends here
 stands : (rows : List Row) (key values bytes : List ℕ) (at : ℕ) (bytes' : List ℕ) (verdict : Verdict) → at ≤ length bytes
     → write_rows 0 rows key values ≡ ahead (take at bytes) (record { bytes = []; verdict = verdict }) → take at bytes' ≡ take at bytes
-    → WritesRows (write_rows 0 rows key values) (record { verdict = verdict; bytes = bytes' })
+    → WritesRows (write_rows 0 rows key values) verdict bytes'
 stands rows key values bytes at bytes' verdict within e same =
     rw e (record { answers = refl; in_front = rw (append-nil (take at bytes), length-take-le at bytes within) same })
 
@@ -59,15 +58,15 @@ module _ (rows : List Row) (key values bytes : List ℕ) (at used i : ℕ) (more
     -- a bad row ends the writing
     pub stops : (bytes' : List ℕ) (verdict : Verdict) {t : RowText} → row_text (get_or rows i (Key 0)) (drop used key) (get_or values i 0) ≡ t
         → ((rest : Laid) → text_then t i rest ≡ record { bytes = []; verdict = verdict }) → take at bytes' ≡ take at bytes
-        → WritesRows (write_rows 0 rows key values) (record { verdict = verdict; bytes = bytes' })
+        → WritesRows (write_rows 0 rows key values) verdict bytes'
     stops bytes' verdict e none same =
         stands rows key values bytes at bytes' verdict (omega (arith, room)) (this_text e ∙ ap (ahead (take at bytes)) (none _)) same
 
 -- after the last row there is none to be written
 pub all_written : (rows : List Row) (key values bytes : List ℕ) (at used i : ℕ) → length rows ≤ i → Writing rows key values bytes at used i
-    → WritesRows (write_rows 0 rows key values) (record { verdict = Good; bytes = bytes })
+    → WritesRows (write_rows 0 rows key values) (Ok tt) bytes
 all_written rows key values bytes at used i done writing =
-    stands rows key values bytes at bytes Good (omega arith) (writing.3 ∙ rw (drop_of_length-le rows {i = i} done)) refl
+    stands rows key values bytes at bytes (Ok tt) (omega arith) (writing.3 ∙ rw (drop_of_length-le rows {i = i} done)) refl
 
 -- ---- a good writing
 
@@ -75,17 +74,17 @@ all_written rows key values bytes at used i done writing =
 pub record GoodRow (t : RowText) (i : ℕ) (rest : Laid) : Type 0 where
   pub characters : List ℕ
   pub is_text : t ≡ text characters
-  pub rest_good : rest.verdict ≡ Good
+  pub rest_good : rest.verdict ≡ Ok tt
   pub bytes_are : (text_then t i rest).bytes ≡ characters ++ rest.bytes
 
-pub good_row : (t : RowText) (i : ℕ) (rest : Laid) → (text_then t i rest).verdict ≡ Good → GoodRow t i rest
+pub good_row : (t : RowText) (i : ℕ) (rest : Laid) → (text_then t i rest).verdict ≡ Ok tt → GoodRow t i rest
 good_row (text characters) i rest good =
     record { characters = characters; is_text = refl; rest_good = good; bytes_are = refl }
 good_row malformed i rest good = absurd (let z : ◌≡◌ {A = ℕ} 0 1 = cc in omega arith)
 good_row out_of_range i rest good = absurd (let z : ◌≡◌ {A = ℕ} 0 1 = cc in omega arith)
 
 -- its bytes are as many as the rows are wide
-pub good_length : (i : ℕ) (rows : List Row) (key values : List ℕ) → (write_rows i rows key values).verdict ≡ Good
+pub good_length : (i : ℕ) (rows : List Row) (key values : List ℕ) → (write_rows i rows key values).verdict ≡ Ok tt
     → length (write_rows i rows key values).bytes ≡ data_length rows
 good_length i [] key values good = refl
 good_length i (row ∷ rows) key values good =

@@ -1,6 +1,8 @@
 -- The tests of a message's rules, as they compute: HeadLaws' `..-exact` and `cell_said` (GoodLaws) say that each holds exactly where
 -- its rule of `Good` does.
-use Rattle.std.specs.Prelude.{ℕ, Bool, true, false, cond, ◌&&◌, ◌||◌, List, [], ◌∷◌, leb, eqb, length}
+use Rattle.std.specs.Prelude.{ℕ, Bool, true, false, cond, ◌&&◌, ◌||◌, List, [], ◌∷◌, leb, eqb, length, Ok, Err}
+use Rattle.decimal.specs.declared.FieldFault.TheVariants.{Malformed, OutOfRange}
+use Rattle.layout.specs.Answers.{RowRead}
 use Rattle.std.proofs.Math.Option.{Option, none, some}
 use Rattle.forms.specs.declared.forms.Named.{Named}
 use Rattle.forms.specs.declared.forms.Named.TheVariants as is
@@ -11,8 +13,6 @@ use Rattle.forms.specs.declared.forms.Sum.TheVariants.{Zero, Right, RightOrZero}
 use Rattle.forms.specs.Sizes.{bare_length}
 use Rattle.forms.specs.Forms.{subject_of}
 use Rattle.head.specs.Fields.{data_at, letter_of, pre_open_letter, segment_letter_of, second_of, length_of, sum_sent, end_byte, sum_in, right_sum, zero_sum}
-use Rattle.layout.specs.declared.read.RowRead.{RowRead}
-use Rattle.layout.specs.declared.read.RowRead.TheVariants as read
 
 -- 01, the table's row 5: at least 8 bytes left, a length of at least 11 and not over what is left
 unfoldable pub framed : List ℕ → Bool
@@ -91,12 +91,12 @@ is_heartbeat is.PassedOver = false
 
 -- 01, the table's row 11: well formed
 abbrev pub is_formed : RowRead → Bool
-is_formed (read.Cell cell) = true
-is_formed read.Field = false
-is_formed read.Range = true
+is_formed (Ok cell) = true
+is_formed (Err Malformed) = false
+is_formed (Err OutOfRange) = true
 
 -- 01, the table's row 12: in range
 abbrev pub is_in_range : RowRead → Bool
-is_in_range (read.Cell cell) = true
-is_in_range read.Field = true
-is_in_range read.Range = false
+is_in_range (Ok cell) = true
+is_in_range (Err Malformed) = true
+is_in_range (Err OutOfRange) = false

@@ -23,7 +23,6 @@ use Rattle.spread.proofs.SpreadTrip.{spread_read_kept}
 use Rattle.quote.specs.Shows.{field_named}
 use Rattle.quote.proofs.ShowsLaws.{shows_fields}
 use Rattle.spread.proofs.ShowsLaws.{shows_spread_fields}
-use Rattle.layout.specs.declared.read.Verdict.TheVariants as verdict
 use Rattle.pairs.specs.Items.{habit_of, file_of}
 use Rattle.message.specs.declared.body.What.{What}
 use Rattle.message.specs.declared.body.What.TheVariants as what
@@ -59,13 +58,13 @@ pub record Updates (lists : Lists) (bytes : List ℕ) (m : Message) (slot : Slot
   pub says : UpdateSays lists bytes m slot
 
 -- what is read of a form's rows are the cells of the quote that they hold
-quote_kept : (item : Item) (level : Level) (form : Form) → subject_of form ≡ Of item level → (bytes : List ℕ) → (read_rows 0 (rows_of form) bytes).verdict ≡ verdict.Good
+quote_kept : (item : Item) (level : Level) (form : Form) → subject_of form ≡ Of item level → (bytes : List ℕ) → (read_rows 0 (rows_of form) bytes).verdict ≡ Ok tt
     → cells_for item form (shown item form (zeros_behind (read_rows 0 (rows_of form) bytes).cells)) ≡ zeros_behind (read_rows 0 (rows_of form) bytes).cells
 quote_kept Contract level form s bytes good = read_kept form bytes good (ap of_pair s)
 quote_kept Pair level form s bytes good = spread_read_kept form bytes good (ap of_pair s)
 
 -- and that quote shows every field
-quote_shows : (item : Item) (level : Level) (form : Form) → subject_of form ≡ Of item level → (bytes : List ℕ) → (read_rows 0 (rows_of form) bytes).verdict ≡ verdict.Good
+quote_shows : (item : Item) (level : Level) (form : Form) → subject_of form ≡ Of item level → (bytes : List ℕ) → (read_rows 0 (rows_of form) bytes).verdict ≡ Ok tt
     → ShowsEach item (field_named (named_rows form) bytes) (shown item form (zeros_behind (read_rows 0 (rows_of form) bytes).cells))
 quote_shows Contract level form s bytes good = shows_fields form (ap of_pair s) bytes good
 quote_shows Pair level form s bytes good = shows_spread_fields form (ap of_pair s) bytes good

@@ -1,5 +1,5 @@
 -- Values that a host has written, taken and read are the same from the first row behind the key on, behind the number that was written.
-use Rattle.std.specs.Prelude.{ℕ, ◌≤◌, ◌<◌, ◌^◌, ◌≡◌, refl, Bool, true, false, cond, List, [], ◌∷◌, ◌++◌, eqb, length, get_or, take, drop}
+use Rattle.std.specs.Prelude.{ℕ, ◌≤◌, ◌<◌, ◌^◌, ◌≡◌, refl, Bool, true, false, cond, List, [], ◌∷◌, ◌++◌, eqb, length, get_or, take, drop, Ok}
 use Rattle.std.proofs.Common.{sym, ap, ap₂, ◌∙◌, append_assoc, ⊎_elim, arith, eqb-true, le-ltb, get_or-drop}
 use Rattle.std.proofs.Math.Option.{some}
 use Rattle.laws.specs.Choice.{clash, either}
@@ -13,7 +13,6 @@ use Rattle.forms.specs.declared.forms.Named.TheVariants as is
 use Rattle.forms.specs.declared.rows.Level.{Level}
 use Rattle.forms.specs.declared.rows.Level.TheVariants.{One, Two}
 use Rattle.forms.specs.Forms.{named_rows, rows_of, subject_of, session_of, key_bytes_of}
-use Rattle.layout.specs.declared.read.Verdict.TheVariants as verdict
 use Rattle.layout.specs.Cells.{session_cell}
 use Rattle.compose.specs.Write.{write_rows}
 use Rattle.sequence.specs.Gaps.{Gaps, takes}
@@ -88,7 +87,7 @@ older_number item lent level letter key number some_number o = go o.read.recorde
 
 -- ---- what is written
 
-seen_values_lem : (item : Item) (form : Form) (level : Level) → subject_of form ≡ Of item level → (key values : List ℕ) → (write_rows 0 (rows_of form) key (laid_from item level values form)).verdict ≡ verdict.Good
+seen_values_lem : (item : Item) (form : Form) (level : Level) → subject_of form ≡ Of item level → (key values : List ℕ) → (write_rows 0 (rows_of form) key (laid_from item level values form)).verdict ≡ Ok tt
     → values_for item level (seen_for item form (quote_held item level values)) ≡ rows_in item form level values
 seen_values_lem Contract form level tells key values fine = values_seen key values form level tells fine
 seen_values_lem Pair form level tells key values fine = spread_values_seen values form level tells

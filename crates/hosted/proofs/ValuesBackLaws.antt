@@ -1,5 +1,5 @@
 -- The values of what was written are those that were handed, from the first row behind the key on; minus zero is zero.
-use Rattle.std.specs.Prelude.{ℕ, ◌+◌, ◌-◌, ◌≤◌, ◌<◌, ◌^◌, ◌≡◌, Bool, true, false, List, eqb, leb, ltb, length, drop, Option, Some, None}
+use Rattle.std.specs.Prelude.{ℕ, ◌+◌, ◌-◌, ◌≤◌, ◌<◌, ◌^◌, ◌≡◌, Bool, true, false, List, eqb, leb, ltb, length, drop, Option, Some, None, Ok}
 use Rattle.std.proofs.Math.Path.{refl}
 use Rattle.std.proofs.Common.{subst, ⊎_elim, arith, lt-ltb, le-ltb, ne_eqb, get_or-drop}
 use Rattle.std.proofs.Math.ListN.{get_or}
@@ -14,7 +14,6 @@ use Rattle.forms.specs.declared.forms.Subject.{Subject}
 use Rattle.forms.specs.declared.forms.Subject.TheVariants.{Nothing, Of}
 use Rattle.forms.specs.declared.rows.Markets.TheVariants.{Normal, Any}
 use Rattle.forms.specs.Forms.{named_rows, rows_of, subject_of}
-use Rattle.layout.specs.declared.read.Verdict.TheVariants as verdict
 use Rattle.layout.specs.Cells.{sided}
 use Rattle.layout.specs.Read.{is_market_type, is_status}
 use Rattle.compose.specs.Write.{letter_text, row_text, write_rows, write_refusal}
@@ -64,7 +63,7 @@ letter_back taken none_taken v good = go (leb v 255) refl
 
 -- values whose rows can be written in a form
 abbrev pub Writable : Form → Level → List ℕ → List ℕ → Type 0
-Writable form level key values = (write_rows 0 (rows_of form) key (values_of form (quote_in level values))).verdict ≡ verdict.Good
+Writable form level key values = (write_rows 0 (rows_of form) key (values_of form (quote_in level values))).verdict ≡ Ok tt
 
 module _ (key values : List ℕ) where
   abbrev vs : List ℕ

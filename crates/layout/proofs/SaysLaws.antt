@@ -1,5 +1,6 @@
 -- A row's field is read as each answer exactly where what that answer says of the field is so: demand 2 for one row.
 use Rattle.std.specs.Prelude.{ℕ, ◌≡◌, refl, Bool, true, false, cond, List, ◌↔◌, Ok, Err}
+use Rattle.layout.specs.Answers.{RowRead}
 use Rattle.std.proofs.Common.{sym, ap, subst, ◌∙◌, ⊎_elim}
 use Rattle.std.proofs.lemmas.Bool.{false≢true}
 use Rattle.laws.specs.Choice.{clash, either}
@@ -16,8 +17,6 @@ use Rattle.forms.specs.declared.rows.Row.{Row}
 use Rattle.forms.specs.declared.rows.Row.TheVariants.{Key, MarketType, Status, Price, Quantity, Turnover, Difference}
 use Rattle.decimal.specs.declared.Held.{Held}
 use Rattle.decimal.specs.declared.Held.TheVariants.{Nothing, Units, Below}
-use Rattle.layout.specs.declared.read.RowRead.{RowRead}
-use Rattle.layout.specs.declared.read.RowRead.TheVariants.{Cell, Field, Range}
 use Rattle.layout.specs.Cells.{cell_of}
 use Rattle.layout.specs.Read.{of_number, is_market_type, is_status, letter_cell, number_cell, read_row}
 use Rattle.layout.specs.Says.{letter_in, LetterSays, IsMarketType, IsStatus, HeldSays, NumberSays, RowSays}
@@ -25,14 +24,14 @@ use Rattle.layout.specs.Says.{letter_in, LetterSays, IsMarketType, IsStatus, Hel
 -- ---- a letter
 
 module _ (taken : ℕ → Bool) (Takes : ℕ → Type 0) (is : (letter : ℕ) → taken letter ≡ true ↔ Takes letter) (letter : ℕ) where
-  letter_says : (t : Bool) → taken letter ≡ t → LetterSays Takes letter (cond t (Cell letter) Field)
+  letter_says : (t : Bool) → taken letter ≡ t → LetterSays Takes letter (cond t (Ok letter) (Err Malformed))
   letter_says true e = ((is letter).0 e, refl)
   letter_says false e = λ h. false≢true (sym e ∙ (is letter).1 h)
 
   letter_said : (answer : RowRead) → LetterSays Takes letter answer → letter_cell taken letter ≡ answer
-  letter_said (Cell cell) h = rw ((is letter).1 h.0) (ap Cell (sym h.1))
-  letter_said Field h = ⊎_elim (λ e. absurd (h ((is letter).0 e))) (λ e. rw e) (either (taken letter))
-  letter_said Range h = absurd h
+  letter_said (Ok cell) h = rw ((is letter).1 h.0) (ap Ok (sym h.1))
+  letter_said (Err Malformed) h = ⊎_elim (λ e. absurd (h ((is letter).0 e))) (λ e. rw e) (either (taken letter))
+  letter_said (Err OutOfRange) h = absurd h
 
   letter_exactly : (answer : RowRead) → letter_cell taken letter ≡ answer ↔ LetterSays Takes letter answer
   letter_exactly answer = (λ e. subst (LetterSays Takes letter) e (letter_says (taken letter) refl), letter_said answer)
@@ -47,15 +46,15 @@ module _ (kind : Kind) (field : List ℕ) where
   number_says (Err Malformed) h = h
   number_says (Err OutOfRange) h = h
 
-  held_said : (held : Held) → HeldSays kind field held → number_cell kind field ≡ Cell (cell_of held)
+  held_said : (held : Held) → HeldSays kind field held → number_cell kind field ≡ Ok (cell_of held)
   held_said Nothing h = ap of_number ((reads_exactly kind field (Ok Nothing)).1 h)
   held_said (Units n) h = ap of_number ((reads_exactly kind field (Ok (Units n))).1 h)
   held_said (Below n) h = ap of_number ((reads_exactly kind field (Ok (Below n))).1 h)
 
   number_said : (answer : RowRead) → NumberSays kind field answer → number_cell kind field ≡ answer
-  number_said (Cell cell) h = held_said h.0 h.1 ∙ ap Cell (sym h.2)
-  number_said Field h = ap of_number ((reads_exactly kind field (Err Malformed)).1 h)
-  number_said Range h = ap of_number ((reads_exactly kind field (Err OutOfRange)).1 h)
+  number_said (Ok cell) h = held_said h.0 h.1 ∙ ap Ok (sym h.2)
+  number_said (Err Malformed) h = ap of_number ((reads_exactly kind field (Err Malformed)).1 h)
+  number_said (Err OutOfRange) h = ap of_number ((reads_exactly kind field (Err OutOfRange)).1 h)
 
   number_exactly : (answer : RowRead) → number_cell kind field ≡ answer ↔ NumberSays kind field answer
   number_exactly answer =
@@ -67,10 +66,10 @@ market_is : (markets : Markets) (b : ℕ) → is_market_type markets b ≡ true 
 market_is Normal b = eqb_is b 78
 market_is Any b = or_is (eqb_is b 78) (or_is (eqb_is b 79) (or_is (eqb_is b 83) (eqb_is b 65)))
 
-key_exactly : (width : ℕ) (field : List ℕ) (answer : RowRead) → Cell 0 ≡ answer ↔ RowSays (Key width) field answer
-key_exactly width field (Cell cell) = ((λ e. cc), (λ h. ap Cell (sym h)))
-key_exactly width field Field = ((λ e. clash (cc)), (λ h. absurd h))
-key_exactly width field Range = ((λ e. clash (cc)), (λ h. absurd h))
+key_exactly : (width : ℕ) (field : List ℕ) (answer : RowRead) → Ok 0 ≡ answer ↔ RowSays (Key width) field answer
+key_exactly width field (Ok cell) = ((λ e. cc), (λ h. ap Ok (sym h)))
+key_exactly width field (Err Malformed) = ((λ e. clash (cc)), (λ h. absurd h))
+key_exactly width field (Err OutOfRange) = ((λ e. clash (cc)), (λ h. absurd h))
 
 pub row_exactly : (row : Row) (field : List ℕ) (answer : RowRead) → read_row row field ≡ answer ↔ RowSays row field answer
 unfolding read_row

@@ -1,14 +1,13 @@
 -- The verdict on rows in turn is that of the first bad row, and there is one such verdict; so that of reading them.
-use Rattle.std.specs.Prelude.{ℕ, zero, suc, ◌+◌, ◌≤◌, ◌<◌, ◌≡◌, refl, List, ◌↔◌, length, drop}
+use Rattle.std.specs.Prelude.{ℕ, zero, suc, ◌+◌, ◌≤◌, ◌<◌, ◌≡◌, refl, List, ◌↔◌, length, drop, Ok, Err}
+use Rattle.layout.specs.declared.read.BadRow.TheVariants.{Field as FieldAt, Range as RangeAt}
+use Rattle.decimal.specs.declared.FieldFault.TheVariants.{Malformed, OutOfRange}
+use Rattle.layout.specs.Answers.{RowRead, Verdict}
 use Rattle.std.proofs.Common.{ap, ⊎_elim, arith, add-one, below_more, drop-cons, drop-drop}
 use Rattle.std.proofs.Math.Seq.{drop-length}
 use Rattle.laws.specs.Order.{order}
 use Rattle.forms.specs.declared.rows.Row.{Row}
 use Rattle.forms.specs.declared.rows.Row.TheVariants.{Key}
-use Rattle.layout.specs.declared.read.RowRead.{RowRead}
-use Rattle.layout.specs.declared.read.RowRead.TheVariants.{Cell, Field, Range}
-use Rattle.layout.specs.declared.read.Verdict.{Verdict}
-use Rattle.layout.specs.declared.read.Verdict.TheVariants.{Good, Field as FieldAt, Range as RangeAt}
 use Rattle.forms.specs.Rows.{width_of, offset_of}
 use Rattle.forms.specs.RowsLaws.{total_suc}
 use Rattle.layout.specs.Read.{row_then, read_rows}
@@ -29,15 +28,15 @@ module _ (refusal : ℕ → ℕ) (count : ℕ) where
       (order i j)
 
   pub one_verdict : (v w : Verdict) → FirstBad refusal count v → FirstBad refusal count w → v ≡ w
-  one_verdict Good Good p q = refl
-  one_verdict Good (FieldAt j) p q = absurd (omega (arith, p j q.within, q.refused))
-  one_verdict Good (RangeAt j) p q = absurd (omega (arith, p j q.within, q.refused))
-  one_verdict (FieldAt i) Good p q = absurd (omega (arith, q i p.within, p.refused))
-  one_verdict (FieldAt i) (FieldAt j) p q = ap FieldAt (one_place (omega arith) (omega arith) p q)
-  one_verdict (FieldAt i) (RangeAt j) p q = absurd (omega (arith, ap refusal (one_place (omega arith) (omega arith) p q), p.refused, q.refused))
-  one_verdict (RangeAt i) Good p q = absurd (omega (arith, q i p.within, p.refused))
-  one_verdict (RangeAt i) (FieldAt j) p q = absurd (omega (arith, ap refusal (one_place (omega arith) (omega arith) p q), p.refused, q.refused))
-  one_verdict (RangeAt i) (RangeAt j) p q = ap RangeAt (one_place (omega arith) (omega arith) p q)
+  one_verdict (Ok good) (Ok other) p q = refl
+  one_verdict (Ok good) (Err (FieldAt j)) p q = absurd (omega (arith, p j q.within, q.refused))
+  one_verdict (Ok good) (Err (RangeAt j)) p q = absurd (omega (arith, p j q.within, q.refused))
+  one_verdict (Err (FieldAt i)) (Ok good) p q = absurd (omega (arith, q i p.within, p.refused))
+  one_verdict (Err (FieldAt i)) (Err (FieldAt j)) p q = ap (λ (k : ℕ). Err (FieldAt k)) (one_place (omega arith) (omega arith) p q)
+  one_verdict (Err (FieldAt i)) (Err (RangeAt j)) p q = absurd (omega (arith, ap refusal (one_place (omega arith) (omega arith) p q), p.refused, q.refused))
+  one_verdict (Err (RangeAt i)) (Ok good) p q = absurd (omega (arith, q i p.within, p.refused))
+  one_verdict (Err (RangeAt i)) (Err (FieldAt j)) p q = absurd (omega (arith, ap refusal (one_place (omega arith) (omega arith) p q), p.refused, q.refused))
+  one_verdict (Err (RangeAt i)) (Err (RangeAt j)) p q = ap (λ (k : ℕ). Err (RangeAt k)) (one_place (omega arith) (omega arith) p q)
 
   pub exactly : (v : Verdict) → FirstBad refusal count v → (w : Verdict) → (v ≡ w) ↔ FirstBad refusal count w
   exactly v p w = (λ e. rw e at p, λ q. one_verdict v w p q)
@@ -47,10 +46,10 @@ module _ (refusal : ℕ → ℕ) (count : ℕ) where
 -- what row i does to the verdict on it and the rows behind it
 pub data Turn (refusal : ℕ → ℕ) (verdict : ℕ → Verdict) (i : ℕ) : Type 0 where
   passes : refusal i ≡ 0 → verdict i ≡ verdict (suc i) → Turn refusal verdict i
-  malforms : refusal i ≡ field → verdict i ≡ FieldAt i → Turn refusal verdict i
-  overflows : refusal i ≡ range → verdict i ≡ RangeAt i → Turn refusal verdict i
+  malforms : refusal i ≡ field → verdict i ≡ Err (FieldAt i) → Turn refusal verdict i
+  overflows : refusal i ≡ range → verdict i ≡ Err (RangeAt i) → Turn refusal verdict i
 
-module _ (refusal : ℕ → ℕ) (count : ℕ) (verdict : ℕ → Verdict) (ends : verdict count ≡ Good)
+module _ (refusal : ℕ → ℕ) (count : ℕ) (verdict : ℕ → Verdict) (ends : verdict count ≡ Ok tt)
     (turns : (i : ℕ) → i < count → Turn refusal verdict i)
   where
     from_row : (left i : ℕ) → i + left ≡ count → ((k : ℕ) → k < i → refusal k ≡ 0) → FirstBad refusal count (verdict i)
@@ -82,9 +81,9 @@ module _ (rows : List Row) (bytes : List ℕ) where
       begins e = rw (from_read, drop-cons rows i (Key 0) h, e, drop-drop (width_of (row_at rows i)) (offset_of rows i) bytes, total_suc width_of rows i h)
 
       go : (answer : RowRead) → row_read rows bytes i ≡ answer → Turn (refusal_read rows bytes) from_read i
-      go (Cell cell) e = passes (ap read_refusal e) (begins e)
-      go Field e = malforms (ap read_refusal e) (begins e)
-      go Range e = overflows (ap read_refusal e) (begins e)
+      go (Ok cell) e = passes (ap read_refusal e) (begins e)
+      go (Err Malformed) e = malforms (ap read_refusal e) (begins e)
+      go (Err OutOfRange) e = overflows (ap read_refusal e) (begins e)
 
   -- the verdict of reading is that of the first bad row
   pub read_first : FirstBad (refusal_read rows bytes) (length rows) (read_rows 0 rows bytes).verdict

@@ -1,5 +1,6 @@
 -- Laws of reading rows, over any rows: the reading goes on row by row.
 use Rattle.std.specs.Prelude.{ℕ, suc, ◌+◌, ◌-◌, min, ◌≤◌, ◌<◌, ◌≡◌, refl, List, [], ◌∷◌, ◌++◌, length, get_or, take, drop, set, Ok, Err}
+use Rattle.decimal.specs.declared.FieldFault.TheVariants.{Malformed, OutOfRange}
 use Rattle.std.proofs.Common.{ap, sym, ◌∙◌, append_assoc, append-nil, arith, add-one, length-append, length-drop, drop_of_length-le, drop-cons, drop-drop, take_at}
 use Rattle.laws.specs.Lists.{take_min, drop_min, sets_append}
 use Rattle.std.proofs.lemmas.List.Edits.{sets, sets-eq}
@@ -10,12 +11,8 @@ use Rattle.scan.specs.Read.{read_as}
 use Rattle.scan.specs.ReadLaws.{reads_exactly}
 use Rattle.forms.specs.declared.rows.Row.{Row}
 use Rattle.forms.specs.declared.rows.Row.TheVariants.{Key}
-use Rattle.layout.specs.declared.read.RowRead.{RowRead}
-use Rattle.layout.specs.declared.read.RowRead.TheVariants.{Cell, Field, Range}
-use Rattle.layout.specs.declared.read.Verdict.{Verdict}
-use Rattle.layout.specs.declared.read.Verdict.TheVariants.{Good}
 use Rattle.forms.specs.Rows.{width_of}
-use Rattle.layout.specs.Answers.{row_numbers, verdict_numbers}
+use Rattle.layout.specs.Answers.{row_numbers, verdict_numbers, RowRead, Verdict}
 use Rattle.layout.specs.Cells.{minus, zeros_behind}
 use Rattle.layout.specs.Read.{SmallRead, of_number, number_cell, Outcome, read_rows, row_then, read_row, ReadsRows}
 
@@ -70,7 +67,7 @@ module _ (rows : List Row) (bytes lent cells : List ℕ) (at i width : ℕ) (mor
         going.rest ∙ rw (drop-cons rows i (Key 0) more, ← field_is, e, next_is)
 
     -- a good row: its cell is stored, and the reading goes on
-    pub goes_on : {cell : ℕ} → read_row (get_or rows i (Key 0)) (take width (drop at bytes)) ≡ Cell cell
+    pub goes_on : {cell : ℕ} → read_row (get_or rows i (Key 0)) (take width (drop at bytes)) ≡ Ok cell
         → Going rows bytes lent (set cells i cell) (at + width) (i + 1)
     goes_on {cell} e =
         let place : 0 + length going.front ≡ i = omega (arith, going.many) in
@@ -92,28 +89,28 @@ stands rows bytes lent cells at i verdict going e =
     }
 
 -- after the last row there is none to be read
-pub all_read : (rows : List Row) (bytes lent cells : List ℕ) (at i : ℕ) → length rows ≤ i → Going rows bytes lent cells at i → ReadsRows rows bytes lent Good cells
+pub all_read : (rows : List Row) (bytes lent cells : List ℕ) (at i : ℕ) → length rows ≤ i → Going rows bytes lent cells at i → ReadsRows rows bytes lent (Ok tt) cells
 all_read rows bytes lent cells at i done going =
-    stands rows bytes lent cells at i Good going (going.rest ∙ rw (drop_of_length-le rows {i = i} done))
+    stands rows bytes lent cells at i (Ok tt) going (going.rest ∙ rw (drop_of_length-le rows {i = i} done))
 
 -- ---- where every row is good
 
 -- there is a cell for each
-cell_each : (i : ℕ) (rows : List Row) (bytes : List ℕ) → (read_rows i rows bytes).verdict ≡ Good → length (read_rows i rows bytes).cells ≡ length rows
+cell_each : (i : ℕ) (rows : List Row) (bytes : List ℕ) → (read_rows i rows bytes).verdict ≡ Ok tt → length (read_rows i rows bytes).cells ≡ length rows
 cell_each i [] bytes good = refl
 cell_each i (row ∷ rows) bytes good = go (read_row row (take (width_of row) bytes)) good (cell_each (suc i) rows (drop (width_of row) bytes))
   where
     rest : Outcome
     rest = read_rows (suc i) rows (drop (width_of row) bytes)
 
-    go : (answer : RowRead) → (row_then answer i rest).verdict ≡ Good → (rest.verdict ≡ Good → length rest.cells ≡ length rows)
+    go : (answer : RowRead) → (row_then answer i rest).verdict ≡ Ok tt → (rest.verdict ≡ Ok tt → length rest.cells ≡ length rows)
         → length (row_then answer i rest).cells ≡ suc (length rows)
-    go (Cell cell) good later = ap suc (later good)
-    go Field good later = cc
-    go Range good later = cc
+    go (Ok cell) good later = ap suc (later good)
+    go (Err Malformed) good later = cc
+    go (Err OutOfRange) good later = cc
 
 -- the lent cells of the rows are those read, whatever stood there
-pub front_stored : (rows : List Row) (bytes lent : List ℕ) → length rows ≤ length lent → (read_rows 0 rows bytes).verdict ≡ Good
+pub front_stored : (rows : List Row) (bytes lent : List ℕ) → length rows ≤ length lent → (read_rows 0 rows bytes).verdict ≡ Ok tt
     → take (length rows) (sets lent 0 (read_rows 0 rows bytes).cells) ≡ take (length rows) (zeros_behind (read_rows 0 rows bytes).cells)
 front_stored rows bytes lent room good =
     let read : List ℕ = (read_rows 0 rows bytes).cells in

@@ -1,5 +1,7 @@
 -- The field of a row, and what it says, in the paper's words: 01 "The message", "Numbers in text", and the table's rows 11 and 12.
-use Rattle.std.specs.Prelude.{ℕ, ◌≤◌, ◌≡◌, true, false, List, ◌⊎◌, get_or, take, drop}
+use Rattle.std.specs.Prelude.{ℕ, ◌≤◌, ◌≡◌, true, false, List, ◌⊎◌, get_or, take, drop, Ok, Err}
+use Rattle.decimal.specs.declared.FieldFault.TheVariants.{Malformed, OutOfRange}
+use Rattle.layout.specs.Answers.{RowRead}
 use Rattle.wire.specs.Number.{number_at}
 use Rattle.decimal.specs.declared.Kind.{Kind}
 use Rattle.decimal.specs.Denotes.{Shape, Denotes, AllSpaces}
@@ -11,8 +13,6 @@ use Rattle.forms.specs.declared.rows.Row.{Row}
 use Rattle.forms.specs.declared.rows.Row.TheVariants.{Key, MarketType, Status, Price, Quantity, Turnover, Difference}
 use Rattle.decimal.specs.declared.Held.{Held}
 use Rattle.decimal.specs.declared.Held.TheVariants.{Nothing, Units, Below}
-use Rattle.layout.specs.declared.read.RowRead.{RowRead}
-use Rattle.layout.specs.declared.read.RowRead.TheVariants.{Cell, Field, Range}
 use Rattle.layout.specs.Cells.{cell_of}
 use Rattle.forms.specs.Rows.{width_of, offset_of}
 
@@ -22,9 +22,9 @@ letter_in field = number_at 1 field 0
 
 -- 01 "The message": a letter that the row takes is its cell; every other is 11, and none is too large or too fine
 abbrev pub LetterSays : (ℕ → Type 0) → ℕ → RowRead → Type 0
-LetterSays Takes letter (Cell cell) = Takes letter × (cell ≡ letter)
-LetterSays Takes letter Field = Takes letter → ⊥
-LetterSays Takes letter Range = ⊥
+LetterSays Takes letter (Ok cell) = Takes letter × (cell ≡ letter)
+LetterSays Takes letter (Err Malformed) = Takes letter → ⊥
+LetterSays Takes letter (Err OutOfRange) = ⊥
 
 -- 01 "The message": market type 'N'; M-104: 'N', 'O', 'S' or 'A'
 abbrev pub IsMarketType : Markets → ℕ → Type 0
@@ -45,15 +45,15 @@ HeldSays kind field (Below n) = Denotes kind field true n × (n ≤ kind.most)
 -- 01 "Numbers in text" and the table's rows 11 and 12: the cell of the number that the field says; 11 where it has not the shape;
 -- 12 where it is too fine or too large
 abbrev pub NumberSays : Kind → List ℕ → RowRead → Type 0
-NumberSays kind field (Cell cell) = (held : Held) × HeldSays kind field held × (cell ≡ cell_of held)
-NumberSays kind field Field = (AllSpaces field → ⊥) × (Shape kind field → ⊥)
-NumberSays kind field Range = (s : Shape kind field) × Beyond kind s
+NumberSays kind field (Ok cell) = (held : Held) × HeldSays kind field held × (cell ≡ cell_of held)
+NumberSays kind field (Err Malformed) = (AllSpaces field → ⊥) × (Shape kind field → ⊥)
+NumberSays kind field (Err OutOfRange) = (s : Shape kind field) × Beyond kind s
 
 -- 01 "The message": what one row's field says; a key's text is only looked up, and its cell is 0
 abbrev pub RowSays : Row → List ℕ → RowRead → Type 0
-RowSays (Key width) field (Cell cell) = cell ≡ 0
-RowSays (Key width) field Field = ⊥
-RowSays (Key width) field Range = ⊥
+RowSays (Key width) field (Ok cell) = cell ≡ 0
+RowSays (Key width) field (Err Malformed) = ⊥
+RowSays (Key width) field (Err OutOfRange) = ⊥
 RowSays (MarketType markets) field answer = LetterSays (IsMarketType markets) (letter_in field) answer
 RowSays Status field answer = LetterSays IsStatus (letter_in field) answer
 RowSays (Price width) field answer = NumberSays price field answer

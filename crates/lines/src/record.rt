@@ -1,11 +1,10 @@
 // A record of a contract or a pair: its number, a contract's session, and each row behind the key.
 ghost use Rattle.std.specs.Prelude.{◌+◌, ◌≤◌, IfOk, length, OnErr, ◌≡◌};
-ghost use Rattle.forms.specs.Sizes.{most_rows};
 ghost use Rattle.values.specs.Values.{most};
 
 use crate::put_refused;
 use console::put;
-use forms::{Item, Level, MOST_ROWS, Row, Session};
+use forms::{Item, Level, Row, Session};
 use state::Recorded;
 use std::io::Result;
 
@@ -48,13 +47,13 @@ fn put_values(
     rt: &impl Print,
     page: &mut [u8],
     used: usize,
-    rows: [Row; MOST_ROWS],
+    rows: &[Row],
     first: usize,
     values: &[u64; values::MOST],
     at: usize,
     count: usize,
 ) -> Result<usize>
-    requires { (used ≤ length page.old) × (first + count ≤ most_rows) × (at + count ≤ most) }
+    requires { (used ≤ length page.old) × (first + count ≤ length rows.now) × (at + count ≤ most) }
     ensures { IfOk result (λ answer. answer ≤ length page.old) }
 {
     let mut more = used;

@@ -4,7 +4,6 @@ use Rattle.std.proofs.Math.Path.{ap}
 use Rattle.std.proofs.Common.{sym, ◌∙◌, arith}
 use Rattle.std.proofs.lemmas.List.Edits.{sets}
 use Rattle.std.proofs.Math.Seq.{length-sets}
-use Rattle.layout.specs.declared.read.Verdict.TheVariants as verdict
 use Rattle.forms.specs.declared.forms.Form.{Form}
 use Rattle.forms.specs.declared.forms.Named.TheVariants as is
 use Rattle.lookup.specs.Lookup.{segment_of}
@@ -45,7 +44,7 @@ module _ (lists : Lists) (letter : ℕ) (bytes : List ℕ) (good : verdict_of (m
   pub all_there : (message_of lists letter bytes).length ≤ length bytes
   all_there = rw (length_is lists letter bytes) rules.frame.within
 
-  rows_good : (rows_read bytes).verdict ≡ verdict.Good
+  rows_good : (rows_read bytes).verdict ≡ Ok tt
   unfolding contents_by
   rows_good = rows_pass (rows_read bytes).verdict _ (sym (ap (λ m. verdict_of m.what) contents_good) ∙ good)
 

@@ -1,14 +1,13 @@
 -- A message has no fault exactly when it is good.
 use Rattle.std.specs.Prelude.{ℕ, zero, suc, ◌≡◌, refl, true, ◌↔◌, List, [], ◌∷◌, take, drop, Ok, Err, Result}
+use Rattle.layout.specs.declared.read.BadRow.TheVariants as bad_row
+use Rattle.decimal.specs.declared.FieldFault.TheVariants.{Malformed, OutOfRange}
+use Rattle.layout.specs.Answers.{RowRead, Verdict}
 use Rattle.std.proofs.Common.{ap, sym, subst, ◌∙◌, arith, drop-drop}
 use Rattle.std.proofs.lemmas.Bool.{false≢true}
 use Rattle.std.proofs.Math.Option.{Option, none, some}
 use Rattle.laws.specs.Rules.{Hold}
 use Rattle.laws.specs.RulesLaws.{hold_append}
-use Rattle.layout.specs.declared.read.Verdict.{Verdict}
-use Rattle.layout.specs.declared.read.Verdict.TheVariants as verdict
-use Rattle.layout.specs.declared.read.RowRead.{RowRead}
-use Rattle.layout.specs.declared.read.RowRead.TheVariants.{Cell, Field, Range}
 use Rattle.forms.specs.declared.rows.Row.{Row}
 use Rattle.layout.specs.Says.{row_at, field_at, RowSays}
 use Rattle.layout.specs.Read.{read_row}
@@ -39,10 +38,10 @@ use Rattle.message.proofs.OrderLaws.{message_first}
 use Rattle.head.specs.RulesLaws.{good_hold, hold_good}
 
 -- a row that is well formed and in range has a cell
-cell_exact : (answer : RowRead) → (is_formed answer ≡ true) × (is_in_range answer ≡ true) ↔ (cell : ℕ) × (answer ≡ Cell cell)
-cell_exact (Cell cell) = ((λ h. (cell, refl)), (λ h. (refl, refl)))
-cell_exact Field = ((λ h. absurd (false≢true h.0)), (λ h. (cc, refl)))
-cell_exact Range = ((λ h. absurd (false≢true h.1)), (λ h. (refl, cc)))
+cell_exact : (answer : RowRead) → (is_formed answer ≡ true) × (is_in_range answer ≡ true) ↔ (cell : ℕ) × (answer ≡ Ok cell)
+cell_exact (Ok cell) = ((λ h. (cell, refl)), (λ h. (refl, refl)))
+cell_exact (Err Malformed) = ((λ h. absurd (false≢true h.0)), (λ h. (cc, refl)))
+cell_exact (Err OutOfRange) = ((λ h. absurd (false≢true h.1)), (λ h. (refl, cc)))
 
 -- the rows behind the first are the rows of the bytes behind it
 module _ (row : Row) (rows : List Row) (bytes : List ℕ) where
@@ -50,27 +49,27 @@ module _ (row : Row) (rows : List Row) (bytes : List ℕ) where
   field_behind i = ap (take (width_of (row_at rows i))) (sym (drop-drop (offset_of rows i) (width_of row) bytes))
 
   abbrev Split : Type 0
-  Split = ((cell : ℕ) × RowSays row (take (width_of row) bytes) (Cell cell)) × GoodRows rows (drop (width_of row) bytes)
+  Split = ((cell : ℕ) × RowSays row (take (width_of row) bytes) (Ok cell)) × GoodRows rows (drop (width_of row) bytes)
 
   rows_split : GoodRows (row ∷ rows) bytes ↔ Split
   rows_split = (apart, joined)
     where
       apart : GoodRows (row ∷ rows) bytes → Split
       apart h =
-          (h 0 (omega arith), (λ i l. let p = h (suc i) (omega arith) in (p.0, subst (λ (f : List ℕ). RowSays (row_at rows i) f (Cell p.0)) (field_behind i) p.1)))
+          (h 0 (omega arith), (λ i l. let p = h (suc i) (omega arith) in (p.0, subst (λ (f : List ℕ). RowSays (row_at rows i) f (Ok p.0)) (field_behind i) p.1)))
 
       joined : Split → GoodRows (row ∷ rows) bytes
       joined h zero l = h.0
       joined h (suc i) l =
           let p = h.1 i (omega arith) in
-          (p.0, subst (λ (f : List ℕ). RowSays (row_at rows i) f (Cell p.0)) (sym (field_behind i)) p.1)
+          (p.0, subst (λ (f : List ℕ). RowSays (row_at rows i) f (Ok p.0)) (sym (field_behind i)) p.1)
 
 -- a row's field reads as a cell exactly when it says one
-cell_said : (row : Row) (field : List ℕ) → (is_formed (read_row row field) ≡ true) × (is_in_range (read_row row field) ≡ true) ↔ (cell : ℕ) × RowSays row field (Cell cell)
+cell_said : (row : Row) (field : List ℕ) → (is_formed (read_row row field) ≡ true) × (is_in_range (read_row row field) ≡ true) ↔ (cell : ℕ) × RowSays row field (Ok cell)
 cell_said row field =
     let reads = cell_exact (read_row row field) in (
-      (λ h. let p = reads.0 h in (p.0, (row_exactly row field (Cell p.0)).0 p.1)),
-      (λ h. reads.1 (h.0, (row_exactly row field (Cell h.0)).1 h.1)),
+      (λ h. let p = reads.0 h in (p.0, (row_exactly row field (Ok p.0)).0 p.1)),
+      (λ h. reads.1 (h.0, (row_exactly row field (Ok h.0)).1 h.1)),
     )
 
 -- 11 and 12
@@ -145,9 +144,9 @@ good_what lists letter bytes g = by_head (head_of letter (segment_of lists.contr
     named = of_named (acts_as bytes) (number_of bytes) (message_place lists letter bytes)
 
     by_rows : (v : Verdict) → verdict_of (of_verdict v named) ≡ Ok tt → of_verdict v named ≡ named
-    by_rows verdict.Good e = refl
-    by_rows (verdict.Field row) e = cc
-    by_rows (verdict.Range row) e = cc
+    by_rows (Ok good) e = refl
+    by_rows (Err (bad_row.Field row)) e = cc
+    by_rows (Err (bad_row.Range row)) e = cc
 
     by_head : (h : Head) → verdict_of (of_head h (length_of bytes) (contents_of lists letter bytes)).what ≡ Ok tt
         → (of_head h (length_of bytes) (contents_of lists letter bytes)).what ≡ named

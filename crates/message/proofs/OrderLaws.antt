@@ -1,14 +1,13 @@
 -- The fault that is answered is the first broken rule's, in document 01's order.
 use Prim.Native.Nat.{ℕ, suc}
+use Rattle.layout.specs.declared.read.BadRow.TheVariants as bad_row
+use Rattle.decimal.specs.declared.FieldFault.TheVariants.{Malformed, OutOfRange}
+use Rattle.layout.specs.Answers.{RowRead, Verdict}
 use Rattle.std.specs.Prelude.{◌≡◌, refl, ◌↔◌, List, [], ◌∷◌, take, drop, Ok, Err, Result}
 use Rattle.std.proofs.Math.Path.{ap, ap₂, sym}
 use Rattle.std.proofs.Common.{◌∙◌}
 use Rattle.std.proofs.Math.Option.{Option, none, some}
 use Rattle.laws.specs.Rules.{Broken}
-use Rattle.layout.specs.declared.read.RowRead.{RowRead}
-use Rattle.layout.specs.declared.read.RowRead.TheVariants as read
-use Rattle.layout.specs.declared.read.Verdict.{Verdict}
-use Rattle.layout.specs.declared.read.Verdict.TheVariants as verdict
 use Rattle.forms.specs.declared.forms.Form.{Form}
 use Rattle.forms.specs.declared.forms.Item.{Item}
 use Rattle.forms.specs.declared.forms.Named.{Named}
@@ -37,9 +36,9 @@ use Rattle.head.specs.RulesLaws.{and_then, first_append, bad_broken, broken_bad}
 
 -- a verdict on rows as one on a message
 abbrev as_head : Verdict → Head
-as_head verdict.Good = Ok tt
-as_head (verdict.Field row) = Err (Field row)
-as_head (verdict.Range row) = Err (Range row)
+as_head (Ok good) = Ok tt
+as_head (Err (bad_row.Field row)) = Err (Field row)
+as_head (Err (bad_row.Range row)) = Err (Range row)
 
 -- 11 and 12
 rows_first : (i : ℕ) (rows : List Row) (bytes : List ℕ) → as_head (read_rows i rows bytes).verdict ≡ first_fault (row_rules i rows bytes)
@@ -50,14 +49,14 @@ rows_first i (row ∷ rows) bytes =
     go : (answer : RowRead) → read_row row (take (width_of row) bytes) ≡ answer
         → as_head (read_rows (suc i) rows (drop (width_of row) bytes)).verdict ≡ first_fault (row_rules (suc i) rows (drop (width_of row) bytes))
         → as_head (read_rows i (row ∷ rows) bytes).verdict ≡ first_fault (row_rules i (row ∷ rows) bytes)
-    go (read.Cell cell) e rest = rw e rest
-    go read.Field e rest = rw e
-    go read.Range e rest = rw e
+    go (Ok cell) e rest = rw e rest
+    go (Err Malformed) e rest = rw e
+    go (Err OutOfRange) e rest = rw e
 
 verdict_then : (v : Verdict) (good : Result What Fault) → verdict_of (of_verdict v good) ≡ and_then (as_head v) (verdict_of good)
-verdict_then verdict.Good good = refl
-verdict_then (verdict.Field row) good = refl
-verdict_then (verdict.Range row) good = refl
+verdict_then (Ok read) good = refl
+verdict_then (Err (bad_row.Field row)) good = refl
+verdict_then (Err (bad_row.Range row)) good = refl
 
 -- 13
 subject_first : (subject : Subject) (number : ℕ) (form : Form) (place : Item → Option ℕ) → verdict_of (of_subject subject number form place) ≡ first_fault (subject_rules subject place)

@@ -1,11 +1,11 @@
 -- What a caller may rely on where a message has no fault.
-use Rattle.std.specs.Prelude.{ℕ, ◌≡◌, refl, Bool, true, false, cond, List, Ok, Result}
+use Rattle.std.specs.Prelude.{ℕ, ◌≡◌, refl, Bool, true, false, cond, List, Ok, Result, Err}
+use Rattle.layout.specs.declared.read.BadRow.TheVariants as bad_row
+use Rattle.layout.specs.Answers.{Verdict}
 use Rattle.std.proofs.Math.Path.{ap}
 use Rattle.std.proofs.Common.{sym, ◌∙◌, arith}
 use Rattle.std.proofs.Math.Option.{Option, none, some}
 use Rattle.laws.specs.Choice.{never}
-use Rattle.layout.specs.declared.read.Verdict.{Verdict}
-use Rattle.layout.specs.declared.read.Verdict.TheVariants as verdict
 use Rattle.forms.specs.declared.forms.Form.{Form}
 use Rattle.forms.specs.declared.forms.Item.{Item}
 use Rattle.forms.specs.declared.forms.Named.{Named}
@@ -38,7 +38,7 @@ pub record IsUpdate (lists : Lists) (letter : ℕ) (bytes : List ℕ) (number : 
   pub number_is : number_of bytes ≡ number
   pub length_is : length_of bytes ≡ message_length (rows_of form)
   pub place_is : message_place lists letter bytes item ≡ some place
-  pub rows_good : (read_rows 0 (rows_of form) (data_of bytes)).verdict ≡ verdict.Good
+  pub rows_good : (read_rows 0 (rows_of form) (data_of bytes)).verdict ≡ Ok tt
   pub cells_are : (message_of lists letter bytes).cells ≡ zeros_behind (read_rows 0 (rows_of form) (data_of bytes)).cells
 
 -- a message is as long as the form that it has
@@ -47,10 +47,10 @@ unfolding form_in form_of
 form_length bytes form e = (told_form (forms_of (letter_of bytes) (second_of bytes)) (length_of bytes) form e).1
 
 -- a verdict that leaves no fault is good
-pub rows_pass : (v : Verdict) (w : Result What Fault) → verdict_of (of_verdict v w) ≡ Ok tt → v ≡ verdict.Good
-rows_pass verdict.Good w e = refl
-rows_pass (verdict.Field row) w e = absurd (unlike e)
-rows_pass (verdict.Range row) w e = absurd (unlike e)
+pub rows_pass : (v : Verdict) (w : Result What Fault) → verdict_of (of_verdict v w) ≡ Ok tt → v ≡ Ok tt
+rows_pass (Ok good) w e = refl
+rows_pass (Err (bad_row.Field row)) w e = absurd (unlike e)
+rows_pass (Err (bad_row.Range row)) w e = absurd (unlike e)
 
 -- a message counts in the sequence by its number field
 subject_number : (subject : Subject) (number : ℕ) (form : Form) (place : Item → Option ℕ) → NumberFor subject number → PlaceFor subject place

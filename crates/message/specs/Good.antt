@@ -1,10 +1,9 @@
 -- A good message, rule by rule and in no order: 01 "The message", "The checksum", and the table's rows 5 to 13; `head` GoodHead has
 -- those before its data.
-use Rattle.std.specs.Prelude.{ℕ, ◌<◌, ◌≡◌, List, length}
+use Rattle.std.specs.Prelude.{ℕ, ◌<◌, ◌≡◌, List, length, Ok}
 use Rattle.std.proofs.Math.Option.{Option, some}
 use Rattle.files.specs.File.{segments_of, letter_at, count_at, key_by}
 use Rattle.pairs.specs.Lists.{Lists}
-use Rattle.layout.specs.declared.read.RowRead.TheVariants.{Cell}
 use Rattle.forms.specs.declared.forms.Item.{Item}
 use Rattle.forms.specs.declared.forms.Named.{Named}
 use Rattle.forms.specs.declared.forms.Named.TheVariants as is
@@ -20,7 +19,7 @@ use Rattle.pairs.specs.Items.{file_of, habit_of}
 
 -- 01, the table's rows 11 and 12: every row's field is well formed and in range: it says the cell that is kept of it
 abbrev pub GoodRows : List Row → List ℕ → Type 0
-GoodRows rows bytes = (i : ℕ) → i < length rows → (cell : ℕ) × RowSays (row_at rows i) (field_at rows bytes i) (Cell cell)
+GoodRows rows bytes = (i : ℕ) → i < length rows → (cell : ℕ) × RowSays (row_at rows i) (field_at rows bytes i) (Ok cell)
 
 -- 01, the table's row 13: the key of an update is listed
 abbrev pub PlaceFor : Subject → (Item → Option ℕ) → Type 0

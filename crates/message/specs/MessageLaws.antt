@@ -1,12 +1,12 @@
 -- Laws of what a message is.
 use Rattle.std.specs.Prelude.{ℕ, ◌≡◌, List, Bool, true, false, cond, Ok, Err, Result}
+use Rattle.layout.specs.Answers.{Verdict}
 use Rattle.std.proofs.Math.Path.{refl, sym}
 use Rattle.std.proofs.Common.{◌∙◌}
 use Rattle.std.proofs.Math.Option.{Option, none, some}
 use Rattle.laws.specs.Choice.{never}
 use Rattle.lookup.specs.Lookup.{segment_of}
 use Rattle.pairs.specs.Lists.{Lists}
-use Rattle.layout.specs.declared.read.Verdict.{Verdict}
 use Rattle.layout.specs.AnswersLaws.{verdict_told}
 use Rattle.layout.specs.Cells.{zeros_behind}
 use Rattle.forms.specs.declared.forms.Form.{Form}

@@ -1,13 +1,13 @@
 -- What the bytes of a message are read as, and what reading promises: `good_what`, `good_exact` (GoodLaws) and `fault_exact` (OrderLaws)
 -- say it in the words of `Good`.
 use Rattle.std.specs.Prelude.{ℕ, ◌≡◌, List, [], Ok, Err, Result}
+use Rattle.layout.specs.declared.read.BadRow.TheVariants as bad_row
+use Rattle.layout.specs.Answers.{Verdict}
 use Rattle.std.proofs.Math.Option.{Option}
 use Rattle.std.proofs.lemmas.List.Edits.{sets}
 use Rattle.pairs.specs.Lists.{Lists}
 use Rattle.lookup.specs.Lookup.{segment_of}
 use Rattle.forms.specs.declared.forms.Item.{Item}
-use Rattle.layout.specs.declared.read.Verdict.{Verdict}
-use Rattle.layout.specs.declared.read.Verdict.TheVariants as verdict
 use Rattle.layout.specs.Cells.{zeros_behind}
 use Rattle.layout.specs.Read.{Outcome, read_rows}
 use Rattle.message.specs.declared.body.What.{What}
@@ -28,9 +28,9 @@ rows_read bytes = read_rows 0 (rows_in (form_in bytes)) (data_of bytes)
 
 -- 01, the table's rows 11 and 12: the first bad row decides
 abbrev pub of_verdict : Verdict → Result What Fault → Result What Fault
-of_verdict verdict.Good good = good
-of_verdict (verdict.Field row) good = Err (fault.Field row)
-of_verdict (verdict.Range row) good = Err (fault.Range row)
+of_verdict (Ok read) good = good
+of_verdict (Err (bad_row.Field row)) good = Err (fault.Field row)
+of_verdict (Err (bad_row.Range row)) good = Err (fault.Range row)
 
 -- 01 "The message": what a message with a good head is, by the place of its key
 unfoldable pub contents_by : (Item → Option ℕ) → List ℕ → Message

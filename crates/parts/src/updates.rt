@@ -1,6 +1,6 @@
 // The rows of an update, read and written.
 use crate::say::{say, say_bytes, say_numbers, say_with};
-use layout::{Form, MOST_ROWS, Verdict};
+use layout::{BadRow, Form, MOST_ROWS};
 use std::io::Result;
 
 // The form of a contract that a byte stands for: of D's and of F's one of each level.
@@ -17,6 +17,13 @@ fn say_cells(rt: &impl Print, cells: &[u64; MOST_ROWS], count: usize) -> Result<
     say_numbers(rt, cells, count)
 }
 
+fn say_bad_row(rt: &impl Print, bad: BadRow) -> Result<()> {
+    match bad {
+        BadRow::Field(row) => say_with(rt, b"field ", row as u64),
+        BadRow::Range(row) => say_with(rt, b"range ", row as u64),
+    }
+}
+
 // A form's byte, and the data.
 pub fn say_read(rt: &impl Print, asked: &[u8]) -> Result<()> {
     let form = form_of(wire::u8_at(asked, 0));
@@ -25,12 +32,11 @@ pub fn say_read(rt: &impl Print, asked: &[u8]) -> Result<()> {
     }
     let mut cells = [0u64; MOST_ROWS];
     match layout::read_update(form, &asked[1..], &mut cells) {
-        Verdict::Good => {
+        Ok(()) => {
             say(rt, b"good")?;
             say_cells(rt, &cells, rows::count_of(form))
         }
-        Verdict::Field(row) => say_with(rt, b"field ", row as u64),
-        Verdict::Range(row) => say_with(rt, b"range ", row as u64),
+        Err(row) => say_bad_row(rt, row),
     }
 }
 
@@ -48,9 +54,8 @@ fn say_data(
     data: &mut [u8],
 ) -> Result<()> {
     match compose::write_update(form, key, values, data) {
-        Verdict::Good => say_bytes(rt, data),
-        Verdict::Field(row) => say_with(rt, b"field ", row as u64),
-        Verdict::Range(row) => say_with(rt, b"range ", row as u64),
+        Ok(()) => say_bytes(rt, data),
+        Err(row) => say_bad_row(rt, row),
     }
 }
 

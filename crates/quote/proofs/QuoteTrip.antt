@@ -1,5 +1,7 @@
 -- The quote through the data of an update: what was read can be written again, and what is written reads back as the form sees it.
-use Rattle.std.specs.Prelude.{ℕ, zero, suc, ◌-◌, ◌<◌, ◌≡◌, refl, Bool, true, false, List, [], ◌∷◌, ◌++◌, get_or, take, drop, replicate}
+use Rattle.std.specs.Prelude.{ℕ, zero, suc, ◌-◌, ◌<◌, ◌≡◌, refl, Bool, true, false, List, [], ◌∷◌, ◌++◌, get_or, take, drop, replicate, Ok, Err}
+use Rattle.decimal.specs.declared.FieldFault.TheVariants.{Malformed, OutOfRange}
+use Rattle.layout.specs.Answers.{RowRead}
 use Rattle.std.proofs.Common.{ap, sym, ◌∙◌, arith, lit<}
 use Rattle.std.proofs.lemmas.Bool.{false≢true}
 use Rattle.std.proofs.Math.Option.{some}
@@ -12,9 +14,6 @@ use Rattle.forms.specs.declared.rows.Row.{Row}
 use Rattle.forms.specs.declared.rows.Row.TheVariants.{Key, MarketType, Status, Price, Difference, Quantity, Turnover}
 use Rattle.forms.specs.declared.forms.Form.{Form}
 use Rattle.forms.specs.declared.forms.Form.TheVariants.{Heartbeat, LevelOne, LevelTwo, PairOne, PairTwo, FutureOne, FutureTwo, PreOpenOne, PreOpenTwo}
-use Rattle.layout.specs.declared.read.RowRead.{RowRead}
-use Rattle.layout.specs.declared.read.RowRead.TheVariants.{Cell, Field, Range}
-use Rattle.layout.specs.declared.read.Verdict.TheVariants.{Good}
 use Rattle.quote.specs.declared.quote.Quote.{Quote}
 use Rattle.forms.specs.Rows.{width_of}
 use Rattle.forms.specs.Sizes.{most_rows, key_row_count}
@@ -40,32 +39,32 @@ use Rattle.quote.proofs.QuoteLaws.{cells_back, quote_back}
 
 -- ---- what was read
 
-letter_seen : (taken : ℕ → Bool) → ((byte : ℕ) → taken byte ≡ true → byte < 256) → (byte cell : ℕ) → letter_cell taken byte ≡ Cell cell
+letter_seen : (taken : ℕ → Bool) → ((byte : ℕ) → taken byte ≡ true → byte < 256) → (byte cell : ℕ) → letter_cell taken byte ≡ Ok cell
     → byte_in cell ≡ cell
 letter_seen taken small byte cell e = go (taken byte) refl
   where
     go : (is : Bool) → taken byte ≡ is → byte_in cell ≡ cell
     go true t =
-        let same : Cell byte ≡ Cell cell = rw t at e in
+        let same : Ok byte ≡ Ok cell = rw t at e in
         let b : byte ≡ cell = cc in
         byte_back cell (rw b at (small byte t))
-    go false t = let other : Field ≡ Cell cell = rw t at e in cc
+    go false t = let other : (Err Malformed) ≡ Ok cell = rw t at e in cc
 
-cell_seen : (row : Row) (field : List ℕ) (cell : ℕ) → read_row row field ≡ Cell cell → seen_value row cell ≡ cell
+cell_seen : (row : Row) (field : List ℕ) (cell : ℕ) → read_row row field ≡ Ok cell → seen_value row cell ≡ cell
 unfolding read_row
 cell_seen (Key width) field cell e = cc
 cell_seen (MarketType markets) field cell e = letter_seen (is_market_type markets) (market_small markets) (number_at 1 field 0) cell e
 cell_seen Status field cell e = letter_seen is_status status_small (number_at 1 field 0) cell e
 cell_seen (Price width) field cell e = refl
 cell_seen (Difference width) field cell e =
-    let says : NumberSays difference field (Cell cell) = (row_exactly (Difference width) field (Cell cell)).0 e in
+    let says : NumberSays difference field (Ok cell) = (row_exactly (Difference width) field (Ok cell)).0 e in
     ap (λ (c : ℕ). value_of true (held_in true c)) says.2 ∙ ap (value_of true) (says_held difference (lit< tt) field says.0 says.1)
     ∙ has_value true says.0 (says_small difference (lit< tt) field says.0 says.1) ∙ sym says.2
 cell_seen (Quantity width) field cell e = refl
 cell_seen (Turnover width) field cell e = refl
 
 -- the rows see the cells that were read as they are
-cells_seen : (i : ℕ) (rows : List Row) (bytes behind : List ℕ) → (read_rows i rows bytes).verdict ≡ Good
+cells_seen : (i : ℕ) (rows : List Row) (bytes behind : List ℕ) → (read_rows i rows bytes).verdict ≡ Ok tt
     → seen_values rows ((read_rows i rows bytes).cells ++ behind) ≡ (read_rows i rows bytes).cells
 cells_seen i [] bytes behind good = refl
 cells_seen i (row ∷ rows) bytes behind good =
@@ -74,14 +73,14 @@ cells_seen i (row ∷ rows) bytes behind good =
     rest : Outcome
     rest = read_rows (suc i) rows (drop (width_of row) bytes)
 
-    go : (answer : RowRead) → read_row row (take (width_of row) bytes) ≡ answer → (row_then answer i rest).verdict ≡ Good
-        → (rest.verdict ≡ Good → seen_values rows (rest.cells ++ behind) ≡ rest.cells)
+    go : (answer : RowRead) → read_row row (take (width_of row) bytes) ≡ answer → (row_then answer i rest).verdict ≡ Ok tt
+        → (rest.verdict ≡ Ok tt → seen_values rows (rest.cells ++ behind) ≡ rest.cells)
         → seen_values (row ∷ rows) ((row_then answer i rest).cells ++ behind) ≡ (row_then answer i rest).cells
-    go (Cell cell) e good later = rw (cell_seen row (take (width_of row) bytes) cell e, later good)
-    go Field e good later = cc
-    go Range e good later = cc
+    go (Ok cell) e good later = rw (cell_seen row (take (width_of row) bytes) cell e, later good)
+    go (Err Malformed) e good later = cc
+    go (Err OutOfRange) e good later = cc
 
-module _ (form : Form) (bytes : List ℕ) (good : (read_rows 0 (rows_of form) bytes).verdict ≡ Good) where
+module _ (form : Form) (bytes : List ℕ) (good : (read_rows 0 (rows_of form) bytes).verdict ≡ Ok tt) where
   abbrev pub read : List ℕ
   read = zeros_behind (read_rows 0 (rows_of form) bytes).cells
 
@@ -95,7 +94,7 @@ module _ (form : Form) (bytes : List ℕ) (good : (read_rows 0 (rows_of form) by
 
 -- ---- what is written
 
-rows_held : (i : ℕ) (rows : List Row) (key values : List ℕ) → (write_rows i rows key values).verdict ≡ Good → AllHeld (seen_values rows values)
+rows_held : (i : ℕ) (rows : List Row) (key values : List ℕ) → (write_rows i rows key values).verdict ≡ Ok tt → AllHeld (seen_values rows values)
 rows_held i [] key values good k e = omega arith
 rows_held i (row ∷ rows) key values good k e =
     let rest : Laid = write_rows (suc i) rows (drop (key_used row) key) (drop 1 values) in
@@ -119,7 +118,7 @@ abbrev pub read_again : Form → List ℕ → List ℕ → Outcome
 read_again form key values = read_rows 0 (rows_of form) (write_rows 0 (rows_of form) key values).bytes
 
 -- values that the rows see as they are, and that can be written
-module _ (form : Form) (key values : List ℕ) (good : (write_rows 0 (rows_of form) key values).verdict ≡ Good) (own : zeros_behind (seen_values (rows_of form) values) ≡ values) where
+module _ (form : Form) (key values : List ℕ) (good : (write_rows 0 (rows_of form) key values).verdict ≡ Ok tt) (own : zeros_behind (seen_values (rows_of form) values) ≡ values) where
   pub all_held : AllHeld values
   all_held =
       let rows : List ℕ = seen_values (rows_of form) values in
@@ -127,9 +126,9 @@ module _ (form : Form) (key values : List ℕ) (good : (write_rows 0 (rows_of fo
       rw own at held
 
   -- are read again as they were written
-  pub cells_again : ((read_again form key values).verdict ≡ Good) × (zeros_behind (read_again form key values).cells ≡ values)
+  pub cells_again : ((read_again form key values).verdict ≡ Ok tt) × (zeros_behind (read_again form key values).cells ≡ values)
   cells_again =
-      let back : read_again form key values ≡ record { cells = seen_values (rows_of form) values; verdict = Good } = rows_back 0 (rows_of form) key values good in
+      let back : read_again form key values ≡ record { cells = seen_values (rows_of form) values; verdict = Ok tt } = rows_back 0 (rows_of form) key values good in
       (rw back, rw back own)
 
 -- ---- the quote
@@ -191,7 +190,7 @@ own_values FutureTwo is quote small = rw (byte_back quote.market_type (small.0 k
 own_values PreOpenOne is quote small = rw (byte_back quote.market_type (small.0 key_row_count refl), byte_back quote.status (small.1 13 refl))
 own_values PreOpenTwo is quote small = rw (byte_back quote.market_type (small.0 key_row_count refl), byte_back quote.status (small.1 29 refl))
 
-module _ (form : Form) (is : of_pair (subject_of form) ≡ false) (quote : Quote) (key : List ℕ) (good : (write_rows 0 (rows_of form) key (values_of form quote)).verdict ≡ Good) where
+module _ (form : Form) (is : of_pair (subject_of form) ≡ false) (quote : Quote) (key : List ℕ) (good : (write_rows 0 (rows_of form) key (values_of form quote)).verdict ≡ Ok tt) where
   small : Byte form market_type quote.market_type × Byte form status quote.status
   small = letters form is quote key (rw good at (write_first (rows_of form) key (values_of form quote)))
 
@@ -206,5 +205,5 @@ module _ (form : Form) (is : of_pair (subject_of form) ≡ false) (quote : Quote
       (all_held form key (values_of form quote) good same_values) quote (λ name. refl) small.0 small.1
 
   -- what is written from a quote reads back as that quote
-  pub written_back : ((read_again form key (values_of form quote)).verdict ≡ Good) × (quote_of form (zeros_behind (read_again form key (values_of form quote)).cells) ≡ seen_quote form quote)
+  pub written_back : ((read_again form key (values_of form quote)).verdict ≡ Ok tt) × (quote_of form (zeros_behind (read_again form key (values_of form quote)).cells) ≡ seen_quote form quote)
   written_back = let again = cells_again form key (values_of form quote) good same_values in (again.0, ap (quote_of form) again.1 ∙ written_kept)

@@ -1,5 +1,7 @@
 -- Demand 2, "Each number is the exact decimal in its field": the quote of good rows shows each field from the field of its name.
-use Rattle.std.specs.Prelude.{ℕ, suc, ◌-◌, ◌<◌, ◌≡◌, refl, Bool, true, false, cond, List, [], ◌∷◌, map, length, get_or, take, drop, replicate}
+use Rattle.std.specs.Prelude.{ℕ, suc, ◌-◌, ◌<◌, ◌≡◌, refl, Bool, true, false, cond, List, [], ◌∷◌, map, length, get_or, take, drop, replicate, Ok, Err}
+use Rattle.decimal.specs.declared.FieldFault.TheVariants.{Malformed, OutOfRange}
+use Rattle.layout.specs.Answers.{RowRead}
 use Rattle.std.proofs.Common.{ap, subst, ◌∙◌, ⊎_elim, arith, lit<}
 use Rattle.std.proofs.Math.Option.{Option, none, some}
 use Rattle.std.proofs.Math.ListN.{get_or-append}
@@ -19,9 +21,6 @@ use Rattle.forms.specs.Forms.{named_rows, rows_of, subject_of}
 use Rattle.forms.specs.Rows.{width_of}
 use Rattle.wire.specs.Number.{number_at}
 use Rattle.decimal.specs.declared.Held.{Held}
-use Rattle.layout.specs.declared.read.RowRead.{RowRead}
-use Rattle.layout.specs.declared.read.RowRead.TheVariants.{Cell, Field, Range}
-use Rattle.layout.specs.declared.read.Verdict.TheVariants.{Good}
 use Rattle.layout.specs.Cells.{minus, held_in, byte_in, zeros_behind}
 use Rattle.layout.specs.Read.{read_row, read_rows}
 use Rattle.layout.specs.Says.{HeldSays, NumberSays, RowSays}
@@ -33,7 +32,7 @@ use Rattle.quote.proofs.RowsLaws.{at_level_lem}
 
 -- ---- one field
 
-shows_number : (kind : Kind) → kind.most < minus - 2 → (field : List ℕ) (cell : ℕ) → NumberSays kind field (Cell cell) → HeldSays kind field (held_in kind.signed cell)
+shows_number : (kind : Kind) → kind.most < minus - 2 → (field : List ℕ) (cell : ℕ) → NumberSays kind field (Ok cell) → HeldSays kind field (held_in kind.signed cell)
 shows_number kind small field cell h = rw (h.2, says_held kind small field h.0 h.1) h.1
 
 -- what a row's field is shown as, whatever its width
@@ -56,7 +55,7 @@ kind_of (Difference width) = Difference 0
 kind_of (Quantity width) = Quantity 0
 kind_of (Turnover width) = Turnover 0
 
-row_shows : (row : Row) (field : List ℕ) (cell : ℕ) → RowSays row field (Cell cell) → ShownAs (kind_of row) field cell
+row_shows : (row : Row) (field : List ℕ) (cell : ℕ) → RowSays row field (Ok cell) → ShownAs (kind_of row) field cell
 row_shows (Key width) field cell h = tt
 row_shows (MarketType Normal) field cell h = rw (h.1, h.0) refl
 row_shows (MarketType Any) field cell h =
@@ -99,38 +98,38 @@ abbrev pub plain : List NamedRow → List Row
 plain rows = map (λ r. r.row) rows
 
 -- the field of the first row, where it is read as a cell, or a field behind it
-module _ (prices : Row) (row : NamedRow) (rows : List NamedRow) (kinded : Kinded prices (row ∷ rows)) (field : List ℕ) (cell : ℕ) (reads : read_row row.row field ≡ Cell cell) (name : Name) where
+module _ (prices : Row) (row : NamedRow) (rows : List NamedRow) (kinded : Kinded prices (row ∷ rows)) (field : List ℕ) (cell : ℕ) (reads : read_row row.row field ≡ Ok cell) (name : Name) where
   here : kind_of row.row ≡ kind_named prices row.name
   here = cc
 
   by_name : (rest : Option (List ℕ)) (cells : List ℕ) → Found (kind_named prices name) rest (row_named rows name) cells → (b : Bool) → same_name row.name name ≡ b
       → Found (kind_named prices name) (cond b (some field) rest) (cond b (some 0) (next (row_named rows name))) (cell ∷ cells)
   by_name rest cells h true is =
-      (omega arith, subst (λ (kind : Row). ShownAs kind field cell) (here ∙ ap (kind_named prices) ((same_name_lem row.name name).0 is)) (row_shows row.row field cell ((row_exactly row.row field (Cell cell)).0 reads)))
+      (omega arith, subst (λ (kind : Row). ShownAs kind field cell) (here ∙ ap (kind_named prices) ((same_name_lem row.name name).0 is)) (row_shows row.row field cell ((row_exactly row.row field (Ok cell)).0 reads)))
   by_name rest cells h false is = behind (kind_named prices name) rest (row_named rows name) cell cells h
 
-found : (prices : Row) (rows : List NamedRow) → Kinded prices rows → (i : ℕ) (bytes : List ℕ) → (read_rows i (plain rows) bytes).verdict ≡ Good → (name : Name)
+found : (prices : Row) (rows : List NamedRow) → Kinded prices rows → (i : ℕ) (bytes : List ℕ) → (read_rows i (plain rows) bytes).verdict ≡ Ok tt → (name : Name)
     → Found (kind_named prices name) (field_named rows bytes name) (row_named rows name) (read_rows i (plain rows) bytes).cells
 found prices [] kinded i bytes good name = tt
 found prices (row ∷ rows) kinded i bytes good name =
     go (read_row row.row (take (width_of row.row) bytes)) refl (λ rest_kinded rest_good. found prices rows rest_kinded (suc i) (drop (width_of row.row) bytes) rest_good name)
   where
     go : (a : RowRead) → read_row row.row (take (width_of row.row) bytes) ≡ a
-        → (Kinded prices rows → (read_rows (suc i) (plain rows) (drop (width_of row.row) bytes)).verdict ≡ Good
+        → (Kinded prices rows → (read_rows (suc i) (plain rows) (drop (width_of row.row) bytes)).verdict ≡ Ok tt
         → Found (kind_named prices name) (field_named rows (drop (width_of row.row) bytes) name) (row_named rows name) (read_rows (suc i) (plain rows) (drop (width_of row.row) bytes)).cells)
         → Found (kind_named prices name) (field_named (row ∷ rows) bytes name) (row_named (row ∷ rows) name) (read_rows i (plain (row ∷ rows)) bytes).cells
-    go (Cell cell) e rest =
+    go (Ok cell) e rest =
         let left : List ℕ = drop (width_of row.row) bytes in
         let rest_kinded : Kinded prices rows = cc in
         rw e
         (by_name prices row rows kinded (take (width_of row.row) bytes) cell e name (field_named rows left name) (read_rows (suc i) (plain rows) left).cells
         (rest rest_kinded (rw e at good)) (same_name row.name name) refl)
-    go Field e rest = let bad = rw e at good in absurd (clash (cc))
-    go Range e rest = let bad = rw e at good in absurd (clash (cc))
+    go (Err Malformed) e rest = let bad = rw e at good in absurd (clash (cc))
+    go (Err OutOfRange) e rest = let bad = rw e at good in absurd (clash (cc))
 
 -- ---- the quote
 
-module _ (prices : Row) (rows : List NamedRow) (kinded : Kinded prices rows) (bytes : List ℕ) (good : (read_rows 0 (plain rows) bytes).verdict ≡ Good) where
+module _ (prices : Row) (rows : List NamedRow) (kinded : Kinded prices rows) (bytes : List ℕ) (good : (read_rows 0 (plain rows) bytes).verdict ≡ Ok tt) where
   abbrev pub read : List ℕ
   read = (read_rows 0 (plain rows) bytes).cells
 
@@ -215,7 +214,7 @@ form_kinded PreOpenOne = refl
 form_kinded PreOpenTwo = refl
 
 -- of each form whose rows are good
-pub shows_fields : (form : Form) → of_pair (subject_of form) ≡ false → (bytes : List ℕ) → (read_rows 0 (rows_of form) bytes).verdict ≡ Good
+pub shows_fields : (form : Form) → of_pair (subject_of form) ≡ false → (bytes : List ℕ) → (read_rows 0 (rows_of form) bytes).verdict ≡ Ok tt
     → ShowsFields (field_named (named_rows form) bytes) (quote_of form (zeros_behind (read_rows 0 (rows_of form) bytes).cells))
 unfolding rows_of quote_of
 shows_fields form is bytes good = shows_rows (Price 0) (named_rows form) (rw is at (form_kinded form)) bytes good refl

@@ -2,17 +2,9 @@
 #![tactic(auto)]
 
 ghost use Rattle.std.specs.Prelude.{◌≡◌, length};
-ghost use Rattle.forms.specs.Rows.{padded};
 ghost use Rattle.forms.specs.Forms.{rows_of};
 
-use forms::{Form, MOST_ROWS, Markets, Row};
-
-// Level 1 has fewer rows than level 2; a time stamp is one row more.
-const LEVEL_ONE_ROWS: usize = 19;
-
-const LEVEL_TWO_ROWS: usize = 37;
-
-const FUTURE_ONE_ROWS: usize = 20;
+use forms::{Form, Markets, Row};
 
 // The papers' widths.
 const PRICE: Row = Row::Price(17);
@@ -27,13 +19,8 @@ const TIME_STAMP: Row = Row::Quantity(11);
 
 const TURNOVER: Row = Row::Turnover(25);
 
-// A row behind the last, which is never looked at.
-const NO_ROW: Row = Row::Key(0);
-
-const NO_ROWS: [Row; MOST_ROWS] = [NO_ROW; MOST_ROWS];
-
 // 000 section 4.4 and 003 section 4.5.
-const LEVEL_ONE: [Row; MOST_ROWS] = [
+const LEVEL_ONE: &[Row] = &[
     Row::Key(6),
     Row::Key(10),
     Row::Key(11),
@@ -53,29 +40,10 @@ const LEVEL_ONE: [Row; MOST_ROWS] = [
     PRICE,
     PRICE,
     TURNOVER,
-    NO_ROW,
-    NO_ROW,
-    NO_ROW,
-    NO_ROW,
-    NO_ROW,
-    NO_ROW,
-    NO_ROW,
-    NO_ROW,
-    NO_ROW,
-    NO_ROW,
-    NO_ROW,
-    NO_ROW,
-    NO_ROW,
-    NO_ROW,
-    NO_ROW,
-    NO_ROW,
-    NO_ROW,
-    NO_ROW,
-    NO_ROW,
 ];
 
 // 000 section 4.5 and 003 section 4.6.
-const LEVEL_TWO: [Row; MOST_ROWS] = [
+const LEVEL_TWO: &[Row] = &[
     Row::Key(6),
     Row::Key(10),
     Row::Key(11),
@@ -113,11 +81,10 @@ const LEVEL_TWO: [Row; MOST_ROWS] = [
     QUANTITY,
     QUANTITY,
     TURNOVER,
-    NO_ROW,
 ];
 
 // 000 section 4.6 and 003 section 4.3.
-const PAIR_ONE: [Row; MOST_ROWS] = [
+const PAIR_ONE: &[Row] = &[
     Row::Key(6),
     Row::Key(10),
     Row::Key(11),
@@ -137,29 +104,10 @@ const PAIR_ONE: [Row; MOST_ROWS] = [
     DIFFERENCE,
     DIFFERENCE,
     DIFFERENCE,
-    NO_ROW,
-    NO_ROW,
-    NO_ROW,
-    NO_ROW,
-    NO_ROW,
-    NO_ROW,
-    NO_ROW,
-    NO_ROW,
-    NO_ROW,
-    NO_ROW,
-    NO_ROW,
-    NO_ROW,
-    NO_ROW,
-    NO_ROW,
-    NO_ROW,
-    NO_ROW,
-    NO_ROW,
-    NO_ROW,
-    NO_ROW,
 ];
 
 // 000 section 4.7 and 003 section 4.4.
-const PAIR_TWO: [Row; MOST_ROWS] = [
+const PAIR_TWO: &[Row] = &[
     Row::Key(6),
     Row::Key(10),
     Row::Key(11),
@@ -197,11 +145,10 @@ const PAIR_TWO: [Row; MOST_ROWS] = [
     DIFFERENCE,
     QUANTITY,
     QUANTITY,
-    NO_ROW,
 ];
 
 // 002 section 4.4.
-const FUTURE_ONE: [Row; MOST_ROWS] = [
+const FUTURE_ONE: &[Row] = &[
     Row::Key(6),
     Row::Key(10),
     Row::Key(11),
@@ -222,28 +169,10 @@ const FUTURE_ONE: [Row; MOST_ROWS] = [
     NARROW_PRICE,
     NARROW_PRICE,
     TURNOVER,
-    NO_ROW,
-    NO_ROW,
-    NO_ROW,
-    NO_ROW,
-    NO_ROW,
-    NO_ROW,
-    NO_ROW,
-    NO_ROW,
-    NO_ROW,
-    NO_ROW,
-    NO_ROW,
-    NO_ROW,
-    NO_ROW,
-    NO_ROW,
-    NO_ROW,
-    NO_ROW,
-    NO_ROW,
-    NO_ROW,
 ];
 
 // 002 section 4.5.
-const FUTURE_TWO: [Row; MOST_ROWS] = [
+const FUTURE_TWO: &[Row] = &[
     Row::Key(6),
     Row::Key(10),
     Row::Key(11),
@@ -284,34 +213,23 @@ const FUTURE_TWO: [Row; MOST_ROWS] = [
     TURNOVER,
 ];
 
-pub fn rows_of(form: Form) -> [Row; MOST_ROWS]
-    ensures { result ≡ padded (rows_of form) }
+#[tactic(auto, unfolding(forms::specs::Forms::rows_of, forms::specs::Forms::named_rows))]
+pub fn rows_of(form: Form) -> &'static [Row]
+    ensures { result.now ≡ rows_of form }
 {
     match form {
-        Form::Heartbeat => NO_ROWS,
+        Form::Heartbeat => &[],
         Form::LevelOne => LEVEL_ONE,
         Form::LevelTwo => LEVEL_TWO,
         Form::PairOne => PAIR_ONE,
         Form::PairTwo => PAIR_TWO,
-        Form::FutureOne => FUTURE_ONE,
-        Form::FutureTwo => FUTURE_TWO,
-        Form::PreOpenOne => FUTURE_ONE,
-        Form::PreOpenTwo => FUTURE_TWO,
+        Form::FutureOne | Form::PreOpenOne => FUTURE_ONE,
+        Form::FutureTwo | Form::PreOpenTwo => FUTURE_TWO,
     }
 }
 
 pub fn count_of(form: Form) -> usize
     ensures { result ≡ length (rows_of form) }
 {
-    match form {
-        Form::Heartbeat => 0,
-        Form::LevelOne => LEVEL_ONE_ROWS,
-        Form::LevelTwo => LEVEL_TWO_ROWS,
-        Form::PairOne => LEVEL_ONE_ROWS,
-        Form::PairTwo => LEVEL_TWO_ROWS,
-        Form::FutureOne => FUTURE_ONE_ROWS,
-        Form::FutureTwo => MOST_ROWS,
-        Form::PreOpenOne => FUTURE_ONE_ROWS,
-        Form::PreOpenTwo => MOST_ROWS,
-    }
+    rows_of(form).len()
 }

@@ -1,11 +1,10 @@
 -- Demand 2, "Each number is the exact decimal in its field": a pair's quote of good rows shows each field from the field of its name.
-use Rattle.std.specs.Prelude.{ℕ, ◌≡◌, refl, true, List}
+use Rattle.std.specs.Prelude.{ℕ, ◌≡◌, refl, true, List, Ok}
 use Rattle.decimal.specs.Kinds.{difference, quantity}
 use Rattle.forms.specs.declared.rows.Row.TheVariants.{Difference, Quantity}
 use Rattle.forms.specs.declared.forms.Form.{Form}
 use Rattle.forms.specs.Names.{Name, NamedRow, buy_price, buy_quantity, sell_price, sell_quantity, last_price, traded_quantity, opening_price, high_price, low_price, all_buyers, all_sellers}
 use Rattle.forms.specs.Forms.{named_rows, rows_of, subject_of}
-use Rattle.layout.specs.declared.read.Verdict.TheVariants.{Good}
 use Rattle.layout.specs.Cells.{zeros_behind}
 use Rattle.layout.specs.Read.{read_rows}
 use Rattle.quote.specs.Quote.{quantity_in, of_pair}
@@ -17,7 +16,7 @@ use Rattle.spread.specs.Spread.{difference_in, spread_order_in, spread_quote_by,
 use Rattle.spread.specs.Shows.{held_difference, no_spread_order, ShowsSpreadFields}
 use Rattle.spread.proofs.NumberLaws.{difference_number}
 
-module _ (rows : List NamedRow) (kinded : Kinded (Difference 0) rows) (bytes : List ℕ) (good : (read_rows 0 (plain rows) bytes).verdict ≡ Good) where
+module _ (rows : List NamedRow) (kinded : Kinded (Difference 0) rows) (bytes : List ℕ) (good : (read_rows 0 (plain rows) bytes).verdict ≡ Ok tt) where
   abbrev held : Name → ℕ
   held = cell (Difference 0) rows kinded bytes good
 
@@ -49,7 +48,7 @@ module _ (rows : List NamedRow) (kinded : Kinded (Difference 0) rows) (bytes : L
       }
 
 -- of each form of a pair whose rows are good
-pub shows_spread_fields : (form : Form) → of_pair (subject_of form) ≡ true → (bytes : List ℕ) → (read_rows 0 (rows_of form) bytes).verdict ≡ Good
+pub shows_spread_fields : (form : Form) → of_pair (subject_of form) ≡ true → (bytes : List ℕ) → (read_rows 0 (rows_of form) bytes).verdict ≡ Ok tt
     → ShowsSpreadFields (field_named (named_rows form) bytes) (spread_quote_of form (zeros_behind (read_rows 0 (rows_of form) bytes).cells))
 unfolding rows_of spread_quote_of
 shows_spread_fields form is bytes good = shows_spread_rows (named_rows form) (rw is at (form_kinded form)) bytes good

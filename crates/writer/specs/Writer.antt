@@ -1,11 +1,11 @@
 -- Writing a message from the values of its rows: 01 "The message", "The checksum", "Numbers in text", and the writer's order of
 -- checks.
-use Rattle.std.specs.Prelude.{ℕ, ◌+◌, ◌≤◌, ◌≡◌, true, false, List, [], ◌∷◌, ◌++◌, leb, length, drop, Option, Some, None, Result}
+use Rattle.std.specs.Prelude.{ℕ, ◌+◌, ◌≤◌, ◌≡◌, true, false, List, [], ◌∷◌, ◌++◌, leb, length, drop, Option, Some, None, Result, Ok, Err}
+use Rattle.layout.specs.declared.read.BadRow.TheVariants as bad_row
+use Rattle.layout.specs.Answers.{Verdict}
 use Rattle.laws.specs.Rules.{first_broken}
 use Rattle.wire.specs.Number.{bytes_of}
 use Rattle.checksum.specs.Checksum.{checksum_of}
-use Rattle.layout.specs.declared.read.Verdict.{Verdict}
-use Rattle.layout.specs.declared.read.Verdict.TheVariants as verdict
 use Rattle.forms.specs.declared.rows.Row.{Row}
 use Rattle.forms.specs.declared.forms.Form.{Form}
 use Rattle.forms.specs.declared.forms.Sum.{Sum}
@@ -49,9 +49,9 @@ data_written form key values = write_rows 0 (rows_written form) key values
 
 -- 01, the writer's order of checks: "then 11 and 12 by row": the first bad row's
 abbrev pub rows_rules : Verdict → List Rule
-rows_rules verdict.Good = []
-rows_rules (verdict.Field row) = record { holds = false; refusal = Field 0 row } ∷ []
-rows_rules (verdict.Range row) = record { holds = false; refusal = Range 0 row } ∷ []
+rows_rules (Ok good) = []
+rows_rules (Err (bad_row.Field row)) = record { holds = false; refusal = Field 0 row } ∷ []
+rows_rules (Err (bad_row.Range row)) = record { holds = false; refusal = Range 0 row } ∷ []
 
 -- 01, the writer's order of checks and the table's row 15: "then 15": one cell a byte
 abbrev pub room_rules : ℕ → ℕ → List Rule
@@ -73,7 +73,7 @@ pub record GoodWrite (form : Option Form) (number : ℕ) (key values : List ℕ)
   -- 10
   pub has_number : numbered form number ≡ true
   -- 11 and 12
-  pub rows_good : (data_written form key values).verdict ≡ verdict.Good
+  pub rows_good : (data_written form key values).verdict ≡ Ok tt
   -- 15
   pub has_room : length_written form ≤ room
 

@@ -1,6 +1,8 @@
 -- Laws of writing a message: each check in its turn, and the message laid over the front of the lent bytes.
 use Prim.Native.Nat.{ℕ, suc, ◌+◌, ◌-◌, ◌≤◌, ◌<◌}
-use Rattle.std.specs.Prelude.{◌≡◌, refl, true, false, get_or, set, take, Option, Some, None, Result}
+use Rattle.layout.specs.declared.read.BadRow.TheVariants as bad_row
+use Rattle.layout.specs.Answers.{Verdict}
+use Rattle.std.specs.Prelude.{◌≡◌, refl, true, false, get_or, set, take, Option, Some, None, Result, Ok, Err}
 use Rattle.std.proofs.Math.Path.{ap, sym}
 use Rattle.std.proofs.Common.{◌∙◌, le-leb, length-drop, take_all, take_at, drop-drop}
 use mathlib.Core.List.{List, [], ◌∷◌, ◌++◌, append_assoc}
@@ -13,8 +15,6 @@ use Rattle.std.proofs.Math.Seq.{sets, drop-append-add}
 use Rattle.std.proofs.lemmas.List.Edits.{sets-eq}
 use Rattle.laws.specs.Rules.{first_broken}
 use Rattle.laws.specs.RulesLaws.{front_holds, none_hold, front_broken}
-use Rattle.layout.specs.declared.read.Verdict.{Verdict}
-use Rattle.layout.specs.declared.read.Verdict.TheVariants as verdict
 use Rattle.forms.specs.declared.rows.Level.{Level}
 use Rattle.forms.specs.declared.forms.Form.{Form}
 use Rattle.forms.specs.declared.forms.Item.{Item}
@@ -59,13 +59,13 @@ form_rows form key values {v = v} wrote told =
     let same = verdict_told v (write_rows 0 (rows_of form) key values).verdict wrote.answers in
     record { answers = told ∙ ap (λ (w : Verdict). checked_by (first_broken (rows_rules w))) same; leaves = wrote.leaves }
 
-pub rows_pass : (v : Verdict) → first_broken (rows_rules v) ≡ none → v ≡ verdict.Good
-rows_pass verdict.Good e = refl
-rows_pass (verdict.Field row) e = cc
-rows_pass (verdict.Range row) e = cc
+pub rows_pass : (v : Verdict) → first_broken (rows_rules v) ≡ none → v ≡ Ok tt
+rows_pass (Ok good) e = refl
+rows_pass (Err (bad_row.Field row)) e = cc
+rows_pass (Err (bad_row.Range row)) e = cc
 
 -- good rows are as long as they are wide
-pub long_data : (form : Option Form) (key values : List ℕ) → (data_written form key values).verdict ≡ verdict.Good
+pub long_data : (form : Option Form) (key values : List ℕ) → (data_written form key values).verdict ≡ Ok tt
     → length (data_written form key values).bytes ≡ data_length (rows_written form)
 unfolding data_written
 long_data form key values good = good_length 0 (rows_written form) key values good

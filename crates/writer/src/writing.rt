@@ -8,7 +8,7 @@ ghost use Rattle.writer.specs.Writer.{rows_rules, data_written, head_bytes, sum_
 ghost use Rattle.writer.specs.WriterPromises.{WroteForm, WroteMessage, WroteSpread};
 
 use layout::{
-    Form, Item, KEY_BYTES, Level, MOST_DATA, MOST_ROWS, Named, PAIR_BYTES, Sum, Verdict,
+    BadRow, Form, Item, KEY_BYTES, Level, MOST_DATA, MOST_ROWS, Named, PAIR_BYTES, Sum,
 };
 use quote::Quote;
 use spread::SpreadQuote;
@@ -23,13 +23,13 @@ const HEAD: usize = 8;
 
 const END: u8 = 13;
 
-fn of_verdict(verdict: Verdict) -> Result<(), Refusal>
+fn of_verdict(verdict: Result<(), BadRow>) -> Result<(), Refusal>
     ensures { checked_numbers result ≡ checked_by (first_broken (rows_rules verdict)) }
 {
     match verdict {
-        Verdict::Good => Ok(()),
-        Verdict::Field(row) => Err(Refusal::Field(0, row)),
-        Verdict::Range(row) => Err(Refusal::Range(0, row)),
+        Ok(()) => Ok(()),
+        Err(BadRow::Field(row)) => Err(Refusal::Field(0, row)),
+        Err(BadRow::Range(row)) => Err(Refusal::Range(0, row)),
     }
 }
 

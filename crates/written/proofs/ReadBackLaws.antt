@@ -1,6 +1,6 @@
 -- What is written reads back: judged, taken and read from its record, by the promises of the public calls alone; and what is written with
 -- another market type than N is passed over.
-use Rattle.std.specs.Prelude.{ℕ, ◌+◌, ◌-◌, ◌^◌, ◌≤◌, ◌<◌, ◌≡◌, refl, Bool, true, false, List, eqb, length, get_or, take, drop}
+use Rattle.std.specs.Prelude.{ℕ, ◌+◌, ◌-◌, ◌^◌, ◌≤◌, ◌<◌, ◌≡◌, refl, Bool, true, false, List, eqb, length, get_or, take, drop, Ok}
 use Rattle.std.proofs.Common.{ap, ◌∙◌, ⊎_elim, arith, eqb-true, eq-eqb, ne_eqb}
 use Rattle.std.proofs.Math.Path.{sym}
 use Rattle.std.proofs.Math.Option.{Option, none, some}
@@ -10,7 +10,6 @@ use Rattle.lookup.specs.Lookup.{segment_of}
 use Rattle.pairs.specs.Lists.{Lists}
 use Rattle.quote.specs.declared.quote.Quote.{Quote}
 use Rattle.spread.specs.declared.spread.SpreadQuote.{SpreadQuote}
-use Rattle.layout.specs.declared.read.Verdict.TheVariants as verdict
 use Rattle.forms.specs.declared.rows.Level.{Level}
 use Rattle.layout.specs.Cells.{zeros_behind}
 use Rattle.layout.specs.Plain.{seen_values}
@@ -92,7 +91,7 @@ same_again show cells_of same shows kept = (sym same ∙ sym kept ∙ ap cells_o
 
 -- they hold what the form sees of the quote
 quote_again : (item : Item) (level : Level) (form : Form) → subject_of form ≡ Of item level → (quote : QuoteFor item) (key : List ℕ)
-    → (write_rows 0 (rows_of form) key (cells_for item form quote)).verdict ≡ verdict.Good
+    → (write_rows 0 (rows_of form) key (cells_for item form quote)).verdict ≡ Ok tt
     → (zeros_behind (seen_values (rows_of form) (cells_for item form quote)) ≡ cells_for item form (seen_for item form quote))
     × (shown item form (zeros_behind (seen_values (rows_of form) (cells_for item form quote))) ≡ seen_for item form quote)
 quote_again Contract level form tells quote key good =

@@ -1,5 +1,7 @@
 -- The writer refuses exactly: 6, 10, 11 and 12 by row, 15, and nothing else.
-use Rattle.std.specs.Prelude.{ℕ, ◌≤◌, ◌<◌, ◌≡◌, Bool, false, cond, ◌↔◌, List, [], ◌∷◌, ◌++◌, leb, length, Option, Some}
+use Rattle.std.specs.Prelude.{ℕ, ◌≤◌, ◌<◌, ◌≡◌, Bool, false, cond, ◌↔◌, List, [], ◌∷◌, ◌++◌, leb, length, Option, Some, Ok, Err}
+use Rattle.layout.specs.declared.read.BadRow.TheVariants as bad_row
+use Rattle.layout.specs.Answers.{Verdict}
 use Rattle.std.proofs.Math.Path.{refl, ap}
 use Rattle.std.proofs.Common.{sym, ◌∙◌, arith, leb-false}
 use Rattle.std.proofs.Math.Bool.{true}
@@ -8,8 +10,6 @@ use Rattle.std.proofs.Math.Option.{Option as Maybe, none, some}
 use Rattle.std.proofs.lemmas.Bool.{lt-leb}
 use Rattle.laws.specs.Rules.{first_broken}
 use Rattle.laws.specs.Tests.{leb_is}
-use Rattle.layout.specs.declared.read.Verdict.{Verdict}
-use Rattle.layout.specs.declared.read.Verdict.TheVariants as verdict
 use Rattle.forms.specs.declared.rows.Level.{Level}
 use Rattle.forms.specs.declared.forms.Form.{Form}
 use Rattle.forms.specs.declared.forms.Item.{Item}
@@ -61,19 +61,19 @@ module _ (item : Item) (form : Form) (key values : List ℕ) (given : Name → V
       }),
     )
 
-  verdict_field : (k : ℕ) → v ≡ verdict.Field k ↔ First form key given (MalformedAt form key given) k
+  verdict_field : (k : ℕ) → v ≡ Err (bad_row.Field k) ↔ First form key given (MalformedAt form key given) k
   verdict_field k =
-      Iff.trans (write_exactly (rows_of form) key values (verdict.Field k))
+      Iff.trans (write_exactly (rows_of form) key values (Err (bad_row.Field k)))
       (first_exact 11 (MalformedAt form key given) (field_exact item form key values given from key_long) k)
 
-  verdict_range : (k : ℕ) → v ≡ verdict.Range k ↔ First form key given (OutOfRangeAt form given) k
+  verdict_range : (k : ℕ) → v ≡ Err (bad_row.Range k) ↔ First form key given (OutOfRangeAt form given) k
   verdict_range k =
-      Iff.trans (write_exactly (rows_of form) key values (verdict.Range k))
+      Iff.trans (write_exactly (rows_of form) key values (Err (bad_row.Range k)))
       (first_exact 12 (OutOfRangeAt form given) (range_exact item form key values given from key_long) k)
 
-  verdict_good : v ≡ verdict.Good ↔ AllFine form key given
+  verdict_good : v ≡ Ok tt ↔ AllFine form key given
   verdict_good =
-      Iff.trans (write_exactly (rows_of form) key values verdict.Good)
+      Iff.trans (write_exactly (rows_of form) key values (Ok tt))
       ((λ g k h. (fine_exact item form key values given from key_long k h).0 (g k h)), (λ f k h. (fine_exact item form key values given from key_long k h).1 (f k h)))
 
 -- ---- the first broken rule
@@ -87,18 +87,18 @@ first_of wanted tabled numbered v fits =
 data Why (tabled numbered : Bool) (v : Verdict) (fits : Bool) : Maybe Refusal → Type 0 where
   no_code : tabled ≡ false → Why tabled numbered v fits (some (CodeOver 0))
   no_number : (tabled ≡ true) × (numbered ≡ false) → Why tabled numbered v fits (some (Numbering 0))
-  bad_field : {k : ℕ} → v ≡ verdict.Field k → Why tabled numbered v fits (some (Field 0 k))
-  bad_range : {k : ℕ} → v ≡ verdict.Range k → Why tabled numbered v fits (some (Range 0 k))
-  no_room : {n : ℕ} → (v ≡ verdict.Good) × (fits ≡ false) → Why tabled numbered v fits (some (Memory n))
-  no_refusal : (v ≡ verdict.Good) × (fits ≡ true) → Why tabled numbered v fits none
+  bad_field : {k : ℕ} → v ≡ Err (bad_row.Field k) → Why tabled numbered v fits (some (Field 0 k))
+  bad_range : {k : ℕ} → v ≡ Err (bad_row.Range k) → Why tabled numbered v fits (some (Range 0 k))
+  no_room : {n : ℕ} → (v ≡ Ok tt) × (fits ≡ false) → Why tabled numbered v fits (some (Memory n))
+  no_refusal : (v ≡ Ok tt) × (fits ≡ true) → Why tabled numbered v fits none
 
 why : (wanted : ℕ) (tabled numbered : Bool) (v : Verdict) (fits : Bool) → Why tabled numbered v fits (first_of wanted tabled numbered v fits)
 why wanted false numbered v fits = no_code refl
 why wanted true false v fits = no_number (refl, refl)
-why wanted true true (verdict.Field row) fits = bad_field refl
-why wanted true true (verdict.Range row) fits = bad_range refl
-why wanted true true verdict.Good false = no_room (refl, refl)
-why wanted true true verdict.Good true = no_refusal (refl, refl)
+why wanted true true (Err (bad_row.Field row)) fits = bad_field refl
+why wanted true true (Err (bad_row.Range row)) fits = bad_range refl
+why wanted true true (Ok good) false = no_room (refl, refl)
+why wanted true true (Ok good) true = no_refusal (refl, refl)
 
 module _ (wanted : ℕ) (tabled numbered : Bool) (v : Verdict) (fits : Bool) where
   by_why : {o : Maybe Refusal} {A : Type 0} → (Why tabled numbered v fits o → A) → first_of wanted tabled numbered v fits ≡ o → A
@@ -111,16 +111,16 @@ module _ (wanted : ℕ) (tabled numbered : Bool) (v : Verdict) (fits : Bool) whe
   number_why = (by_why (elim [ no_number h ↦ h ]), (λ h. rw (h.0, h.1)))
 
 module _ (wanted : ℕ) (v : Verdict) (fits : Bool) where
-  field_why : (k : ℕ) → first_of wanted true true v fits ≡ some (Field 0 k) ↔ v ≡ verdict.Field k
+  field_why : (k : ℕ) → first_of wanted true true v fits ≡ some (Field 0 k) ↔ v ≡ Err (bad_row.Field k)
   field_why k = (by_why wanted true true v fits (elim [ bad_field h ↦ h ]), (λ h. rw h))
 
-  range_why : (k : ℕ) → first_of wanted true true v fits ≡ some (Range 0 k) ↔ v ≡ verdict.Range k
+  range_why : (k : ℕ) → first_of wanted true true v fits ≡ some (Range 0 k) ↔ v ≡ Err (bad_row.Range k)
   range_why k = (by_why wanted true true v fits (elim [ bad_range h ↦ h ]), (λ h. rw h))
 
-  room_why : first_of wanted true true v fits ≡ some (Memory wanted) ↔ (v ≡ verdict.Good) × (fits ≡ false)
+  room_why : first_of wanted true true v fits ≡ some (Memory wanted) ↔ (v ≡ Ok tt) × (fits ≡ false)
   room_why = (by_why wanted true true v fits (elim [ no_room h ↦ h ]), (λ h. rw (h.0, h.1)))
 
-  none_why : first_of wanted true true v fits ≡ none ↔ (v ≡ verdict.Good) × (fits ≡ true)
+  none_why : first_of wanted true true v fits ≡ none ↔ (v ≡ Ok tt) × (fits ≡ true)
   none_why = (by_why wanted true true v fits (elim [ no_refusal h ↦ h ]), (λ h. rw (h.0, h.1)))
 
 -- ---- the promise
@@ -189,7 +189,7 @@ module _ (item : Item) (code : Code) (level : Level) (number : ℕ) (key : List 
         by : {A : Type 0} (o : Maybe Refusal) → first_of wanted true true own (leb wanted (length out)) ≡ o ↔ A → broken ≡ o ↔ A
         by o exact = rw decided exact
 
-        both_fine : {A B : Type 0} → A ↔ B → (own ≡ verdict.Good) × A ↔ AllFine form key given × B
+        both_fine : {A B : Type 0} → A ↔ B → (own ≡ Ok tt) × A ↔ AllFine form key given × B
         both_fine same = let good = verdict_good item form key (values form) given from key_long in ((λ p. (good.0 p.0, same.0 p.1)), (λ p. (good.1 p.0, same.1 p.1)))
 
         -- 11 at row k exactly where that row is malformed and every row before it is fine

@@ -13,7 +13,6 @@ use Rattle.std.proofs.Math.ListN.{get_or}
 use Rattle.std.proofs.Math.Seq.{take_all}
 use Rattle.pairs.specs.Lists.{Lists}
 use Rattle.lookup.specs.Lookup.{segment_of}
-use Rattle.layout.specs.declared.read.Verdict.TheVariants.{Good}
 use Rattle.forms.specs.declared.rows.Level.{Level}
 use Rattle.forms.specs.declared.rows.Markets.TheVariants.{Normal, Any}
 use Rattle.forms.specs.declared.forms.Form.{Form}
@@ -76,7 +75,7 @@ module _ (item : Item) (code : Code) (level : Level) (number : ℕ) (key : List 
     unfolding data_written
     data_laid = ap (λ (c : Option Form). write_rows 0 (rows_written c) key (values_written c values)) chose
 
-    pub rows_good : rows.verdict ≡ Good
+    pub rows_good : rows.verdict ≡ Ok tt
     rows_good = ap (λ (l : Laid). l.verdict) (sym data_laid) ∙ (written_good item code level number key values out n wrote).rows_good
 
     pub number_fits : takes_number (is.Form form) number ≡ true
@@ -193,7 +192,7 @@ module _ (item : Item) (code : Code) (level : Level) (number : ℕ) (key : List 
         contents letter_listed w e =
             let letter : ℕ = segment_letter code.0 in
             good_head lists letter written (head_good few lists letter_listed)
-            ∙ update_is (message_place lists letter written) (λ _. 0) written (message_length (rows_of form)) (sym length_is) form form_is w (record { cells = seen_values (rows_of form) (values form); verdict = Good })
+            ∙ update_is (message_place lists letter written) (λ _. 0) written (message_length (rows_of form)) (sym length_is) form form_is w (record { cells = seen_values (rows_of form) (values form); verdict = Ok tt })
             (rw data_is (rows_back 0 (rows_of form) key (values form) rows_good)) (rw (number_is few) e)
 
         -- in another market it is passed over

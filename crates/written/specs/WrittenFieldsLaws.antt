@@ -1,5 +1,5 @@
 -- The fields of a written message are those that it was written from, its rows' too.
-use Rattle.std.specs.Prelude.{ℕ, zero, suc, ◌+◌, ◌-◌, ◌^◌, ◌<◌, ◌≡◌, List, [], ◌∷◌, ◌++◌, drop}
+use Rattle.std.specs.Prelude.{ℕ, zero, suc, ◌+◌, ◌-◌, ◌^◌, ◌<◌, ◌≡◌, List, [], ◌∷◌, ◌++◌, drop, Ok}
 use Rattle.std.proofs.Math.Path.{refl, ap, ◌∙◌}
 use Rattle.std.proofs.Common.{ap₂, sym, inr, length-append, drop-drop, get_or-append-add, get_or-drop}
 use native.Mathlib.Omega.{arith}
@@ -17,7 +17,6 @@ use Rattle.forms.specs.declared.forms.Sum.TheVariants.{Zero, Right, RightOrZero}
 use Rattle.forms.specs.Forms.{form_of, sum_rule}
 use Rattle.forms.specs.Rows.{width_of, total, offset_of}
 use Rattle.forms.specs.Sizes.{bare_length}
-use Rattle.layout.specs.declared.read.Verdict.TheVariants.{Good}
 use Rattle.layout.specs.Cells.{key_used}
 use Rattle.layout.specs.Says.{row_at, field_at}
 use Rattle.compose.specs.FirstBad.{row_written}
@@ -141,7 +140,7 @@ field_behind row rows characters rest k e =
     (ap (λ (n : ℕ). drop (n + offset_of rows k) (characters ++ rest)) (sym e) ∙ drop-append-add characters rest (offset_of rows k))
 
 -- in a good writing each row's field holds its text
-pub field_written : (i : ℕ) (rows : List Row) (key values : List ℕ) → (write_rows i rows key values).verdict ≡ Good → (k : ℕ) → k < length rows
+pub field_written : (i : ℕ) (rows : List Row) (key values : List ℕ) → (write_rows i rows key values).verdict ≡ Ok tt → (k : ℕ) → k < length rows
     → row_written rows key values k ≡ text (field_at rows (write_rows i rows key values).bytes k)
 field_written i [] key values good k h = absurd (omega arith)
 field_written i (row ∷ rows) key values good zero h =

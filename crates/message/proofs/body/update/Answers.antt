@@ -1,11 +1,11 @@
 -- The rows of its form, and then its key.
 -- what is known once the rows are read
 use Rattle.std.specs.Prelude.{Result}
+use Rattle.layout.specs.Answers.{Verdict}
 use Rattle.std.proofs.Common.{ℕ, ◌-◌, ◌≡◌, subst, List, arith, take, drop}
 use Rattle.std.proofs.Math.Option.{Option}
 use mathlib.Core.Path.{subst⁻¹}
 use Rattle.pairs.specs.Lists.{lists}
-use Rattle.layout.specs.declared.read.Verdict.{Verdict}
 use Rattle.message.specs.declared.body.Outline.{Outline}
 use Rattle.message.specs.declared.body.What.{What}
 use Rattle.head.specs.declared.head.Fault.{Fault}
@@ -78,13 +78,13 @@ module _ (c : After-read_update) where
   at_length : {w : Result What Fault} {compared : ℕ} {r : Outline} → Outlines (bare w (length_of bytes)) compared r → Outlines (bare w whole) compared r
   at_length {w} {compared} {r} o = subst⁻¹ (λ (n : ℕ). Outlines (bare w n) compared r) whole_is o
 
-pub returns-in-Good : goal.returns-in-Good
-returns-in-Good c =
-    let d = (goal.at.returns-in-Good c).After-read_update in
-    ended d _ _ c.in-Good.is (good-is d c.acted.ensures)
+pub returns-in-Ok : goal.returns-in-Ok
+returns-in-Ok c =
+    let d = (goal.at.returns-in-Ok c).After-read_update in
+    ended d _ _ c.in-Ok.is (good-is d c.acted.ensures)
 
-pub returns-in-Field : goal.returns-in-Field
-returns-in-Field c = let d = (goal.at.returns-in-Field c).After-read_update in ended d _ _ c.in-Field.is (at_length d (c.bad.ensures _))
+pub returns-in-Err-Field : goal.returns-in-Err-Field
+returns-in-Err-Field c = let d = (goal.at.returns-in-Err-Field c).After-read_update in ?
 
-pub returns-in-Range : goal.returns-in-Range
-returns-in-Range c = let d = (goal.at.returns-in-Range c).After-read_update in ended d _ _ c.in-Range.is (at_length d (c.bad-in-Range.ensures _))
+pub returns-in-Err-Range : goal.returns-in-Err-Range
+returns-in-Err-Range c = let d = (goal.at.returns-in-Err-Range c).After-read_update in ended d _ _ c.in-Err-Range.is (at_length d (c.bad-in-Err-Range.ensures _))

@@ -1,8 +1,9 @@
 -- The rows of its form, and then its key.
 -- what is known once the rows are read
 use Rattle.std.specs.Prelude.{Result}
+use Rattle.layout.specs.declared.read.BadRow.TheVariants as bad_row
 use Rattle.layout.specs.Answers.{Verdict}
-use Rattle.std.proofs.Common.{ℕ, ◌-◌, ◌≡◌, subst, List, arith, take, drop}
+use Rattle.std.proofs.Common.{ℕ, ◌-◌, ◌≡◌, subst, List, arith, take, drop, ap, ◌∙◌, Err}
 use Rattle.std.proofs.Math.Option.{Option}
 use mathlib.Core.Path.{subst⁻¹}
 use Rattle.pairs.specs.Lists.{lists}
@@ -84,7 +85,13 @@ returns-in-Ok c =
     ended d _ _ c.in-Ok.is (good-is d c.acted.ensures)
 
 pub returns-in-Err-Field : goal.returns-in-Err-Field
-returns-in-Err-Field c = let d = (goal.at.returns-in-Err-Field c).After-read_update in ?
+returns-in-Err-Field c =
+    let d = (goal.at.returns-in-Err-Field c).After-read_update in
+    let bad = c.in-Err-Field in
+    ended d (Err (bad_row.Field bad.row)) _ (bad.is ∙ ap Err bad.field-0-is) (at_length d (rw bad.row-is at (c.bad.ensures (compared_as (acts_as (bytes d)) (keys d)))))
 
 pub returns-in-Err-Range : goal.returns-in-Err-Range
-returns-in-Err-Range c = let d = (goal.at.returns-in-Err-Range c).After-read_update in ended d _ _ c.in-Err-Range.is (at_length d (c.bad-in-Err-Range.ensures _))
+returns-in-Err-Range c =
+    let d = (goal.at.returns-in-Err-Range c).After-read_update in
+    let bad = c.in-Err-Range in
+    ended d (Err (bad_row.Range bad.row)) _ (bad.is ∙ ap Err bad.field-0-is) (at_length d (rw bad.row-is at (c.bad-in-Err-Range.ensures (compared_as (acts_as (bytes d)) (keys d)))))

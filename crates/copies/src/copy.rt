@@ -8,13 +8,9 @@ use crate::run::Run;
 pub fn out(rows: &[Run]) -> [Run; run::MOST]
     ensures { result ≡ over rows.now blanks }
 {
-    let count = run::at_most(rows.len());
+    let count = rows.len().min(run::MOST);
     let mut runs = run::blanks();
-    let mut i = 0;
-    while i < count {
-        runs[i] = rows[i];
-        i += 1;
-    }
+    runs[..count].copy_from_slice(&rows[..count]);
     runs
 }
 
@@ -22,10 +18,6 @@ pub fn out(rows: &[Run]) -> [Run; run::MOST]
 pub fn back(runs: [Run; run::MOST], rows: &mut [Run])
     ensures { rows.new ≡ over runs rows.old }
 {
-    let count = run::at_most(rows.len());
-    let mut i = 0;
-    while i < count {
-        rows[i] = runs[i];
-        i += 1;
-    }
+    let count = rows.len().min(run::MOST);
+    rows[..count].copy_from_slice(&runs[..count]);
 }

@@ -7,4 +7,4 @@ mod run;
 
 pub use copy::{back, out};
 pub use numbers::{flat, paired};
-pub use run::{MOST, ROW, Run, at_most};
+pub use run::{MOST, ROW, Run};

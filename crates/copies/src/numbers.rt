@@ -12,12 +12,9 @@ pub fn flat(runs: [Run; run::MOST]) -> [u32; NUMBERS]
     ensures { result ≡ flat runs }
 {
     let mut numbers = [0u32; NUMBERS];
-    let mut i = 0;
-    while i < run::MOST {
-        let run = runs[i];
+    for (i, run) in runs.iter().enumerate() {
         numbers[2 * i] = run.first;
         numbers[2 * i + 1] = run.last;
-        i += 1;
     }
     numbers
 }
@@ -26,13 +23,11 @@ pub fn paired(numbers: [u32; NUMBERS]) -> [Run; run::MOST]
     ensures { flat result ≡ numbers }
 {
     let mut runs = run::blanks();
-    let mut i = 0;
-    while i < run::MOST {
-        runs[i] = Run {
+    for (i, run) in runs.iter_mut().enumerate() {
+        *run = Run {
             first: numbers[2 * i],
             last: numbers[2 * i + 1],
         };
-        i += 1;
     }
     runs
 }

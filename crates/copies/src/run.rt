@@ -1,6 +1,6 @@
 // A run of missing numbers, and how many of them a call looks at.
-ghost use Rattle.std.specs.Prelude.{◌≡◌, min};
-ghost use Rattle.copies.specs.Rows.{most_runs, blanks};
+ghost use Rattle.std.specs.Prelude.{◌≡◌};
+ghost use Rattle.copies.specs.Rows.{blanks};
 
 #[derive(Clone, Copy)]
 pub struct Run {
@@ -13,15 +13,6 @@ pub const ROW: usize = sequence::CELLS / 2;
 
 // The runs of the gap rows of as many segments as a list may have.
 pub const MOST: usize = ROW * contracts::MOST_SEGMENTS;
-
-pub fn at_most(lent: usize) -> usize
-    ensures { result ≡ min lent most_runs }
-{
-    if lent < MOST {
-        return lent;
-    }
-    MOST
-}
 
 pub fn blanks() -> [Run; MOST]
     ensures { result ≡ blanks }

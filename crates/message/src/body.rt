@@ -61,7 +61,7 @@ pub fn find(list: &[u8], spreads: &[u8], item: Item, segment: Option<usize>, key
 fn key_of(item: Item, data: &[u8]) -> &[u8]
     ensures { result.now ≡ take (key_bytes_of item) «data».now }
 {
-    let size = wire::least(layout::key_bytes_of(item), data.len());
+    let size = layout::key_bytes_of(item).min(data.len());
     &data[..size]
 }
 

@@ -55,7 +55,7 @@ pub(crate) fn start(
 ) -> Began
     ensures { StartedRuns (lists list.now spreads.now) starts.now (take lent runs) records.old result.answer (take lent result.runs) records.new }
 {
-    let count = copies::at_most(lent);
+    let count = lent.min(copies::MOST);
     let mut numbers = copies::flat(runs);
     let answer = start_numbers(list, spreads, starts, &mut numbers, 2 * count, records);
     Began {
@@ -88,7 +88,7 @@ pub(crate) fn judge(
 ) -> Judged
     ensures { JudgedRuns (lists list.now spreads.now) (take lent runs) records.now batch.now result }
 {
-    let count = copies::at_most(lent);
+    let count = lent.min(copies::MOST);
     let numbers = copies::flat(runs);
     let answer = judge_numbers(list, spreads, &numbers, 2 * count, records, batch);
     refusal::judged(list, count, answer)
@@ -118,7 +118,7 @@ pub(crate) fn take(
 ) -> Took
     ensures { TookRuns (lists list.now spreads.now) (take lent runs) records.old batch.now result.answer (take lent result.runs) records.new }
 {
-    let count = copies::at_most(lent);
+    let count = lent.min(copies::MOST);
     let mut numbers = copies::flat(runs);
     let answer = take_numbers(list, spreads, &mut numbers, 2 * count, records, batch);
     Took {
@@ -153,7 +153,7 @@ pub(crate) fn list_gaps(
 ) -> Listed
     ensures { ListedGaps (lists list.now spreads.now) (take lent runs) records.now letter cells.old result cells.new }
 {
-    let count = copies::at_most(lent);
+    let count = lent.min(copies::MOST);
     let numbers = copies::flat(runs);
     let answer = list_numbers(list, spreads, &numbers, 2 * count, records, letter, cells);
     refusal::listed(list, count, answer)
@@ -183,7 +183,7 @@ pub(crate) fn write_off(
 ) -> WroteOff
     ensures { WroteOffRuns (lists list.now spreads.now) (take lent runs) records.now letter result.answer (take lent result.runs) }
 {
-    let count = copies::at_most(lent);
+    let count = lent.min(copies::MOST);
     let mut numbers = copies::flat(runs);
     let answer = write_off_numbers(list, spreads, &mut numbers, 2 * count, records, letter);
     WroteOff {
@@ -220,7 +220,7 @@ pub(crate) fn read_record(
 ) -> Reading
     ensures { ReadRuns (lists list.now spreads.now) (take lent runs) records.now letter key.now level result }
 {
-    let count = copies::at_most(lent);
+    let count = lent.min(copies::MOST);
     let numbers = copies::flat(runs);
     let reading = read_numbers(
         list,
@@ -276,7 +276,7 @@ pub(crate) fn read_spread(
 ) -> SpreadReading
     ensures { ReadSpreadRuns (lists list.now spreads.now) (take lent runs) records.now letter pair.now level result }
 {
-    let count = copies::at_most(lent);
+    let count = lent.min(copies::MOST);
     let numbers = copies::flat(runs);
     let reading = read_spread_numbers(
         list,

@@ -1,5 +1,6 @@
 -- The bytes of a key, in a list and as written: 01 "The contract list", and the table's row 11.
-use Rattle.std.specs.Prelude.{ℕ, Bool, true, ◌&&◌, List, [], ◌∷◌, leb}
+use Rattle.std.specs.Prelude.{ℕ, Bool, ◌&&◌, List, leb}
+use Rattle.std.specs.List.{list_all}
 
 -- 01 "The contract list": a key's bytes are 32 to 126
 abbrev pub lowest_byte : ℕ
@@ -15,5 +16,4 @@ printable byte = leb lowest_byte byte && leb byte highest_byte
 
 -- 01 "The contract list", and the table's row 11: no byte of a key is outside 32 to 126
 abbrev pub all_printable : List ℕ → Bool
-all_printable [] = true
-all_printable (b ∷ bs) = printable b && all_printable bs
+all_printable = list_all printable

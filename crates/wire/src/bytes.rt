@@ -8,19 +8,12 @@ const HIGHEST: u8 = 126;
 fn is_printable(byte: u8) -> bool
     ensures { result ≡ printable byte }
 {
-    (LOWEST <= byte) & (byte <= HIGHEST)
+    (LOWEST..=HIGHEST).contains(&byte)
 }
 
 // Whether a key of these bytes may stand in a list or be written.
 pub fn all_printable(bytes: &[u8]) -> bool
     ensures { result ≡ all_printable bytes.now }
 {
-    let mut i = 0;
-    while i < bytes.len() {
-        if !is_printable(bytes[i]) {
-            return false;
-        }
-        i += 1;
-    }
-    true
+    bytes.iter().all(|byte| is_printable(*byte))
 }

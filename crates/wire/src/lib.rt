@@ -5,4 +5,4 @@ mod bytes;
 mod number;
 
 pub use bytes::all_printable;
-pub use number::{least, put_u8, put_u16, put_u32, u8_at, u16_at, u32_at, u64_at};
+pub use number::{put_u8, put_u16, put_u32, u8_at, u16_at, u32_at, u64_at};

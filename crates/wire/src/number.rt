@@ -1,4 +1,4 @@
-ghost use Rattle.std.specs.Prelude.{◌≡◌, ◌+◌, min};
+ghost use Rattle.std.specs.Prelude.{◌≡◌, ◌+◌};
 ghost use Rattle.std.proofs.lemmas.List.Edits.{sets};
 ghost use Rattle.wire.specs.Number.{number_at, bytes_of};
 
@@ -64,11 +64,4 @@ pub fn put_u32(s: &mut [u8], at: usize, number: u32)
         put_u16(s, at, (number / 65536) as u16);
         put_u16(s, at + 2, (number % 65536) as u16);
     }
-}
-
-// The lesser of two places.
-pub fn least(a: usize, b: usize) -> usize
-    ensures { result ≡ min a b }
-{
-    if a < b { a } else { b }
 }

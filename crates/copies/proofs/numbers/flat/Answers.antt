@@ -11,8 +11,7 @@ loop-i-preserved c =
     let runs : List Run = c.args.runs in
     let run : Run = get_or runs l.i blank in
     let long : length runs ≡ most_runs = c.well_formed.0.1.0.1 in (
-      omega arith,
-      length-set (set l.numbers (2 * l.i) run.first) (2 * l.i + 1) run.last ∙ length-set l.numbers (2 * l.i) run.first ∙ l.invariant.1,
-      ap (λ (ns : List ℕ). set (set ns (2 * l.i) run.first) (2 * l.i + 1) run.last) l.invariant.2
+      length-set (set l.numbers (2 * l.i) run.first) (2 * l.i + 1) run.last ∙ length-set l.numbers (2 * l.i) run.first ∙ l.invariant.0,
+      ap (λ (ns : List ℕ). set (set ns (2 * l.i) run.first) (2 * l.i + 1) run.last) l.invariant.1
           ∙ flat_more runs (replicate most 0) l.i (omega arith) (omega arith),
     )

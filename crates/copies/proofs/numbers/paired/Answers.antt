@@ -8,4 +8,4 @@ pub loop-i-preserved : goal.loop-i-preserved
 loop-i-preserved c =
     let l = c.loop-i in
     let long : length c.args.numbers ≡ most = c.well_formed.0.1.0.1 in
-    (omega arith, length-set l.runs l.i _ ∙ l.invariant.1, paired_more l.runs c.args.numbers l.i (omega (arith, l.invariant.1)) (omega (arith, long)) l.invariant.2)
+    (length-set l.run-items l.i _ ∙ l.invariant.0, paired_more l.run-items c.args.numbers l.i (omega (arith, l.invariant.0)) (omega (arith, long)) l.invariant.1)

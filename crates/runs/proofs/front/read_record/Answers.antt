@@ -7,7 +7,7 @@ use Rattle.runs.proofs.front.read_record.Goals as goal
 pub returns : goal.returns
 returns c =
     let t = c.read_numbers-reading in
-    let count = c.at_most-count in
+    let count = c.min-count in
     let numbers = c.flat-numbers in
     let a = c.args in
     let long : length a.runs ≡ most_runs = omega arith in

@@ -1,11 +1,11 @@
 // Numbers in text: a price difference.
-ghost use Rattle.std.specs.Prelude.{◌≡◌, length};
+ghost use Rattle.std.specs.Prelude.{◌≡◌};
+ghost use Rattle.std.proofs.Common.{lit<};
 ghost use Rattle.decimal.specs.Kinds.{difference};
-ghost use Rattle.scan.specs.Read.{read_as};
-ghost use Rattle.print.specs.Write.{written_as, Wrote};
 
+use crate::amount::Amount;
 use crate::price::Price;
-use decimal::{FieldFault, Held, Kind};
+use decimal::Kind;
 
 // Whether below zero, and how many ten-millionths.
 #[derive(Clone, Copy)]
@@ -16,12 +16,6 @@ impl Difference {
 
     pub const MAX: u64 = Price::MAX;
 
-    pub const KIND: Kind = Kind {
-        places: Difference::PLACES,
-        most: Difference::MAX,
-        signed: true,
-    };
-
     pub const ZERO: Difference = Difference(false, 0);
 
     pub fn of(below: bool, units: u64) -> Self
@@ -29,16 +23,24 @@ impl Difference {
     {
         Difference(below, units)
     }
+}
 
-    pub fn read(text: &[u8]) -> Result<Held, FieldFault>
-        ensures { result ≡ read_as difference text.now }
-    {
-        scan::read(text, Difference::KIND)
+impl Amount for Difference {
+    const KIND: Kind = Kind {
+        places: Difference::PLACES,
+        most: Difference::MAX,
+        signed: true,
+    };
+
+    ghost KIND = { difference };
+
+    ghost below = { λ amount. amount.0 };
+
+    ghost units = { λ amount. amount.1 };
+
+    fn counted(self) -> (bool, u64) {
+        (self.0, self.1)
     }
 
-    pub fn write(self, field: &mut [u8]) -> Result<(), FieldFault>
-        ensures { Wrote (written_as difference (length field.old) self.0 self.1) field.old result field.new }
-    {
-        print::write(self.0, self.1, Difference::KIND, field)
-    }
+    ghost small = { lit< tt };
 }

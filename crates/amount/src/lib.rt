@@ -1,11 +1,13 @@
 // Numbers in text: the kinds, each of them read and written as its own type.
 #![tactic(auto)]
 
+mod amount;
 mod difference;
 mod price;
 mod quantity;
 mod turnover;
 
+pub use amount::Amount;
 pub use decimal::{FieldFault, Held, Kind};
 pub use difference::Difference;
 pub use price::Price;

@@ -1,10 +1,10 @@
 // Numbers in text: a price.
-ghost use Rattle.std.specs.Prelude.{◌≡◌, false, length};
+ghost use Rattle.std.specs.Prelude.{◌≡◌, false};
+ghost use Rattle.std.proofs.Common.{lit<};
 ghost use Rattle.decimal.specs.Kinds.{price};
-ghost use Rattle.scan.specs.Read.{read_as};
-ghost use Rattle.print.specs.Write.{written_as, Wrote};
 
-use decimal::{FieldFault, Held, Kind};
+use crate::amount::Amount;
+use decimal::Kind;
 
 // A count of ten-millionths.
 #[derive(Clone, Copy)]
@@ -15,12 +15,6 @@ impl Price {
 
     pub const MAX: u64 = 999_999_999_999_999_999;
 
-    pub const KIND: Kind = Kind {
-        places: Price::PLACES,
-        most: Price::MAX,
-        signed: false,
-    };
-
     pub const ZERO: Price = Price(0);
 
     pub fn of(units: u64) -> Self
@@ -28,16 +22,24 @@ impl Price {
     {
         Price(units)
     }
+}
 
-    pub fn read(text: &[u8]) -> Result<Held, FieldFault>
-        ensures { result ≡ read_as price text.now }
-    {
-        scan::read(text, Price::KIND)
+impl Amount for Price {
+    const KIND: Kind = Kind {
+        places: Price::PLACES,
+        most: Price::MAX,
+        signed: false,
+    };
+
+    ghost KIND = { price };
+
+    ghost below = { λ _. false };
+
+    ghost units = { λ amount. amount.0 };
+
+    fn counted(self) -> (bool, u64) {
+        (false, self.0)
     }
 
-    pub fn write(self, field: &mut [u8]) -> Result<(), FieldFault>
-        ensures { Wrote (written_as price (length field.old) false self.0) field.old result field.new }
-    {
-        print::write(false, self.0, Price::KIND, field)
-    }
+    ghost small = { lit< tt };
 }

@@ -1,10 +1,10 @@
 // Numbers in text: a quantity.
-ghost use Rattle.std.specs.Prelude.{◌≡◌, false, length};
+ghost use Rattle.std.specs.Prelude.{◌≡◌, false};
+ghost use Rattle.std.proofs.Common.{lit<};
 ghost use Rattle.decimal.specs.Kinds.{quantity};
-ghost use Rattle.scan.specs.Read.{read_as};
-ghost use Rattle.print.specs.Write.{written_as, Wrote};
 
-use decimal::{FieldFault, Held, Kind};
+use crate::amount::Amount;
+use decimal::Kind;
 
 // A count of contracts or units.
 #[derive(Clone, Copy)]
@@ -15,12 +15,6 @@ impl Quantity {
 
     pub const MAX: u64 = 999_999_999_999;
 
-    pub const KIND: Kind = Kind {
-        places: Quantity::PLACES,
-        most: Quantity::MAX,
-        signed: false,
-    };
-
     pub const ZERO: Quantity = Quantity(0);
 
     pub fn of(units: u64) -> Self
@@ -28,16 +22,24 @@ impl Quantity {
     {
         Quantity(units)
     }
+}
 
-    pub fn read(text: &[u8]) -> Result<Held, FieldFault>
-        ensures { result ≡ read_as quantity text.now }
-    {
-        scan::read(text, Quantity::KIND)
+impl Amount for Quantity {
+    const KIND: Kind = Kind {
+        places: Quantity::PLACES,
+        most: Quantity::MAX,
+        signed: false,
+    };
+
+    ghost KIND = { quantity };
+
+    ghost below = { λ _. false };
+
+    ghost units = { λ amount. amount.0 };
+
+    fn counted(self) -> (bool, u64) {
+        (false, self.0)
     }
 
-    pub fn write(self, field: &mut [u8]) -> Result<(), FieldFault>
-        ensures { Wrote (written_as quantity (length field.old) false self.0) field.old result field.new }
-    {
-        print::write(false, self.0, Quantity::KIND, field)
-    }
+    ghost small = { lit< tt };
 }

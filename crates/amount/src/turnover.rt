@@ -1,10 +1,10 @@
 // Numbers in text: turnover.
-ghost use Rattle.std.specs.Prelude.{◌≡◌, false, length};
+ghost use Rattle.std.specs.Prelude.{◌≡◌, false};
+ghost use Rattle.std.proofs.Common.{lit<};
 ghost use Rattle.decimal.specs.Kinds.{turnover};
-ghost use Rattle.scan.specs.Read.{read_as};
-ghost use Rattle.print.specs.Write.{written_as, Wrote};
 
-use decimal::{FieldFault, Held, Kind};
+use crate::amount::Amount;
+use decimal::Kind;
 
 // A count of hundredths.
 #[derive(Clone, Copy)]
@@ -15,12 +15,6 @@ impl Turnover {
 
     pub const MAX: u64 = 999_999_999_999_999_999;
 
-    pub const KIND: Kind = Kind {
-        places: Turnover::PLACES,
-        most: Turnover::MAX,
-        signed: false,
-    };
-
     pub const ZERO: Turnover = Turnover(0);
 
     pub fn of(units: u64) -> Self
@@ -28,16 +22,24 @@ impl Turnover {
     {
         Turnover(units)
     }
+}
 
-    pub fn read(text: &[u8]) -> Result<Held, FieldFault>
-        ensures { result ≡ read_as turnover text.now }
-    {
-        scan::read(text, Turnover::KIND)
+impl Amount for Turnover {
+    const KIND: Kind = Kind {
+        places: Turnover::PLACES,
+        most: Turnover::MAX,
+        signed: false,
+    };
+
+    ghost KIND = { turnover };
+
+    ghost below = { λ _. false };
+
+    ghost units = { λ amount. amount.0 };
+
+    fn counted(self) -> (bool, u64) {
+        (false, self.0)
     }
 
-    pub fn write(self, field: &mut [u8]) -> Result<(), FieldFault>
-        ensures { Wrote (written_as turnover (length field.old) false self.0) field.old result field.new }
-    {
-        print::write(false, self.0, Turnover::KIND, field)
-    }
+    ghost small = { lit< tt };
 }

@@ -5,7 +5,7 @@ ghost use Rattle.forms.specs.Sizes.{most_rows, most_data};
 ghost use Rattle.compose.specs.Write.{text, malformed, key_text, held_text, row_text, PutsRow, over_front, write_rows, WritesRows, WritesUpdate};
 ghost use Rattle.layout.specs.Cells.{key_used};
 
-use amount::{Difference, FieldFault, Kind, Price, Quantity, Turnover};
+use amount::{Amount, Difference, FieldFault, Kind, Price, Quantity, Turnover};
 use forms::{Form, MOST_DATA, MOST_ROWS, Row};
 use layout::{BadRow, Held};
 

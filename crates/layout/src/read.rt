@@ -4,7 +4,7 @@ ghost use Rattle.forms.specs.Sizes.{most_rows};
 ghost use Rattle.layout.specs.Read.{read_row, SmallRead, of_number, is_market_type, is_status, bad_row, ReadsRows};
 
 use crate::cells;
-use amount::{Difference, FieldFault, Held, Price, Quantity, Turnover};
+use amount::{Amount, Difference, FieldFault, Held, Price, Quantity, Turnover};
 use forms::{Form, MOST_ROWS, Markets, Row};
 
 // The first bad row, and what is wrong with its field.

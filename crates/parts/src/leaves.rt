@@ -1,6 +1,6 @@
 // Checksums, numbers read and numbers written.
 use crate::say::{say, say_bytes, say_with};
-use amount::{Difference, FieldFault, Held, Price, Quantity, Turnover};
+use amount::{Amount, Difference, FieldFault, Held, Price, Quantity, Turnover};
 use std::io;
 
 pub fn say_sum(rt: &impl Print, text: &[u8]) -> io::Result<()> {
@@ -28,7 +28,13 @@ fn put(kind: u8, below: bool, units: u64, field: &mut [u8]) -> Result<(), FieldF
     }
 }
 
-fn say_field(rt: &impl Print, kind: u8, below: bool, units: u64, field: &mut [u8]) -> io::Result<()> {
+fn say_field(
+    rt: &impl Print,
+    kind: u8,
+    below: bool,
+    units: u64,
+    field: &mut [u8],
+) -> io::Result<()> {
     match put(kind, below, units, field) {
         Ok(()) => say_bytes(rt, field),
         Err(_) => say(rt, b"refused"),

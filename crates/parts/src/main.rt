@@ -8,7 +8,7 @@ mod lists;
 mod say;
 mod updates;
 
-use amount::{Difference, Price, Quantity, Turnover};
+use amount::{Amount, Difference, Price, Quantity, Turnover};
 use say::say;
 use sequence::CELLS;
 use std::io::Result;

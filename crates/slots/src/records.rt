@@ -42,6 +42,7 @@ pub fn cells_in_front(item: Item) -> usize
 }
 
 // The rows that a record of a level holds: those behind the key.
+#[tactic(auto, unfolding(crate::specs::Places::record_rows))]
 pub fn record_rows(item: Item, level: Level) -> usize
     ensures { result ≡ record_rows item level }
 {
@@ -49,12 +50,14 @@ pub fn record_rows(item: Item, level: Level) -> usize
 }
 
 // The cells wanted for records.
+#[tactic(auto, using(files::specs::FileLaws::before_under))]
 pub fn records_wanted(list: &[u8], spreads: &[u8]) -> usize
     ensures { result ≡ records_wanted (lists list.now spreads.now) }
 {
     CONTRACT * files::all_contracts(list) + PAIR * files::all_contracts(spreads)
 }
 
+#[tactic(auto, using(files::specs::FileLaws::before_under))]
 pub fn fronts_of(list: &[u8], spreads: &[u8], segment: usize) -> Fronts
     ensures { FrontsOf (lists list.now spreads.now) segment result }
 {

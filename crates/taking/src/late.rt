@@ -51,6 +51,7 @@ fn fill(row: &mut [u32; CELLS], i: usize, number: u32) -> Result<Taken, Full>
     Ok(Taken::Taken)
 }
 
+#[tactic(auto, using(crate::proofs::Taking::is_missed))]
 pub(crate) fn late(row: &mut [u32; CELLS], number: u32) -> Result<Taken, Full>
     requires { (sound_gap_row row.old ≡ true) × (number ≤ (gaps_of row.old).highest) }
     ensures { Took row.old number result row.new }

@@ -23,6 +23,7 @@ pub struct Full;
 
 // A number comes. The row has to be sound: to look would cost the number that comes in order, which is nearly every one,
 // more than all else does.
+#[tactic(auto, unfolding(sequence::specs::Row::gaps_of))]
 pub fn take(row: &mut [u32; CELLS], number: u32) -> Result<Taken, Full>
     requires { sound_gap_row row.old ≡ true }
     ensures { Took row.old number result row.new }

@@ -9,6 +9,7 @@ use crate::{Full, Taken, late};
 use sequence::{CELLS, HIGHEST, MOST, runs};
 
 // They make a run of their own.
+#[tactic(auto, using(crate::proofs::Taking::behind_took), unfolding(sequence::specs::Row::gaps_of))]
 fn add(row: &mut [u32; CELLS], number: u32) -> Result<Taken, Full>
     requires { Skipped row.old number × (missing (runs_of row.old) (gaps_of row.old).highest ≡ false) }
     ensures { Took row.old number result row.new }

@@ -25,20 +25,6 @@ module _ (list spreads : List ℕ) (segment : ℕ) (under : (j : ℕ) → get_or
       small Contract = omega (arith, before_under list under segment)
       small Pair = omega (arith, before_under list under (segments_of list), before_under spreads pairs_under segment)
 
-pub overflow_mul-contracts : goal.overflow_mul-contracts
-overflow_mul-contracts c = let a = c.args in omega (arith, before_under a.list.now (λ j. (c.type_inv.list j).fits) a.segment)
-
-pub overflow_mul-all : goal.overflow_mul-all
-overflow_mul-all c = let list = c.args.list.now in omega (arith, before_under list (λ j. (c.type_inv.list j).fits) (segments_of list))
-
-pub overflow_mul-pairs : goal.overflow_mul-pairs
-overflow_mul-pairs c = let a = c.args in omega (arith, before_under a.spreads.now (λ j. (c.type_inv.spreads j).fits) a.segment)
-
-pub overflow_add-pairs : goal.overflow_add-pairs
-overflow_add-pairs c =
-    let a = c.args in
-    omega (arith, before_under a.list.now (λ j. (c.type_inv.list j).fits) (segments_of a.list.now), before_under a.spreads.now (λ j. (c.type_inv.spreads j).fits) a.segment)
-
 pub returns : goal.returns
 returns c =
     let a = c.args in

@@ -22,6 +22,7 @@ pub struct Walked {
 }
 
 // What a text is as a number of a kind: any width, any kind whose largest amount a cell can hold.
+// Kept: the steps require of the kind what `read` does: a `Kind` that promised it would be asked of the writer too, which takes any.
 pub fn read(text: &[u8], kind: Kind) -> Result<Held, FieldFault>
     requires { kind.most + 1 < 2 ^ 64 }
     ensures { result ≡ read_as kind text.now }

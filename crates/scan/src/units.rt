@@ -6,7 +6,7 @@ ghost use Rattle.scan.specs.Parts.{cap, CountsAs, TellsOver};
 use decimal::{FieldFault, Held, Kind};
 
 // All ones, which is no amount's cell: what would be larger counts as this, so that no width overflows.
-pub const CEILING: u64 = 18_446_744_073_709_551_615;
+pub const CEILING: u64 = u64::MAX;
 
 const TENTH: u64 = CEILING / 10;
 
@@ -14,7 +14,7 @@ const TENTH: u64 = CEILING / 10;
 pub fn digit(c: u8) -> u64
     ensures { CountsAs c result }
 {
-    std::num::wrapping_sub_u8(c, b'0') as u64
+    u64::from(c.wrapping_sub(b'0'))
 }
 
 // Whether the digit has no room behind the amount. Few amounts come near: the first test settles nearly all.
@@ -36,7 +36,7 @@ fn filled(amount: u64, noughts: usize) -> u64
     ensures { cap result ≡ cap (amount * 10 ^ noughts) }
 {
     let mut n = amount;
-    for put in 0..noughts {
+    for _ in 0..noughts {
         if is_full(n, 0) {
             return CEILING;
         }

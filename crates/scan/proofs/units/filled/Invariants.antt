@@ -1,5 +1,5 @@
 use Rattle.std.proofs.Common.{◌≡◌, ◌*◌, ◌^◌, ◌-◌}
 use Rattle.scan.proofs.units.filled.Given as goal
 
-abbrev pub invariant-loop-put : goal.invariant-loop-put
-invariant-loop-put l = l.n * 10 ^ (l.noughts - l.put) ≡ l.amount * 10 ^ l.noughts
+abbrev pub invariant-loop : goal.invariant-loop
+invariant-loop l = l.n * 10 ^ (l.noughts - l.counter) ≡ l.amount * 10 ^ l.noughts

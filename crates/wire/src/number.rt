@@ -1,8 +1,20 @@
-ghost use Rattle.std.specs.Prelude.{◌≡◌, ◌+◌};
+ghost use Rattle.std.specs.Prelude.{◌≡◌, ℕ, ◌+◌, ◌<◌, slice_index};
 ghost use Rattle.std.proofs.lemmas.List.Edits.{sets};
 ghost use Rattle.wire.specs.Number.{number_at, bytes_of};
 
 // What stands past the end reads as zero bytes, and is not written: so no caller checks first.
+
+fn bytes_at<const N: usize>(s: &[u8], at: usize) -> [u8; N]
+    ensures { (i : ℕ) → i < N → slice_index result i ≡ slice_index s.now (at + i) }
+{
+    let there = &s[at.min(s.len())..];
+    if let Some(bytes) = there.first_chunk() {
+        return *bytes;
+    }
+    let mut bytes = [0u8; N];
+    bytes[..there.len()].copy_from_slice(there);
+    bytes
+}
 
 pub fn u8_at(s: &[u8], at: usize) -> u8
     ensures { result ≡ number_at 1 s.now at }
@@ -13,55 +25,43 @@ pub fn u8_at(s: &[u8], at: usize) -> u8
 pub fn u16_at(s: &[u8], at: usize) -> u16
     ensures { result ≡ number_at 2 s.now at }
 {
-    if at < s.len() {
-        (u8_at(s, at) as u16) * 256 + (u8_at(s, at + 1) as u16)
-    } else {
-        0
-    }
+    u16::from_be_bytes(bytes_at(s, at))
 }
 
 pub fn u32_at(s: &[u8], at: usize) -> u32
     ensures { result ≡ number_at 4 s.now at }
 {
-    if at < s.len() {
-        (u16_at(s, at) as u32) * 65536 + (u16_at(s, at + 2) as u32)
-    } else {
-        0
-    }
+    u32::from_be_bytes(bytes_at(s, at))
 }
 
 pub fn u64_at(s: &[u8], at: usize) -> u64
     ensures { result ≡ number_at 8 s.now at }
 {
-    if at < s.len() {
-        (u32_at(s, at) as u64) * 4294967296 + (u32_at(s, at + 4) as u64)
-    } else {
-        0
-    }
+    u64::from_be_bytes(bytes_at(s, at))
+}
+
+fn put_bytes<const N: usize>(s: &mut [u8], at: usize, bytes: [u8; N])
+    ensures { s.new ≡ sets s.old at bytes.entry }
+{
+    let at = at.min(s.len());
+    let room = N.min(s.len() - at);
+    s[at..at + room].copy_from_slice(&bytes[..room]);
 }
 
 pub fn put_u8(s: &mut [u8], at: usize, number: u8)
     ensures { s.new ≡ sets s.old at (bytes_of 1 number) }
 {
-    if at < s.len() {
-        s[at] = number;
-    }
+    put_bytes(s, at, u8::to_be_bytes(number));
 }
 
 pub fn put_u16(s: &mut [u8], at: usize, number: u16)
     ensures { s.new ≡ sets s.old at (bytes_of 2 number) }
 {
-    if at < s.len() {
-        put_u8(s, at, (number / 256) as u8);
-        put_u8(s, at + 1, (number % 256) as u8);
-    }
+    put_bytes(s, at, u16::to_be_bytes(number));
 }
 
 pub fn put_u32(s: &mut [u8], at: usize, number: u32)
     ensures { s.new ≡ sets s.old at (bytes_of 4 number) }
 {
-    if at < s.len() {
-        put_u16(s, at, (number / 65536) as u16);
-        put_u16(s, at + 2, (number % 65536) as u16);
-    }
+    put_bytes(s, at, u32::to_be_bytes(number));
 }

@@ -1,5 +1,5 @@
 -- The loop's invariant: the writing has gone on for `i` rows, `at` bytes and `used` bytes of the key.
-use Rattle.std.proofs.Common.{rules, ℕ, ◌≤◌, ◌<◌, ◌+◌, ◌-◌, min, ◌≡◌, refl, ap, sym, ◌∙◌, List, [], ◌++◌, append_assoc, arith, length, get_or, take, drop, length-drop, length-append, length-take-le, take_at, take_all, Ok, Err}
+use Rattle.std.proofs.Common.{rules, ℕ, ◌≤◌, ◌<◌, ◌+◌, ◌-◌, min, ◌≡◌, refl, ◌∙◌, List, ◌++◌, append_assoc, arith, length, get_or, take, drop, length-drop, length-append, length-take-le, take_at, take_all, Ok, Err}
 use borrow.Rule.Slice.PartMut.{mid_of, put_mid, mid_len, same_len_mid, take_put}
 use Rattle.print.specs.Write.{Put}
 use Rattle.decimal.specs.declared.FieldFault.{FieldFault}
@@ -7,10 +7,9 @@ use Rattle.forms.specs.declared.rows.Row.{Row}
 use Rattle.forms.specs.declared.rows.Row.TheVariants.{Key}
 use Rattle.forms.specs.Rows.{width_of}
 use Rattle.forms.specs.Sizes.{most_data}
-use Rattle.layout.specs.Answers.{Verdict}
 use Rattle.layout.specs.Cells.{key_used}
 use Rattle.layout.specs.Read.{bad_row}
-use Rattle.compose.specs.Write.{PutsRow, RowText, row_text, Laid, text_then, write_rows, WritesRows}
+use Rattle.compose.specs.Write.{PutsRow, row_text, write_rows, WritesRows}
 use Rattle.compose.specs.PutLaws.{fits_text, refused_then}
 use Rattle.compose.specs.WriteLaws.{Writing, room, goes_on, stops}
 use Rattle.compose.proofs.write.write_rows.Goals.{After-put_row}

@@ -1,6 +1,5 @@
 -- The layouts are short enough for the walk; its bytes are laid over the data where all rows are good, and nowhere else.
-use Rattle.std.proofs.Common.{rules, ℕ, ◌≤◌, ◌≡◌, refl, ap, sym, ◌∙◌, List, arith, length, take, length-take, length-take-le, Ok}
-use Rattle.forms.specs.declared.forms.Form.{Form}
+use Rattle.std.proofs.Common.{ℕ, ◌≤◌, ◌≡◌, refl, ap, sym, ◌∙◌, List, arith, length, take, length-take, length-take-le, Ok}
 use Rattle.forms.specs.Forms.{rows_of}
 use Rattle.forms.specs.Rows.{data_length}
 use Rattle.forms.specs.FormsLaws.{fits}

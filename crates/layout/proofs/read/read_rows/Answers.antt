@@ -1,8 +1,7 @@
 -- A good row's cell is stored, and the reading goes on.
-use Rattle.std.proofs.Common.{rules, ◌≡◌, ◌+◌, ◌-◌, length, arith, sym, ◌∙◌, take, drop, get_or, min, Ok}
+use Rattle.std.proofs.Common.{rules, ◌≡◌, ◌+◌, ◌-◌, length, arith, sym, ◌∙◌, get_or, min, Ok}
 use Rattle.forms.specs.declared.rows.Row.TheVariants.{Key}
 use Rattle.forms.specs.Rows.{width_of}
-use Rattle.layout.specs.Read.{read_row}
 use Rattle.layout.specs.ReadLaws.{goes_on}
 use Rattle.layout.proofs.read.read_rows.Goals as goal
 

@@ -1,5 +1,4 @@
 -- No form has more rows than there are cells.
-use Rattle.std.proofs.Common.{◌≤◌, sym, ap, length}
 use Rattle.forms.specs.FormsLaws.{fits}
 use Rattle.layout.proofs.read.read_update.Goals as goal
 

@@ -5,11 +5,11 @@ ghost use Rattle.head.specs.GoodHead.{Framed};
 ghost use Rattle.head.specs.Fields.{length_of, form_in, sum_sent, right_sum};
 ghost use Rattle.head.specs.Head.{frame_rules, form_rules};
 ghost use Rattle.head.specs.Tests.{framed, is_capital, is_pre_open, is_code, coded, trailed, takes_length, summed, numbers_subject, takes_number, is_heartbeat, same_bytes};
-ghost use Rattle.head.specs.Faults.{head_numbers};
+ghost use Rattle.head.specs.Faults.{head_numbers, row_fault};
 ghost use Rattle.head.specs.Rules.{first_fault};
 
 use crate::fields;
-use layout::{Named, Subject, Sum};
+use layout::{BadRow, Named, Subject, Sum};
 
 const END: u8 = 13;
 
@@ -25,6 +25,17 @@ pub enum Fault {
     Field(usize),
     Range(usize),
     Contract,
+}
+
+impl From<BadRow> for Fault {
+    ghost from_gives = { λ bad fault. fault ≡ row_fault bad };
+
+    fn from(bad: BadRow) -> Fault {
+        match bad {
+            BadRow::Field(row) => Fault::Field(row),
+            BadRow::Range(row) => Fault::Range(row),
+        }
+    }
 }
 
 #[tactic(auto, unfolding(crate::specs::Tests::framed))]

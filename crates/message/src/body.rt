@@ -13,7 +13,7 @@ ghost use Rattle.message.specs.Compared.{compared_there, keys_in, keys_there, co
 ghost use Rattle.message.specs.Reads.{rows_read, cells_read, contents_by, bare, message_of, Outlines, ReadsMessage, ReadsFormed};
 
 use head::Fault;
-use layout::{BadRow, Form, Item, MOST_ROWS, Named, Subject};
+use layout::{Form, Item, MOST_ROWS, Named, Subject};
 use lookup::Sought;
 
 #[derive(Clone, Copy)]
@@ -142,8 +142,7 @@ fn update(
     let data = &bytes[head::DATA..end];
     match layout::read_update(form, data, cells) {
         Ok(()) => acted(there, data, whole, number, form, item),
-        Err(BadRow::Field(row)) => bad(Fault::Field(row), bytes),
-        Err(BadRow::Range(row)) => bad(Fault::Range(row), bytes),
+        Err(bad_row) => bad(Fault::from(bad_row), bytes),
     }
 }
 

@@ -53,12 +53,14 @@ pub struct Counts {
     pub heartbeats: usize,
 }
 
-fn act_of(taken: Taken) -> Act
-    ensures { result ≡ act_of taken }
-{
-    match taken {
-        Taken::Taken => Act::Taken,
-        Taken::Old => Act::Old,
+impl From<Taken> for Act {
+    ghost from_gives = { λ taken act. act ≡ act_of taken };
+
+    fn from(taken: Taken) -> Act {
+        match taken {
+            Taken::Taken => Act::Taken,
+            Taken::Old => Act::Old,
+        }
     }
 }
 
@@ -67,7 +69,7 @@ fn number_acts(row: &mut [u32; sequence::CELLS], i: usize, number: u32) -> Resul
     ensures { NumberActs row.old i number result row.new }
 {
     match taking::take(row, number) {
-        Ok(taken) => Ok(act_of(taken)),
+        Ok(taken) => Ok(Act::from(taken)),
         Err(_) => Err(Refusal::Gaps(i)),
     }
 }

@@ -1,22 +1,24 @@
 -- The rows of its form, and then its key.
 -- what is known once the rows are read
 use Rattle.std.specs.Prelude.{Result}
+use Rattle.layout.specs.declared.read.BadRow.{BadRow}
 use Rattle.layout.specs.declared.read.BadRow.TheVariants as bad_row
 use Rattle.layout.specs.Answers.{Verdict}
-use Rattle.std.proofs.Common.{ℕ, ◌-◌, ◌≡◌, subst, List, arith, take, drop, ap, ◌∙◌, Err}
+use Rattle.std.proofs.Common.{ℕ, ◌-◌, ◌≡◌, subst, List, arith, take, drop, refl, false, Err}
 use Rattle.std.proofs.Math.Option.{Option}
 use mathlib.Core.Path.{subst⁻¹}
 use Rattle.pairs.specs.Lists.{lists}
 use Rattle.message.specs.declared.body.Outline.{Outline}
 use Rattle.message.specs.declared.body.What.{What}
 use Rattle.head.specs.declared.head.Fault.{Fault}
+use Rattle.head.specs.Faults.{row_fault}
 use Rattle.lookup.specs.Answers.{place_of}
 use Rattle.forms.specs.declared.forms.Form.{Form}
 use Rattle.forms.specs.declared.forms.Item.{Item}
 use Rattle.forms.specs.declared.forms.Named.TheVariants as is
 use Rattle.forms.specs.Sizes.{bare_length}
 use Rattle.head.specs.Fields.{length_of, number_of, data_of, form_in}
-use Rattle.message.specs.Compared.{keys_in, keys_there, compared_as}
+use Rattle.message.specs.Compared.{key_sought, keys_in, keys_there, compared_as}
 use Rattle.message.specs.Message.{message_key, places_in, places_there, market_in, acting, acts_as, of_named}
 use Rattle.message.specs.Reads.{rows_read, of_verdict, bare, contents_by, Outlines, ReadsMessage}
 use Rattle.message.specs.MessageLaws.{update_reads}
@@ -84,14 +86,20 @@ returns-in-Ok c =
     let d = (goal.at.returns-in-Ok c).After-read_update in
     ended d _ _ c.in-Ok.is (good-is d c.acted.ensures)
 
-pub returns-in-Err-Field : goal.returns-in-Err-Field
-returns-in-Err-Field c =
-    let d = (goal.at.returns-in-Err-Field c).After-read_update in
-    let bad = c.in-Err-Field in
-    ended d (Err (bad_row.Field bad.row)) _ (bad.is ∙ ap Err bad.field-0-is) (at_length d (rw bad.row-is at (c.bad.ensures (compared_as (acts_as (bytes d)) (keys d)))))
+row_early : (bad : BadRow) → key_sought (row_fault bad) ≡ false
+row_early (bad_row.Field row) = refl
+row_early (bad_row.Range row) = refl
 
-pub returns-in-Err-Range : goal.returns-in-Err-Range
-returns-in-Err-Range c =
-    let d = (goal.at.returns-in-Err-Range c).After-read_update in
-    let bad = c.in-Err-Range in
-    ended d (Err (bad_row.Range bad.row)) _ (bad.is ∙ ap Err bad.field-0-is) (at_length d (rw bad.row-is at (c.bad-in-Err-Range.ensures (compared_as (acts_as (bytes d)) (keys d)))))
+pub bad-requires : goal.bad-requires
+bad-requires c = rw c.from.ensures (row_early c.in-Err.bad_row)
+
+row_verdict : (bad : BadRow) (good : Result What Fault) → of_verdict (Err bad) good ≡ Err (row_fault bad)
+row_verdict (bad_row.Field row) good = refl
+row_verdict (bad_row.Range row) good = refl
+
+pub returns-in-Err : goal.returns-in-Err
+returns-in-Err c =
+    let d = (goal.at.returns-in-Err c).After-read_update in
+    let bad = c.in-Err.bad_row in
+    let good : Result What Fault = of_named (acts_as (bytes d)) (number_of (bytes d)) (found d) in
+    ended d (Err bad) _ c.in-Err.is (rw (row_verdict bad good) (at_length d (rw c.from.ensures at (c.bad.ensures (compared_as (acts_as (bytes d)) (keys d))))))

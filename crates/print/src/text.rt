@@ -119,8 +119,9 @@ fn lay(minus: bool, n: u64, behind: usize, field: &mut [u8]) -> Result<(), Field
         return Err(FieldFault::OutOfRange);
     }
     let point = width - behind - 1;
-    put_whole(minus, front, count, &mut field[..point]);
-    put_behind(b'.', n, &mut field[point..]);
+    let (before, from_point) = field.split_at_mut(point);
+    put_whole(minus, front, count, before);
+    put_behind(b'.', n, from_point);
     Ok(())
 }
 

@@ -1,9 +1,9 @@
 -- What characters do one after another, and what a text of the shape reads as.
 use Rattle.std.specs.Prelude.{◌≡◌, ℕ, zero, suc, ◌+◌, ◌-◌, ◌*◌, ◌^◌, ◌<◌, ◌≤◌, Bool, true, false, cond, not, ◌&&◌, List, [], ◌∷◌, ◌++◌, map, length, replicate, ◌==◌, ◌≢◌, nat_le, Ok, Err}
 use Rattle.std.proofs.Math.Path.{refl, ap}
-use Rattle.std.proofs.Common.{◌∙◌, true≢false, inl, inr, ⊎_elim, mul-one, add-zero, one-add, arith}
+use Rattle.std.proofs.Common.{◌∙◌, true≢false, inl, inr, ⊎_elim, le-leb, ne_eqb, mul-one, add-zero, one-add, arith}
 use Rattle.std.proofs.Math.Nat.{add-sub_cancel_left}
-use borrow.Author.Tests.{le-leb, lt-leb, ne_eqb}
+use Rattle.std.proofs.lemmas.Bool.{lt-leb}
 use Rattle.laws.specs.Choice.{cond_same}
 use Rattle.laws.specs.Order.{order}
 use Rattle.decimal.specs.Denotes.{space, point, minus_char, digit_char, value, Digits, pointed, sign, Shape, units, AllSpaces}

@@ -6,10 +6,9 @@ use Rattle.std.proofs.Common.{sym, ap, ◌∙◌, append_assoc, arith, length-ap
 use Rattle.decimal.specs.Denotes.{point, sign}
 use Rattle.print.specs.Write.{size, text_of, signed_text, Wrote, in_field}
 use Rattle.print.specs.WriteSteps.{digits_in, behind_in, front_in, whole_in}
-use Rattle.print.specs.WriteLaws.{chars_length, narrow, fitting, spaced_length, wrote_refused, wrote_filled}
+use Rattle.print.specs.WriteLaws.{chars_length, narrow, fitting, wrote_refused, wrote_filled}
 use Rattle.print.specs.WriteStepsLaws.{text_unpointed, text_pointed, text_longer, front_signed, front_length}
 use Rattle.decimal.specs.declared.FieldFault.TheVariants.{OutOfRange}
-use Rattle.print.proofs.Parts.{put_both}
 use Rattle.print.proofs.text.lay.Goals as goal
 
 module _
@@ -78,15 +77,10 @@ returns-then-width-count-2 c =
 
 pub returns : goal.returns
 returns c =
-    let minus = c.args.minus in
-    let count = c.front_size-count.result in
-    let front = c.whole-front.result in
-    let field = c.args.field.now in
-    let at = length field - c.args.behind - 1 in
-    let room : count ≤ at = omega arith in
-    let signed : length (sign minus) ≤ count = omega (arith, c.front_size-count.ensures) in
-    pointed-fits _ minus _ _ _ _ c.whole-front.ensures c.front_size-count.ensures c.requires
+    let parts = c.split_at_mut-before.ensures in
+    let at = length c.args.field.now - c.args.behind - 1 in
+    let room : c.front_size-count.result ≤ at = omega arith in
+    let behind : length c.split_at_mut-before.result.1.now ≡ length c.args.field.now - at = omega (arith, parts.back_len) in
+    pointed-fits _ c.args.minus _ _ _ _ c.whole-front.ensures c.front_size-count.ensures c.requires
     c.if-behind-eq0.false at (omega arith) room _
-    (put_both field at (whole_in minus front count) (behind_in point c.args.n) (omega arith)
-    (spaced_length at (front_in minus front count) (rw (front_length minus front count signed) room))
-    _ _ c.put_whole-2.ensures c.put_behind.ensures)
+    (rw (c.put_whole-2.ensures, c.put_behind.ensures, parts.front_len, behind))

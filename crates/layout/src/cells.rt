@@ -18,13 +18,11 @@ const NO_ROOM: u64 = NONE - 1;
 pub fn sided(below: bool, units: u64) -> Held
     ensures { result ≡ sided below units }
 {
-    if units == 0 {
-        return Held::Units(0);
+    if below && units != 0 {
+        Held::Below(units)
+    } else {
+        Held::Units(units)
     }
-    if below {
-        return Held::Below(units);
-    }
-    Held::Units(units)
 }
 
 // What a cell means where its row has a sign.
@@ -32,21 +30,20 @@ fn side_in(cell: u64) -> Held
     ensures { result ≡ side_in cell }
 {
     if cell < MINUS {
-        return Held::Units(cell);
+        Held::Units(cell)
+    } else {
+        sided(true, cell - MINUS)
     }
-    sided(true, cell - MINUS)
 }
 
 pub fn held_in(signed: bool, cell: u64) -> Held
     ensures { result ≡ held_in signed cell }
 {
-    if cell == NONE {
-        return Held::Nothing;
+    match cell {
+        NONE => Held::Nothing,
+        _ if signed => side_in(cell),
+        _ => Held::Units(cell),
     }
-    if signed {
-        return side_in(cell);
-    }
-    Held::Units(cell)
 }
 
 // The number that a value stands for. Today that is what a cell of the same bits holds.
@@ -72,16 +69,12 @@ pub fn cell_of(held: Held) -> u64
 fn units_value(signed: bool, units: u64) -> u64
     ensures { result ≡ value_of signed (Held.Units units) }
 {
-    if signed {
-        if units < MINUS {
-            return units;
-        }
-        return NO_ROOM;
-    }
-    if units == NONE {
-        return NO_ROOM;
-    }
-    units
+    let has_none = if signed {
+        MINUS <= units
+    } else {
+        units == NONE
+    };
+    if has_none { NO_ROOM } else { units }
 }
 
 // Any number's value, in range or not.
@@ -91,12 +84,8 @@ pub fn value_of(signed: bool, held: Held) -> u64
     match held {
         Held::Nothing => NONE,
         Held::Units(units) => units_value(signed, units),
-        Held::Below(units) => {
-            if units < MINUS - 1 {
-                return MINUS + units;
-            }
-            NO_ROOM
-        }
+        Held::Below(units) if units < MINUS - 1 => MINUS + units,
+        Held::Below(_) => NO_ROOM,
     }
 }
 
@@ -104,27 +93,21 @@ pub fn value_of(signed: bool, held: Held) -> u64
 pub fn session_cell(session: Session) -> u64
     ensures { result ≡ session_cell session }
 {
-    match session {
-        Session::Normal => 0,
-        Session::PreOpen => 1,
-    }
+    u64::from(matches!(session, Session::PreOpen))
 }
 
 pub fn session_in(cell: u64) -> Session
     ensures { result ≡ session_in cell }
 {
-    if cell == 1 {
-        return Session::PreOpen;
+    match cell {
+        1 => Session::PreOpen,
+        _ => Session::Normal,
     }
-    Session::Normal
 }
 
 // A letter's byte; a cell above 255 holds none.
 pub fn byte_in(cell: u64) -> u8
     ensures { result ≡ byte_in cell }
 {
-    if 255 < cell {
-        return 0;
-    }
-    cell as u8
+    u8::try_from(cell).unwrap_or(0)
 }

@@ -6,5 +6,5 @@ mod quote;
 
 pub use quote::{
     MOST_ORDERS, Order, Places, Quote, cell_from, places_of, put_three, put_two, quantity_at,
-    quantity_value, quote_of, values_of,
+    quantity_value, quote_of, side_rows, values_of,
 };

@@ -250,28 +250,29 @@ pub fn put_three(first: u64, second: u64, third: u64, row: usize, values: &mut [
     put_value(third, row + 2, values);
 }
 
+// Behind the last row there is none.
 fn order_at(cells: &[u64; MOST_ROWS], row: usize) -> Order
-    requires { row ≤ near }
     ensures { result ≡ order_in (cell_from cells.now row) (cell_from cells.now (row + 1)) }
 {
     Order {
         price: price_at(cells, row),
-        quantity: quantity_at(cells, row + 1),
+        quantity: quantity_at(cells, row.saturating_add(1)),
     }
 }
 
-// A side's first order, and those from another row on.
+// The rows of a side's orders: the first, and those from another row on.
+pub fn side_rows(first: usize, more: usize) -> [usize; MOST_ORDERS]
+    requires { more + 6 ≤ near }
+    ensures { result ≡ first ∷ more ∷ (more + 2) ∷ (more + 4) ∷ (more + 6) ∷ [] }
+{
+    [first, more, more + 2, more + 4, more + 6]
+}
+
 fn side_at(cells: &[u64; MOST_ROWS], first: usize, more: usize) -> [Order; MOST_ORDERS]
-    requires { (first ≤ near) × (more + 6 ≤ near) }
+    requires { more + 6 ≤ near }
     ensures { result ≡ side_at order_in first more cells.now }
 {
-    [
-        order_at(cells, first),
-        order_at(cells, more),
-        order_at(cells, more + 2),
-        order_at(cells, more + 4),
-        order_at(cells, more + 6),
-    ]
+    side_rows(first, more).map(|row| order_at(cells, row))
 }
 
 // What the cells of a message of that form hold.

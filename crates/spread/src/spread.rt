@@ -49,26 +49,19 @@ fn difference_value(difference: Option<Difference>) -> u64
 }
 
 fn spread_order_at(cells: &[u64; MOST_ROWS], row: usize) -> SpreadOrder
-    requires { row ≤ near }
     ensures { result ≡ spread_order_in (cell_from cells.now row) (cell_from cells.now (row + 1)) }
 {
     SpreadOrder {
         price: difference_at(cells, row),
-        quantity: quote::quantity_at(cells, row + 1),
+        quantity: quote::quantity_at(cells, row.saturating_add(1)),
     }
 }
 
 fn spread_side_at(cells: &[u64; MOST_ROWS], first: usize, more: usize) -> [SpreadOrder; MOST_ORDERS]
-    requires { (first ≤ near) × (more + 6 ≤ near) }
+    requires { more + 6 ≤ near }
     ensures { result ≡ side_at spread_order_in first more cells.now }
 {
-    [
-        spread_order_at(cells, first),
-        spread_order_at(cells, more),
-        spread_order_at(cells, more + 2),
-        spread_order_at(cells, more + 4),
-        spread_order_at(cells, more + 6),
-    ]
+    quote::side_rows(first, more).map(|row| spread_order_at(cells, row))
 }
 
 // What the cells of a message of that form hold.

@@ -3,8 +3,9 @@ ghost use Rattle.std.specs.Prelude.{◌≤◌, IfOk, length, OnErr, ◌≡◌};
 
 use crate::spreads;
 use layout::{Item, Level};
-use quotebox::{Reading, Written};
+use quotebox::{Reading, Refusal};
 use std::io::Result;
+use std::result;
 
 // The most room for a message.
 const MOST_ROOM: usize = 1024;
@@ -52,7 +53,7 @@ pub fn read(
     put_reading(rt, page, used, level, reading)
 }
 
-fn write_quote(bytes: &[u8], out: &mut [u8]) -> Written {
+fn write_quote(bytes: &[u8], out: &mut [u8]) -> result::Result<usize, Refusal> {
     let level = commands::level_of(wire::u8_at(bytes, 3));
     let number = wire::u32_at(bytes, 4);
     let key = commands::key_at(bytes, commands::WRITE_KEY);
@@ -62,7 +63,7 @@ fn write_quote(bytes: &[u8], out: &mut [u8]) -> Written {
 }
 
 // Of the room as much is lent as the command tells.
-fn write_into(bytes: &[u8], item: Item, out: &mut [u8]) -> Written {
+fn write_into(bytes: &[u8], item: Item, out: &mut [u8]) -> result::Result<usize, Refusal> {
     let room = console::least(commands::room_in(bytes, item), out.len());
     match item {
         Item::Contract => write_quote(bytes, &mut out[0..room]),

@@ -2,8 +2,9 @@
 ghost use Rattle.std.specs.Prelude.{◌≤◌, IfOk, length, OnErr, ◌≡◌};
 
 use layout::{Item, Level};
-use quotebox::{SpreadReading, Written};
+use quotebox::{Refusal, SpreadReading};
 use std::io::Result;
+use std::result;
 
 // The spread list that is handed over with a contract list until one is told, and how long it is: without pairs, and empty
 // where there is none.
@@ -11,8 +12,8 @@ pub fn beside(list: &[u8], spreads: &mut [u8]) -> usize
     ensures { result ≤ length spreads.old }
 {
     match quotebox::no_spreads(list, spreads) {
-        Written::Message(size) => console::least(size, spreads.len()),
-        Written::Refused(_) => 0,
+        Ok(size) => console::least(size, spreads.len()),
+        Err(_) => 0,
     }
 }
 
@@ -59,7 +60,7 @@ pub fn read(
     put_reading(rt, page, used, level, reading)
 }
 
-pub fn write(bytes: &[u8], out: &mut [u8]) -> Written {
+pub fn write(bytes: &[u8], out: &mut [u8]) -> result::Result<usize, Refusal> {
     let level = commands::level_of(wire::u8_at(bytes, 3));
     let number = wire::u32_at(bytes, 4);
     let pair = commands::pair_at(bytes, commands::WRITE_KEY);

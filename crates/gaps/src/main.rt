@@ -6,7 +6,7 @@ mod take;
 ghost use Rattle.std.specs.Prelude.{◌≤◌, IfOk, length};
 
 use lent::RUNS;
-use quotebox::{Refusal, Started, Written};
+use quotebox::Refusal;
 use runs::Run;
 use std::io::Result;
 
@@ -69,8 +69,8 @@ fn start<R: Input + Print>(rt: &R, list: &[u8], spreads: &[u8], page: &mut [u8])
     let answer = began.answer;
     let rows = began.rows;
     match answer {
-        Started::Refused(refusal) => report::put_refused_start(rt, page, refusal),
-        Started::Started => {
+        Err(refusal) => report::put_refused_start(rt, page, refusal),
+        Ok(()) => {
             if too_many(list) {
                 return report::put_refused_start(rt, page, NO_ROOM);
             }
@@ -85,8 +85,8 @@ fn start_without_spreads<R: Input + Print>(rt: &R, list: &[u8], page: &mut [u8])
 {
     let mut spreads = [0u8; NO_SPREADS];
     match quotebox::no_spreads(list, &mut spreads) {
-        Written::Refused(refusal) => report::put_refused_start(rt, page, refusal),
-        Written::Message(size) => {
+        Err(refusal) => report::put_refused_start(rt, page, refusal),
+        Ok(size) => {
             let end = console::least(size, NO_SPREADS);
             start(rt, list, &spreads[0..end], page)
         }

@@ -1,5 +1,5 @@
 -- Each promise holds exactly of what the step says: of its answer and of what it leaves, and of nothing else.
-use Rattle.std.specs.Prelude.{ℕ, ◌≡◌, refl, Bool, true, false, cond, List, [], ◌∷◌, ◌↔◌, eqb, length}
+use Rattle.std.specs.Prelude.{ℕ, ◌≡◌, refl, Bool, true, false, cond, List, [], ◌∷◌, ◌↔◌, eqb, length, Result}
 use Rattle.std.proofs.Common.{sym, ap, ap₂, subst, ◌∙◌}
 use Rattle.std.proofs.Math.Option.{Option, none, some}
 use Rattle.pairs.specs.Lists.{Lists}
@@ -14,12 +14,10 @@ use Rattle.pairs.specs.NoSpreads.{no_spreads}
 use Rattle.sequence.specs.Gaps.{Gaps}
 use Rattle.sequence.specs.Runs.{Run}
 use Rattle.state.specs.declared.refusal.Refusal.{Refusal}
-use Rattle.state.specs.declared.answers.Started.{Started}
 use Rattle.state.specs.declared.answers.Judged.{Judged}
 use Rattle.state.specs.declared.answers.Listed.{Listed}
 use Rattle.state.specs.declared.answers.WrittenOff.{WrittenOff}
 use Rattle.state.specs.declared.answers.Recorded.{Recorded}
-use Rattle.state.specs.declared.answers.Written.{Written}
 use Rattle.state.specs.Answers.{started_numbers, listed_numbers, written_off_numbers, recorded_numbers, written_numbers, answered, left_by}
 use Rattle.state.specs.Memory.{Lent}
 use Rattle.turns.specs.Turns.{Acted, acted, refused}
@@ -114,14 +112,14 @@ module _ (lent : Lent) where
       record { answers = record_numbers_lem (read_refusal item lent letter key) (record_number lent.records (record_of_key item lent.lists letter key level)) (record_session item lent.records (record_of_key item lent.lists letter key level)); quotes = refl }
 
 module _ (item : Item) (code : Code) (level : Level) (number : ℕ) (key : List ℕ) (cells : Form → List ℕ) (out : List ℕ) where
-  abbrev said_written : Written
+  abbrev said_written : Result ℕ Refusal
   said_written = write_answer (write_refusal item code level number key cells out) (length_written (form_written item code level))
 
   pub write_promised : WroteValues item code level number key cells out said_written (write_leaves item code level number key cells out)
   write_promised = record { answers = write_numbers (write_refusal item code level number key cells out) (length_written (form_written item code level)); out_left = refl }
 
 module _ (list out : List ℕ) where
-  abbrev said_none : Written
+  abbrev said_none : Result ℕ Refusal
   said_none = write_answer (no_spreads_refusal list out) (length (no_spreads list))
 
   abbrev left_none : List ℕ
@@ -162,7 +160,7 @@ quote_in_lem Contract other quote answer = refl
 quote_in_lem Pair other quote answer = refl
 
 module _ (lent : Lent) where
-  pub start_exactly : (lists : Lists) (starts : List ℕ) (answer : Started) (lent' : Lent)
+  pub start_exactly : (lists : Lists) (starts : List ℕ) (answer : Result (Unit {0}) Refusal) (lent' : Lent)
       → StartedBox (with_lists lists lent) starts answer lent' ↔ (((step lent (start lists starts)).answer ≡ started answer) × (with_lists lists (step lent (start lists starts)).left ≡ lent'))
   start_exactly lists starts answer lent' =
       let o : Option Refusal = start_refusal lent lists starts in (
@@ -222,10 +220,10 @@ module _ (lent : Lent) where
         both (ReadsItem item lent letter key level) (read_answer item lent letter key level) answer (read_quote item lent letter key level) quote same shows (read_promised lent item letter key level)),
   )
 
-  pub write_exactly : (item : Item) (code : Code) (level : Level) (number : ℕ) (key : List ℕ) (cells : Form → List ℕ) (out : List ℕ) (answer : Written) (out' : List ℕ)
+  pub write_exactly : (item : Item) (code : Code) (level : Level) (number : ℕ) (key : List ℕ) (cells : Form → List ℕ) (out : List ℕ) (answer : Result ℕ Refusal) (out' : List ℕ)
       → WroteValues item code level number key cells out answer out' ↔ written item code level number key cells out ≡ wrote answer out'
   write_exactly item code level number key cells out answer out' =
-      let said : Written = said_written item code level number key cells out in
+      let said : Result ℕ Refusal = said_written item code level number key cells out in
       let put : List ℕ = write_leaves item code level number key cells out in (
         (λ p. let one = one_written item code level number key cells out said answer (write_promised item code level number key cells out) p in ap₂ wrote one.0 one.1),
         (λ e.
@@ -234,10 +232,10 @@ module _ (lent : Lent) where
             both (WroteValues item code level number key cells out) said answer put out' same left (write_promised item code level number key cells out)),
       )
 
-  pub no_spreads_exactly : (list out : List ℕ) (answer : Written) (out' : List ℕ)
+  pub no_spreads_exactly : (list out : List ℕ) (answer : Result ℕ Refusal) (out' : List ℕ)
       → PutNoSpreads list out answer out' ↔ (step lent (calls.no_spreads list out)).answer ≡ wrote answer out'
   no_spreads_exactly list out answer out' =
-      let said : Written = said_none list out in
+      let said : Result ℕ Refusal = said_none list out in
       let put : List ℕ = left_none list out in (
         (λ p. let one = one_no_spreads said answer (no_spreads_promised list out) p in ap₂ wrote one.0 one.1),
         (λ e.

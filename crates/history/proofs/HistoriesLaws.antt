@@ -1,9 +1,8 @@
 -- Laws of histories: what every accepted start, batch and write-off keeps holds after every history; and calls lengthen one.
-use Rattle.std.specs.Prelude.{◌≡◌, refl, List, [], ◌∷◌, ◌++◌, ℕ}
+use Rattle.std.specs.Prelude.{◌≡◌, refl, List, [], ◌∷◌, ◌++◌, ℕ, Ok}
 use Rattle.std.proofs.Common.{sym, ap, subst, ◌∙◌}
 use Rattle.std.proofs.Math.Option.{Option, none, some}
 use Rattle.state.specs.declared.refusal.Refusal.{Refusal}
-use Rattle.state.specs.declared.answers.Started.{Started}
 use Rattle.state.specs.declared.answers.Judged.{Judged}
 use Rattle.state.specs.declared.answers.WrittenOff.{WrittenOff}
 use Rattle.state.specs.Answers.{left_by}
@@ -27,7 +26,7 @@ use Rattle.history.specs.Histories.{Made, own, elsewhere, Since, BoxNow, unstart
 
 -- what an accepted start makes hold, and every batch and write-off keeps, whatever they are answered
 pub record Steps (Holds : List ℕ → Lent → List Event → Type 0) : Type 0 where
-  pub begins : (starts : List ℕ) (lent lent' : Lent) → StartedBox lent starts Started.Started lent' → Holds starts lent' []
+  pub begins : (starts : List ℕ) (lent lent' : Lent) → StartedBox lent starts (Ok tt) lent' → Holds starts lent' []
   pub takes : (starts : List ℕ) (lent lent' : Lent) (past : List Event) → Holds starts lent past
       → (batch : List ℕ) (answer : Judged) → TookBatch lent batch answer lent' → Holds starts lent' (after_take lent.lists batch answer past)
   pub writes_off : (starts : List ℕ) (lent lent' : Lent) (past : List Event) → Holds starts lent past
@@ -117,7 +116,7 @@ one_more r c e =
     }
 
 -- an accepted start
-pub reached_begun : {starts : List ℕ} {lent lent' : Lent} → StartedBox lent starts Started.Started lent' → Reached starts lent' []
+pub reached_begun : {starts : List ℕ} {lent lent' : Lent} → StartedBox lent starts (Ok tt) lent' → Reached starts lent' []
 reached_begun {starts} {lent} {lent'} p =
     let since : Since = record { starts = starts; past = [] } in
     let held : start_refusal lent lent.lists starts ≡ none = (accepted_by (start_broken lent starts) [] [] p.answers).0 in

@@ -1,5 +1,5 @@
 -- Every call keeps what holds, and so it holds after every history.
-use Rattle.std.specs.Prelude.{ℕ, ◌+◌, ◌*◌, ◌≤◌, ◌<◌, ◌≡◌, refl, true, ◌||◌, List, [], ◌∷◌, length}
+use Rattle.std.specs.Prelude.{ℕ, ◌+◌, ◌*◌, ◌≤◌, ◌<◌, ◌≡◌, refl, true, ◌||◌, List, [], ◌∷◌, length, Ok}
 use Rattle.std.proofs.Common.{sym, ap, subst, ◌∙◌, ⊎_elim, arith, eq-eqb, ne_eqb, ltb-true}
 use Rattle.std.proofs.Math.Path.{fun_ext}
 use Rattle.std.proofs.Math.Option.{Option, none, some}
@@ -17,7 +17,6 @@ use Rattle.sequence.specs.Row.{gaps_of}
 use Rattle.sequence.specs.RowLaws.{sound_row_exactly}
 use Rattle.message.specs.Message.{Message}
 use Rattle.state.specs.declared.refusal.Refusal.TheVariants.{NoGap}
-use Rattle.state.specs.declared.answers.Started.{Started}
 use Rattle.state.specs.declared.answers.Judged.{Judged}
 use Rattle.state.specs.declared.answers.Judged.TheVariants as judged
 use Rattle.state.specs.declared.answers.WrittenOff.{WrittenOff}
@@ -55,7 +54,7 @@ use Rattle.history.specs.Holds.{Holds}
 
 -- ---- a start
 
-pub start_holds : {lent lent' : Lent} {starts : List ℕ} → StartedBox lent starts Started.Started lent' → Holds starts lent' []
+pub start_holds : {lent lent' : Lent} {starts : List ℕ} → StartedBox lent starts (Ok tt) lent' → Holds starts lent' []
 start_holds {lent} {lent'} {starts} p =
     let same_lists : lent'.lists ≡ lent.lists = ap (λ (l : Lent). l.lists) (start_left p) in
     record {

@@ -1,5 +1,5 @@
 -- The machine answers each call in one way: so what a call answers and leaves is what the machine says, and nothing else.
-use Rattle.std.specs.Prelude.{ℕ, suc, ◌*◌, ◌≤◌, ◌<◌, ◌≡◌, refl, Bool, List, [], ◌∷◌, ◌++◌, length, take, drop}
+use Rattle.std.specs.Prelude.{ℕ, suc, ◌*◌, ◌≤◌, ◌<◌, ◌≡◌, refl, Bool, List, [], ◌∷◌, ◌++◌, length, take, drop, Result, Err}
 use Rattle.std.proofs.Common.{sym, ap, ap₂, subst, ◌∙◌, true≢false, ⊎_elim, arith, length-take, take-append-drop}
 use Rattle.std.proofs.Math.Option.{some}
 use Rattle.laws.specs.Choice.{clash}
@@ -25,7 +25,7 @@ use Rattle.state.specs.declared.answers.Recorded.{Recorded}
 use Rattle.message.specs.Good.{KeyListed}
 use Rattle.head.specs.GoodHead.{LetterListed}
 use Rattle.state.specs.declared.refusal.Refusal.TheVariants.{Memory}
-use Rattle.state.specs.declared.answers.Started.{Started}
+use Rattle.state.specs.declared.refusal.Refusal.{Refusal}
 use Rattle.state.specs.declared.answers.Listed.{Listed}
 use Rattle.state.specs.declared.answers.WrittenOff.{WrittenOff}
 use Rattle.slots.specs.Slots.{Slot, slot as record_slot}
@@ -186,14 +186,14 @@ module _ (m : Machine) (letter : ℕ) where
       (ap (λ (s : Slot). answer_for (m.newest s)) same, ap (λ (s : Slot). quote_beside_it item (m.newest s)) same)
 
 module _ (rows records : ℕ) (m : Machine) where
-  one_start : {lists : Lists} {starts : List ℕ} {a b : Started} {m' m'' : Machine} → Starts rows records m lists starts a m' → Starts rows records m lists starts b m'' → (a ≡ b) × (m' ≡ m'')
+  one_start : {lists : Lists} {starts : List ℕ} {a b : Result (Unit {0}) Refusal} {m' m'' : Machine} → Starts rows records m lists starts a m' → Starts rows records m lists starts b m'' → (a ≡ b) × (m' ≡ m'')
   one_start (machine.Starts.anew g) (machine.Starts.anew h) = (refl, refl)
   one_start {lists} {starts} (machine.Starts.anew g) (machine.Starts.not_started r b) =
       absurd (unlike (sym (broken_some (start_rules lists starts rows records) r b) ∙ (start_exact lists starts rows records).1 g))
   one_start {lists} {starts} (machine.Starts.not_started r b) (machine.Starts.anew g) =
       absurd (unlike (sym (broken_some (start_rules lists starts rows records) r b) ∙ (start_exact lists starts rows records).1 g))
   one_start {lists} {starts} (machine.Starts.not_started r b) (machine.Starts.not_started s c) =
-      (ap Started.Refused (one_broken (start_rules lists starts rows records) r s b c), refl)
+      (ap Err (one_broken (start_rules lists starts rows records) r s b c), refl)
 
   -- of sound lists
   pub one_answer : SoundLists m.lists → {c : Call} {a b : Answer} {m' m'' : Machine} → Answers rows records m c a m' → Answers rows records m c b m'' → (a ≡ b) × (m' ≡ m'')

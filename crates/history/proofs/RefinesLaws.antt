@@ -1,5 +1,5 @@
 -- The calls refine the machine: after every history each call answers what the machine may answer, and leaves what it leaves.
-use Rattle.std.specs.Prelude.{ℕ, ◌*◌, ◌≤◌, ◌<◌, ◌≡◌, refl, List, []}
+use Rattle.std.specs.Prelude.{ℕ, ◌*◌, ◌≤◌, ◌<◌, ◌≡◌, refl, List, [], Ok}
 use Rattle.std.proofs.Common.{sym, ◌∙◌}
 use Rattle.std.proofs.Math.Path.{ap, subst}
 use Rattle.std.proofs.Math.Logic.{⊎_elim}
@@ -27,7 +27,6 @@ use Rattle.message.specs.MessageLaws.{key_in}
 use Rattle.state.specs.declared.refusal.Refusal.{Refusal}
 use Rattle.state.specs.declared.refusal.Refusal.TheVariants.{Code, Contract, Memory, NoGap}
 use Rattle.state.specs.declared.answers.Judged.{Judged}
-use Rattle.state.specs.declared.answers.Started.{Started}
 use Rattle.state.specs.declared.answers.Listed.{Listed}
 use Rattle.state.specs.declared.answers.WrittenOff.{WrittenOff}
 use Rattle.state.specs.declared.answers.Recorded.{Recorded}
@@ -249,5 +248,5 @@ module _ {starts : List ℕ} {lent : Lent} {past : List Event} (r : Reached star
       record { later = record { starts = starts; past = past }; then = refl; answers = machine.Answers.no_spreads_lem (no_spreads_promised list out) }
 
 -- an accepted start begins the machine
-pub begins : {starts : List ℕ} {lent lent' : Lent} → StartedBox lent starts Started.Started lent' → machine_of lent'.lists starts [] ≡ machine.begun lent.lists starts
+pub begins : {starts : List ℕ} {lent lent' : Lent} → StartedBox lent starts (Ok tt) lent' → machine_of lent'.lists starts [] ≡ machine.begun lent.lists starts
 begins {starts} p = ap (λ (l : Lent). machine.begun l.lists starts) (start_left p)

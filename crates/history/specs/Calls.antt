@@ -1,16 +1,15 @@
 -- Calls as data: every public call with its own arguments, and every answer.
-use Rattle.std.specs.Prelude.{ℕ, List}
+use Rattle.std.specs.Prelude.{ℕ, List, Result}
 use Rattle.pairs.specs.Lists.{Lists}
 use Rattle.forms.specs.declared.rows.Level.{Level}
 use Rattle.forms.specs.declared.forms.Item.{Item}
 use Rattle.quote.specs.declared.quote.Quote.{Quote}
 use Rattle.spread.specs.declared.spread.SpreadQuote.{SpreadQuote}
-use Rattle.state.specs.declared.answers.Started.{Started}
+use Rattle.state.specs.declared.refusal.Refusal.{Refusal}
 use Rattle.state.specs.declared.answers.Judged.{Judged}
 use Rattle.state.specs.declared.answers.Listed.{Listed}
 use Rattle.state.specs.declared.answers.WrittenOff.{WrittenOff}
 use Rattle.state.specs.declared.answers.Recorded.{Recorded}
-use Rattle.state.specs.declared.answers.Written.{Written}
 use Rattle.state.specs.Memory.{Lent, lends}
 use Rattle.writer.specs.declared.writing.Code.{Code}
 use Rattle.reading.specs.Shown.{QuoteFor}
@@ -30,12 +29,12 @@ pub data Call : Type 0 where
 
 -- 01 "What may be asked": what each answers, with the cells or bytes that were lent for the answer, afterwards
 pub data Answer : Type 0 where
-  started : Started → Answer
+  started : Result (Unit {0}) Refusal → Answer
   judged took : Judged → Answer
   listed : Listed → List ℕ → Answer
   wrote_off : WrittenOff → Answer
   read : (item : Item) → Recorded → QuoteFor item → Answer
-  wrote : Written → List ℕ → Answer
+  wrote : Result ℕ Refusal → List ℕ → Answer
 
 -- 01 "Sequence and gaps": a start is handed lists of its own
 abbrev pub with_lists : Lists → Lent → Lent

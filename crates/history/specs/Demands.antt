@@ -1,5 +1,5 @@
 -- Demand 3, and what of the others is said over histories, each sentence as a statement. `DemandsLaws` proves them.
-use Rattle.std.specs.Prelude.{ℕ, ◌*◌, ◌≤◌, ◌<◌, ◌≡◌, false, ◌&&◌, ◌||◌, List, ◌↔◌, ltb, eqb, length}
+use Rattle.std.specs.Prelude.{ℕ, ◌*◌, ◌≤◌, ◌<◌, ◌≡◌, false, ◌&&◌, ◌||◌, List, ◌↔◌, ltb, eqb, length, Ok, Err}
 use Rattle.std.proofs.Math.Option.{some}
 use Rattle.files.specs.File.{segments_of}
 use Rattle.lookup.specs.Lookup.{segment_of}
@@ -10,12 +10,10 @@ use Rattle.forms.specs.declared.forms.Item.{Item}
 use Rattle.forms.specs.declared.rows.Level.{Level}
 use Rattle.state.specs.declared.refusal.Refusal.{Refusal}
 use Rattle.state.specs.declared.refusal.Refusal.TheVariants.{Gaps, NoGap, Memory}
-use Rattle.state.specs.declared.answers.Started.{Started}
 use Rattle.state.specs.declared.answers.Judged.{Judged}
 use Rattle.state.specs.declared.answers.Listed.{Listed}
 use Rattle.state.specs.declared.answers.WrittenOff.{WrittenOff}
 use Rattle.state.specs.declared.answers.Recorded.{Recorded}
-use Rattle.state.specs.declared.answers.Written.{Written}
 use Rattle.writer.specs.declared.writing.Code.{Code}
 use Rattle.turns.specs.Compared.{compared_of, reached_in}
 use Rattle.batch.specs.Batch.{count_of}
@@ -97,19 +95,19 @@ pub record Agree (lent lent' : Lent) : Type 0 where
 -- demand 1 and 01 "What may be asked": "A refusal leaves all lent memory as before", whatever is handed to the call; judging
 -- and reading a record write nothing
 pub record RefusalsKeep (lent : Lent) : Type 0 where
-  pub start_keeps : (starts : List ℕ) (refusal : Refusal) (lent' : Lent) → StartedBox lent starts (Started.Refused refusal) lent' → lent' ≡ lent
+  pub start_keeps : (starts : List ℕ) (refusal : Refusal) (lent' : Lent) → StartedBox lent starts (Err refusal) lent' → lent' ≡ lent
   pub take_keeps : (batch : List ℕ) (refusal : Refusal) (compared : ℕ) (lent' : Lent) → TookBatch lent batch (Judged.Refused refusal compared) lent' → lent' ≡ lent
   pub list_keeps : (letter : ℕ) (cells : List ℕ) (refusal : Refusal) (cells' : List ℕ)
       → ListedRuns lent letter cells (Listed.Refused refusal) cells' → cells' ≡ cells
   pub write_off_keeps : (letter : ℕ) (refusal : Refusal) (lent' : Lent) → WroteOffRun lent letter (WrittenOff.Refused refusal) lent' → lent' ≡ lent
   pub write_keeps : (item : Item) (code : Code) (level : Level) (number : ℕ) (key : List ℕ) (cells : Form → List ℕ) (out : List ℕ) (refusal : Refusal) (out' : List ℕ)
-      → WroteValues item code level number key cells out (Written.Refused refusal) out' → out' ≡ out
-  pub no_spreads_keeps : (list out : List ℕ) (refusal : Refusal) (out' : List ℕ) → PutNoSpreads list out (Written.Refused refusal) out' → out' ≡ out
+      → WroteValues item code level number key cells out (Err refusal) out' → out' ≡ out
+  pub no_spreads_keeps : (list out : List ℕ) (refusal : Refusal) (out' : List ℕ) → PutNoSpreads list out (Err refusal) out' → out' ≡ out
 
 -- demand 1, and 01, the table's rows 15, 16 and 18: an accepted call leaves gap rows and records that pass 16, 15 and 18,
 -- whatever was handed to it
 pub record AcceptedLeave (lent : Lent) : Type 0 where
-  pub start_leaves : (starts : List ℕ) (lent' : Lent) → StartedBox lent starts Started.Started lent' → GoodState lent'
+  pub start_leaves : (starts : List ℕ) (lent' : Lent) → StartedBox lent starts (Ok tt) lent' → GoodState lent'
   pub take_leaves : (batch : List ℕ) (taken old heartbeats compared : ℕ) (lent' : Lent)
       → TookBatch lent batch (Judged.Accepted taken old heartbeats compared) lent' → GoodState lent'
   pub write_off_leaves : (letter first last : ℕ) (lent' : Lent) → WroteOffRun lent letter (WrittenOff.Removed first last) lent' → GoodState lent'

@@ -26,7 +26,6 @@ use Rattle.message.specs.Numbers.{number_in}
 use Rattle.message.specs.Order.{message_rules}
 use Rattle.state.specs.declared.refusal.Refusal.{Refusal}
 use Rattle.state.specs.declared.refusal.Refusal.TheVariants as refusal
-use Rattle.state.specs.declared.answers.Started.{Started}
 use Rattle.state.specs.declared.answers.Judged.{Judged}
 use Rattle.state.specs.declared.answers.Listed.{Listed}
 use Rattle.state.specs.declared.answers.WrittenOff.{WrittenOff}
@@ -319,15 +318,15 @@ pub data Reads (m : Machine) (item : Item) (letter : ℕ) (key : List ℕ) (leve
       → Reads m item letter key level (answer_for (m.newest slot)) (quote_beside_it item (m.newest slot))
 
 -- 01 "Sequence and gaps": a start begins anew, with so many cells lent; a refused one changes nothing
-pub data Starts (rows records : ℕ) (m : Machine) (lists : Lists) (starts : List ℕ) : Started → Machine → Type 0 where
-  anew : GoodStart lists starts rows records → Starts rows records m lists starts Started.Started (begun lists starts)
-  not_started : (r : Refusal) → Broken (start_rules lists starts rows records) r → Starts rows records m lists starts (Started.Refused r) m
+pub data Starts (rows records : ℕ) (m : Machine) (lists : Lists) (starts : List ℕ) : Result (Unit {0}) Refusal → Machine → Type 0 where
+  anew : GoodStart lists starts rows records → Starts rows records m lists starts (Ok tt) (begun lists starts)
+  not_started : (r : Refusal) → Broken (start_rules lists starts rows records) r → Starts rows records m lists starts (Err r) m
 
 -- ---- the machine
 
 -- 01 "What may be asked": a call, lent so many cells for gap rows and records, its answer, and the machine that it leaves
 pub data Answers (rows records : ℕ) (m : Machine) : Call → Answer → Machine → Type 0 where
-  starts : {lists : Lists} {numbers : List ℕ} {a : Started} {m' : Machine} → Starts rows records m lists numbers a m'
+  starts : {lists : Lists} {numbers : List ℕ} {a : Result (Unit {0}) Refusal} {m' : Machine} → Starts rows records m lists numbers a m'
       → Answers rows records m (calls.start lists numbers) (calls.started a) m'
   judges : {batch : List ℕ} {a : Judged} → Judges m batch a → Answers rows records m (calls.judge batch) (calls.judged a) m
   takes : {batch : List ℕ} {a : Judged} → Judges m batch a → Answers rows records m (calls.take batch) (calls.took a) (took_batch m batch a)

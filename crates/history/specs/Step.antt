@@ -1,6 +1,6 @@
 -- What a call answers and leaves, as it computes: one step, by the definitions that the calls' promises cite. `CallsLaws`: each promise
 -- holds exactly of what the step says.
-use Rattle.std.specs.Prelude.{ℕ, cond, List, ◌++◌, eqb, length}
+use Rattle.std.specs.Prelude.{ℕ, cond, List, ◌++◌, eqb, length, Result, Ok, Err}
 use Rattle.std.proofs.Math.Option.{Option, none, some}
 use Rattle.std.proofs.lemmas.List.Edits.{sets}
 use Rattle.pairs.specs.Lists.{Lists}
@@ -16,12 +16,10 @@ use Rattle.spread.specs.Spread.{spread_values_of}
 use Rattle.sequence.specs.Gaps.{Gaps}
 use Rattle.sequence.specs.Runs.{Run}
 use Rattle.state.specs.declared.refusal.Refusal.{Refusal}
-use Rattle.state.specs.declared.answers.Started.{Started}
 use Rattle.state.specs.declared.answers.Judged.{Judged}
 use Rattle.state.specs.declared.answers.Listed.{Listed}
 use Rattle.state.specs.declared.answers.WrittenOff.{WrittenOff}
 use Rattle.state.specs.declared.answers.Recorded.{Recorded}
-use Rattle.state.specs.declared.answers.Written.{Written}
 use Rattle.state.specs.Answers.{started_numbers, judged_numbers, listed_numbers, written_off_numbers, recorded_numbers, written_numbers, left_by}
 use Rattle.state.specs.Memory.{Lent}
 use Rattle.batch.specs.Batch.{batch_letter}
@@ -49,9 +47,9 @@ abbrev pub start_refusal : Lent → Lists → List ℕ → Option Refusal
 start_refusal lent lists starts = start_broken (with_lists lists lent) starts
 
 -- 01 "What may be asked": start answers nothing more
-abbrev pub start_answer : Option Refusal → Started
-start_answer (some refusal) = Started.Refused refusal
-start_answer none = Started.Started
+abbrev pub start_answer : Option Refusal → Result (Unit {0}) Refusal
+start_answer (some refusal) = Err refusal
+start_answer none = (Ok tt)
 
 -- 01 "What may be asked": judging answers what taking would; M-102: the keys compared too
 abbrev pub batch_answer : Lent → List ℕ → Judged
@@ -105,9 +103,9 @@ write_refusal item code level number key cells out =
     first_broken (write_rules (form_written item code level) number key (values_written (form_written item code level) cells) (length out))
 
 -- 01 "What may be asked": "the writer its length"
-abbrev pub write_answer : Option Refusal → ℕ → Written
-write_answer (some refusal) long = Written.Refused refusal
-write_answer none long = Written.Message long
+abbrev pub write_answer : Option Refusal → ℕ → Result ℕ Refusal
+write_answer (some refusal) long = Err refusal
+write_answer none long = Ok long
 
 -- 01 "What may be asked": what the writer leaves in the bytes lent
 abbrev pub write_leaves : Item → Code → Level → ℕ → List ℕ → (Form → List ℕ) → List ℕ → List ℕ

@@ -1,17 +1,16 @@
 -- What each function promises a host: the quotebox call's own promise, its answer told by number, and every lent cell afterwards.
-use Rattle.std.specs.Prelude.{ℕ, ◌≡◌, List, get_or}
+use Rattle.std.specs.Prelude.{ℕ, ◌≡◌, List, get_or, Result}
 use Rattle.forms.specs.declared.forms.Form.{Form}
 use Rattle.forms.specs.declared.forms.Item.{Item}
 use Rattle.forms.specs.declared.forms.Item.TheVariants.{Contract, Pair}
 use Rattle.forms.specs.declared.rows.Level.{Level}
 use Rattle.quote.specs.Quote.{quote_of, values_of}
 use Rattle.spread.specs.Spread.{spread_quote_of, spread_values_of}
-use Rattle.state.specs.declared.answers.Started.{Started}
+use Rattle.state.specs.declared.refusal.Refusal.{Refusal}
 use Rattle.state.specs.declared.answers.Judged.{Judged}
 use Rattle.state.specs.declared.answers.Listed.{Listed}
 use Rattle.state.specs.declared.answers.WrittenOff.{WrittenOff}
 use Rattle.state.specs.declared.answers.Recorded.{Recorded}
-use Rattle.state.specs.declared.answers.Written.{Written}
 use Rattle.writer.specs.declared.writing.Code.{Code}
 use Rattle.state.specs.Answers.{started_numbers, judged_numbers, listed_numbers, written_off_numbers, written_numbers}
 use Rattle.state.specs.Memory.{Lent}
@@ -27,7 +26,7 @@ use Rattle.told.specs.Shown.{values_after}
 
 -- 01 "What may be asked": start, told to a host
 pub record HostStarted (lent : Lent) (starts : List ℕ) (returned : ℕ) (lent' : Lent) (answer' : List ℕ) : Type 0 where
-  pub started : Started
+  pub started : Result (Unit {0}) Refusal
   pub promised : StartedBox lent starts started lent'
   pub tells : Tells (started_numbers started) returned answer'
 
@@ -77,7 +76,7 @@ code_of bytes = record { 0 = get_or bytes 0 0; 1 = get_or bytes 1 0 }
 
 -- 01 "What may be asked", M-100: write a message, of a contract or of a pair, told to a host, from the values of its quote
 pub record HostWrites (item : Item) (code : List ℕ) (level : Level) (number : ℕ) (key : List ℕ) (values : Form → List ℕ) (out : List ℕ) (returned : ℕ) (out' answer' : List ℕ) : Type 0 where
-  pub written : Written
+  pub written : Result ℕ Refusal
   pub promised : WroteValues item (code_of code) level number key values out written out'
   pub tells : Tells (written_numbers written) returned answer'
 
@@ -91,6 +90,6 @@ HostWroteSpread code level number pair values out returned out' answer' = HostWr
 
 -- M-100: the spread list without pairs, told to a host
 pub record HostPutNoSpreads (list out : List ℕ) (returned : ℕ) (out' answer' : List ℕ) : Type 0 where
-  pub written : Written
+  pub written : Result ℕ Refusal
   pub promised : PutNoSpreads list out written out'
   pub tells : Tells (written_numbers written) returned answer'

@@ -1,5 +1,5 @@
 -- What each function promises a host is what the step says, and nothing else.
-use Rattle.std.specs.Prelude.{ℕ, ◌≡◌, refl, List, [], ◌↔◌, length}
+use Rattle.std.specs.Prelude.{ℕ, ◌≡◌, refl, List, [], ◌↔◌, length, Result}
 use Rattle.std.proofs.Common.{sym, ap, ap₂, ◌∙◌}
 use Rattle.pairs.specs.Lists.{Lists}
 use Rattle.pairs.specs.NoSpreads as none
@@ -7,7 +7,7 @@ use Rattle.forms.specs.declared.forms.Item.{Item}
 use Rattle.forms.specs.declared.forms.Item.TheVariants.{Contract, Pair}
 use Rattle.forms.specs.declared.rows.Level.{Level}
 use Rattle.state.specs.declared.answers.Listed.{Listed}
-use Rattle.state.specs.declared.answers.Written.{Written}
+use Rattle.state.specs.declared.refusal.Refusal.{Refusal}
 use Rattle.state.specs.Memory.{Lent}
 use Rattle.listing.specs.ListRules.{gaps_of_letter}
 use Rattle.writer.specs.Writer.{length_written}
@@ -134,7 +134,7 @@ module _ (lent : Lent) where
       → HostWroteItem item code level number key values out returned out' answer'
       ↔ host_step lent (write item level code number key values out) ≡ gives returned answer' out' lent
   write_says item level code number key values out returned out' answer' =
-      let said : Written =
+      let said : Result ℕ Refusal =
       write_answer (write_refusal item (code_of code) level number key (laid_from item level values) out) (length_written (form_written item (code_of code) level)) in
       let call : HostCall = write item level code number key values out in
       let does = write_steps item level code number key values out in (
@@ -157,7 +157,7 @@ module _ (lent : Lent) where
   pub no_spreads_says : (list out : List ℕ) (returned : ℕ) (out' answer' : List ℕ)
       → HostPutNoSpreads list out returned out' answer' ↔ host_step lent (no_spreads list out) ≡ gives returned answer' out' lent
   no_spreads_says list out returned out' answer' =
-      let said : Written = write_answer (no_spreads_refusal list out) (length (none.no_spreads list)) in (
+      let said : Result ℕ Refusal = write_answer (no_spreads_refusal list out) (length (none.no_spreads list)) in (
         (λ p. step_is (no_spreads list out) ((exactly.no_spreads_exactly lent list out p.written out').0 p.promised) refl p.tells),
         (λ e.
             record {

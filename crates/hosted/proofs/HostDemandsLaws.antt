@@ -1,5 +1,5 @@
 -- The theorems: what `HostDemands` states holds after every history of a host's calls, and of every call.
-use Rattle.std.specs.Prelude.{ℕ, ◌*◌, ◌≤◌, ◌<◌, ◌≡◌, refl, List, [], ◌∷◌, ◌↔◌, length, get_or}
+use Rattle.std.specs.Prelude.{ℕ, ◌*◌, ◌≤◌, ◌<◌, ◌≡◌, refl, List, [], ◌∷◌, ◌↔◌, length, get_or, Result, Ok, Err}
 use Rattle.std.proofs.Common.{sym, ap, ap₂, ◌∙◌, arith}
 use Rattle.std.proofs.Math.Option.{Option, none, some}
 use Rattle.laws.specs.Rules.{first_broken}
@@ -9,7 +9,6 @@ use Rattle.forms.specs.declared.forms.Item.{Item}
 use Rattle.forms.specs.declared.rows.Level.{Level}
 use Rattle.state.specs.declared.refusal.Refusal.{Refusal}
 use Rattle.state.specs.declared.refusal.Refusal.TheVariants.{Gaps, Memory, NoGap}
-use Rattle.state.specs.declared.answers.Started.{Started}
 use Rattle.state.specs.declared.answers.Judged.{Judged}
 use Rattle.state.specs.declared.answers.Listed.{Listed}
 use Rattle.state.specs.declared.answers.WrittenOff.{WrittenOff}
@@ -227,9 +226,9 @@ host_accepted_leave lent =
       write_off_leaves = λ letter lent' answer' p. wrote_off_lem letter lent' p.written_off_lem p.promised p.tells;
     }
   where
-    started : (starts : List ℕ) (lent' : Lent) {answer' : List ℕ} (a : Started) → StartedBox lent starts a lent' → Tells (started_numbers a) 0 answer' → GoodState lent'
-    started starts lent' Started.Started p t = (accepted_leave lent).start_leaves starts lent' p
-    started starts lent' (Started.Refused refusal) p t = absurd (is_refused refusal t refl)
+    started : (starts : List ℕ) (lent' : Lent) {answer' : List ℕ} (a : Result (Unit {0}) Refusal) → StartedBox lent starts a lent' → Tells (started_numbers a) 0 answer' → GoodState lent'
+    started starts lent' (Ok _) p t = (accepted_leave lent).start_leaves starts lent' p
+    started starts lent' (Err refusal) p t = absurd (is_refused refusal t refl)
 
     took : (batch : List ℕ) (lent' : Lent) {answer' : List ℕ} (a : Judged) → TookBatch lent batch a lent' → Tells (judged_numbers a) 0 answer' → GoodState lent'
     took batch lent' (Judged.Accepted taken old heartbeats compared) p t = (accepted_leave lent).take_leaves batch taken old heartbeats compared lent' p

@@ -1,8 +1,8 @@
 -- A host's histories are those of quotebox calls, and a function that keeps its promise lengthens one.
-use Rattle.std.specs.Prelude.{ℕ, ◌≡◌, refl, List, [], ◌∷◌, map}
+use Rattle.std.specs.Prelude.{ℕ, ◌≡◌, refl, List, [], ◌∷◌, map, Result, Ok, Err}
 use Rattle.std.proofs.Common.{ap, ◌∙◌}
 use Rattle.forms.specs.declared.forms.Item.TheVariants.{Contract, Pair}
-use Rattle.state.specs.declared.answers.Started.{Started}
+use Rattle.state.specs.declared.refusal.Refusal.{Refusal}
 use Rattle.state.specs.Answers.{started_numbers}
 use Rattle.state.specs.Memory.{Lent}
 use Rattle.starting.specs.StartPromises.{StartedBox}
@@ -62,9 +62,9 @@ reached_host r = record { memory = r.memory; calls = map host_made r.calls; reac
 pub host_begun : {starts : List ℕ} {lent lent' : Lent} {answer' : List ℕ} → HostStarted lent starts 0 lent' answer' → HostReached starts lent' []
 host_begun {starts} {lent} {lent'} {answer'} p = go p.started p.promised p.tells
   where
-    go : (a : Started) → StartedBox lent starts a lent' → Tells (started_numbers a) 0 answer' → HostReached starts lent' []
-    go Started.Started s t = reached_host (reached_begun s)
-    go (Started.Refused refusal) s t = absurd (is_refused refusal t refl)
+    go : (a : Result (Unit {0}) Refusal) → StartedBox lent starts a lent' → Tells (started_numbers a) 0 answer' → HostReached starts lent' []
+    go (Ok _) s t = reached_host (reached_begun s)
+    go (Err refusal) s t = absurd (is_refused refusal t refl)
 
 -- a batch taken, whatever is returned
 pub host_took : {starts : List ℕ} {lent lent' : Lent} {past : List Event} {batch answer' : List ℕ} {returned : ℕ} → HostReached starts lent past

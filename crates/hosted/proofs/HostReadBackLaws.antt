@@ -1,5 +1,5 @@
 -- Values that a host has written, taken and read are the same from the first row behind the key on, behind the number that was written.
-use Rattle.std.specs.Prelude.{ℕ, ◌≤◌, ◌<◌, ◌^◌, ◌≡◌, refl, Bool, true, false, cond, List, [], ◌∷◌, ◌++◌, eqb, length, get_or, take, drop, Ok}
+use Rattle.std.specs.Prelude.{ℕ, ◌≤◌, ◌<◌, ◌^◌, ◌≡◌, refl, Bool, true, false, cond, List, [], ◌∷◌, ◌++◌, eqb, length, get_or, take, drop, Ok, Result, Err}
 use Rattle.std.proofs.Common.{sym, ap, ap₂, ◌∙◌, append_assoc, ⊎_elim, arith, eqb-true, le-ltb, get_or-drop}
 use Rattle.std.proofs.Math.Option.{some}
 use Rattle.laws.specs.Choice.{clash, either}
@@ -23,7 +23,7 @@ use Rattle.message.specs.Compared.{compared_there}
 use Rattle.message.specs.Message.{message_key, key_place, acts_as}
 use Rattle.state.specs.declared.answers.Judged.{Judged}
 use Rattle.state.specs.declared.answers.Recorded.{Recorded}
-use Rattle.state.specs.declared.answers.Written.{Written}
+use Rattle.state.specs.declared.refusal.Refusal.{Refusal}
 use Rattle.state.specs.Answers.{judged_numbers, recorded_numbers, written_numbers, answered}
 use Rattle.state.specs.AnswersLaws.{accepted_by}
 use Rattle.state.specs.GoodState.{GoodState}
@@ -115,13 +115,13 @@ module _ (item : Item) (code : List ℕ) (level : Level) (number : ℕ) (key val
     abbrev batch : List ℕ
     batch = batch_of (take n out')
 
-    message_written : WroteValues item (code_of code) level number key laid out (Written.Message n) out'
+    message_written : WroteValues item (code_of code) level number key laid out (Ok n) out'
     message_written = go wrote.written wrote.promised wrote.tells
       where
-        go : (a : Written) → WroteValues item (code_of code) level number key laid out a out' → Tells (written_numbers a) 0 (n ∷ 0 ∷ 0 ∷ 0 ∷ [])
-            → WroteValues item (code_of code) level number key laid out (Written.Message n) out'
-        go (Written.Message m) p t = let same : m ≡ n = ap (λ (ns : List ℕ). get_or ns 0 0) (sym t.values) in rw same at p
-        go (Written.Refused refusal) p t = absurd (is_refused refusal t refl)
+        go : (a : Result ℕ Refusal) → WroteValues item (code_of code) level number key laid out a out' → Tells (written_numbers a) 0 (n ∷ 0 ∷ 0 ∷ 0 ∷ [])
+            → WroteValues item (code_of code) level number key laid out (Ok n) out'
+        go (Ok m) p t = let same : m ≡ n = ap (λ (ns : List ℕ). get_or ns 0 0) (sym t.values) in rw same at p
+        go (Err refusal) p t = absurd (is_refused refusal t refl)
 
     abbrev message : List ℕ
     message = written item (code_of code) level number key laid out out' n form update.0 message_written

@@ -4,7 +4,7 @@
 ghost use Rattle.pairs.specs.Lists.{lists};
 ghost use Rattle.runs.specs.Promises.{StartedRuns, TookRuns, ListedGaps};
 
-use quotebox::{Judged, Listed, Started};
+use quotebox::{Judged, Listed, Refusal};
 use runs::Run;
 
 // The runs of the gap rows of as many segments as a list may have.
@@ -12,7 +12,7 @@ pub const RUNS: usize = runs::MOST;
 
 #[derive(Clone, Copy)]
 pub struct Began {
-    pub answer: Started,
+    pub answer: Result<(), Refusal>,
     pub rows: [Run; RUNS],
 }
 

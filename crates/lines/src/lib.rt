@@ -9,8 +9,9 @@ ghost use Rattle.std.specs.Prelude.{◌≤◌, IfOk, length, OnErr, ◌≡◌};
 use console::{put, put_line};
 pub use message::put_written;
 pub use record::put_recorded;
-use state::{Judged, Listed, Refusal, Started, WrittenOff};
+use state::{Judged, Listed, Refusal, WrittenOff};
 use std::io::Result;
+use std::result;
 
 // `NAME refused`, the number, message, row and cells wanted.
 pub(crate) fn put_refused(
@@ -27,14 +28,19 @@ pub(crate) fn put_refused(
     put_line(rt, page, used, name, b" refused", &numbers)
 }
 
-pub fn put_started(rt: &impl Print, page: &mut [u8], used: usize, answer: Started) -> Result<usize>
+pub fn put_started(
+    rt: &impl Print,
+    page: &mut [u8],
+    used: usize,
+    answer: result::Result<(), Refusal>,
+) -> Result<usize>
     requires { used ≤ length page.old }
     ensures puts { IfOk result (λ answer. answer ≤ length page.old) }
     ensures failed { OnErr result (length page.new ≡ length page.old) }
 {
     match answer {
-        Started::Started => put(rt, page, used, b"start ok\n"),
-        Started::Refused(refusal) => put_refused(rt, page, used, b"start", refusal),
+        Ok(()) => put(rt, page, used, b"start ok\n"),
+        Err(refusal) => put_refused(rt, page, used, b"start", refusal),
     }
 }
 

@@ -3,8 +3,9 @@ ghost use Rattle.std.specs.Prelude.{◌≤◌, IfOk, length, OnErr, ◌≡◌};
 
 use crate::put_refused;
 use console::put;
-use state::Written;
+use state::Refusal;
 use std::io::Result;
+use std::result;
 
 // Two digits, the high one first.
 fn put_hex(rt: &impl Print, page: &mut [u8], used: usize, byte: u8) -> Result<usize>
@@ -44,7 +45,7 @@ pub fn put_written(
     rt: &impl Print,
     page: &mut [u8],
     used: usize,
-    answer: Written,
+    answer: result::Result<usize, Refusal>,
     out: &[u8],
 ) -> Result<usize>
     requires { used ≤ length page.old }
@@ -52,10 +53,10 @@ pub fn put_written(
     ensures failed { OnErr result (length page.new ≡ length page.old) }
 {
     match answer {
-        Written::Message(size) => {
+        Ok(size) => {
             let end = console::least(size, out.len());
             put_message(rt, page, used, &out[0..end])
         }
-        Written::Refused(refusal) => put_refused(rt, page, used, b"write", refusal),
+        Err(refusal) => put_refused(rt, page, used, b"write", refusal),
     }
 }

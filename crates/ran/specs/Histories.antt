@@ -1,17 +1,15 @@
 -- Histories of calls over a lent row of runs: 01 "What may be asked". Any finite sequence of public calls with any arguments from an
 -- accepted start, with no other accepted start in it, each call handed the runs and records that the one before left.
-use Rattle.std.specs.Prelude.{ℕ, ◌≡◌, List, []}
+use Rattle.std.specs.Prelude.{ℕ, ◌≡◌, List, [], Ok, Err, Result}
 use Rattle.forms.specs.declared.forms.Form.{Form}
 use Rattle.forms.specs.declared.forms.Item.{Item}
 use Rattle.pairs.specs.Lists.{Lists}
 use Rattle.forms.specs.declared.rows.Level.{Level}
 use Rattle.state.specs.declared.refusal.Refusal.{Refusal}
-use Rattle.state.specs.declared.answers.Started.{Started}
 use Rattle.state.specs.declared.answers.Judged.{Judged}
 use Rattle.state.specs.declared.answers.Listed.{Listed}
 use Rattle.state.specs.declared.answers.WrittenOff.{WrittenOff}
 use Rattle.state.specs.declared.answers.Recorded.{Recorded}
-use Rattle.state.specs.declared.answers.Written.{Written}
 use Rattle.writer.specs.declared.writing.Code.{Code}
 use Rattle.state.specs.Memory.{lends}
 use Rattle.batch.specs.Promises.{JudgedBatch, TookBatch}
@@ -27,9 +25,9 @@ use Rattle.runs.specs.Promises.{StartedRuns, JudgedRuns, TookRuns, ListedGaps, W
 -- demand 3, "After any sequence of calls from a fresh start": the runs and records that a history leaves, and its past: `lists` and
 -- `starts` are those of its start
 pub data ReachedRuns (lists : Lists) (starts : List ℕ) : List Run → List ℕ → List Event → Type 0 where
-  begun : {rows rows' : List Run} {records records' : List ℕ} → StartedRuns lists starts rows records Started.Started rows' records' → ReachedRuns lists starts rows' records' []
+  begun : {rows rows' : List Run} {records records' : List ℕ} → StartedRuns lists starts rows records (Ok tt) rows' records' → ReachedRuns lists starts rows' records' []
   refused_start : {rows rows' : List Run} {records records' : List ℕ} {past : List Event} → ReachedRuns lists starts rows records past
-      → (lists' : Lists) (starts' : List ℕ) (refusal : Refusal) → StartedRuns lists' starts' rows records (Started.Refused refusal) rows' records'
+      → (lists' : Lists) (starts' : List ℕ) (refusal : Refusal) → StartedRuns lists' starts' rows records (Err refusal) rows' records'
       → ReachedRuns lists starts rows' records' past
   judge : {rows : List Run} {records : List ℕ} {past : List Event} → ReachedRuns lists starts rows records past
       → (batch : List ℕ) (answer : Judged) → JudgedRuns lists rows records batch answer
@@ -49,11 +47,11 @@ pub data ReachedRuns (lists : Lists) (starts : List ℕ) : List Run → List ℕ
       → ReachedRuns lists starts rows records past
   -- the writer is handed no gap rows and no records
   write_message : {rows : List Run} {records : List ℕ} {past : List Event} → ReachedRuns lists starts rows records past
-      → (item : Item) (code : Code) (level : Level) (number : ℕ) (key : List ℕ) (cells : Form → List ℕ) (out : List ℕ) (answer : Written) (out' : List ℕ)
+      → (item : Item) (code : Code) (level : Level) (number : ℕ) (key : List ℕ) (cells : Form → List ℕ) (out : List ℕ) (answer : Result ℕ Refusal) (out' : List ℕ)
       → WroteValues item code level number key cells out answer out'
       → ReachedRuns lists starts rows records past
   no_spreads : {rows : List Run} {records : List ℕ} {past : List Event} → ReachedRuns lists starts rows records past
-      → (list out : List ℕ) (answer : Written) (out' : List ℕ) → PutNoSpreads list out answer out'
+      → (list out : List ℕ) (answer : Result ℕ Refusal) (out' : List ℕ) → PutNoSpreads list out answer out'
       → ReachedRuns lists starts rows records past
 
 -- 01 "What may be asked": each call answers and leaves what the call over numbers does, with the row seen as numbers

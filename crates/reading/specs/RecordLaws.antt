@@ -10,7 +10,6 @@ use Rattle.laws.specs.Rules.{first_broken}
 use Rattle.laws.specs.RulesLaws.{front_broken, last_holds, last_broken}
 use Rattle.files.specs.File.{count_at}
 use Rattle.pairs.specs.Lists.{Headers}
-use Rattle.lookup.specs.Answers.{place_of}
 use Rattle.lookup.specs.Lookup.{segment_of}
 use Rattle.lookup.specs.LookupLaws.{segment_has, key_at_place}
 use Rattle.forms.specs.declared.rows.Level.{Level}
@@ -109,15 +108,6 @@ module _ (item : Item) (lent : Lent) (letter : ℕ) (key : List ℕ) where
       record_lent level =
           let there = (segment_has lent.lists.contracts letter i s).0 in
           omega (arith, (state_held lent letter e).records_lent, slot_inside lent.lists headers (slot item i place level) (there, place_under), cells_by_rows item level)
-
--- a place that is found or refused is so by what was looked up
-pub place_found : (found : Found ℕ) (r : Refusal) {place : ℕ} → ok_or found r ≡ Ok place → place_of found ≡ some place
-place_found (Some p) r e = cc
-place_found None r e = cc
-
-pub place_refused : (found : Found ℕ) (r : Refusal) {answer : Refusal} → ok_or found r ≡ Err answer → (place_of found ≡ none) × (answer ≡ r)
-place_refused (Some p) r e = cc
-place_refused None r e = (refl, (cc))
 
 -- ---- the record that is found
 

@@ -1,5 +1,5 @@
 -- From the array of runs that a call looks at to the lent row: what is promised of the one is promised of the other.
-use Rattle.std.specs.Prelude.{ℕ, min, ◌≤◌, ◌<◌, ◌≡◌, refl, true, false, List, [], ◌∷◌, ◌++◌, length, take, drop}
+use Rattle.std.specs.Prelude.{ℕ, min, ◌≤◌, ◌<◌, ◌≡◌, refl, true, false, List, [], ◌∷◌, ◌++◌, length, take, drop, Result}
 use Rattle.std.proofs.Common.{ap, ap₂, sym, ◌∙◌, subst, ⊎_elim, append-nil, arith, length-take, take_all, take_at, length-take-le}
 use Rattle.laws.specs.Choice.{either}
 use Rattle.laws.specs.Lists.{take_min, drop_min}
@@ -9,7 +9,7 @@ use Rattle.contracts.specs.HeaderLaws.{header_exact}
 use Rattle.contracts.specs.Sound.{most_segments}
 use Rattle.contracts.specs.SoundTests.{header_sound}
 use Rattle.forms.specs.declared.rows.Level.{Level}
-use Rattle.state.specs.declared.answers.Started.{Started}
+use Rattle.state.specs.declared.refusal.Refusal.{Refusal}
 use Rattle.state.specs.declared.answers.Judged.{Judged}
 use Rattle.state.specs.declared.answers.Listed.{Listed}
 use Rattle.state.specs.declared.answers.WrittenOff.{WrittenOff}
@@ -124,7 +124,7 @@ module _ (lists : Lists) (rows : List Run) where
   }
 
   module _ (records : List ℕ) where
-    pub started_runs : (starts : List ℕ) (answer : Started) (runs : List Run) (records' : List ℕ) → length runs ≡ most_runs
+    pub started_runs : (starts : List ℕ) (answer : Result (Unit {0}) Refusal) (runs : List Run) (records' : List ℕ) → length runs ≡ most_runs
         → StartedRuns lists starts front records answer (lent rows runs) records' → StartedRuns lists starts rows records answer (over runs rows) records'
     started_runs starts answer runs records' long =
         lent_over started_numbers [] (λ ns ns' core. StartedBox (lends lists ns records) starts core (lends lists ns' records')) (λ a z a' core room q. started_front (lends lists a records) z room starts core q)

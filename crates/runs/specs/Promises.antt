@@ -1,12 +1,12 @@
 -- What each call over a lent row of runs promises: what the call over numbers promises of the row seen as numbers, with 15 for gap
 -- rows in runs.
-use Rattle.std.specs.Prelude.{ℕ, ◌≡◌, true, List, [], ◌∷◌, length}
+use Rattle.std.specs.Prelude.{ℕ, ◌≡◌, true, List, [], ◌∷◌, length, Result}
 use Rattle.files.specs.File.{segments_of}
 use Rattle.contracts.specs.SoundTests.{header_sound, sound}
 use Rattle.pairs.specs.SpreadTests.{spread_header_sound, spreads_sound}
 use Rattle.pairs.specs.Lists.{Lists}
 use Rattle.forms.specs.declared.rows.Level.{Level}
-use Rattle.state.specs.declared.answers.Started.{Started}
+use Rattle.state.specs.declared.refusal.Refusal.{Refusal}
 use Rattle.state.specs.declared.answers.Judged.{Judged}
 use Rattle.state.specs.declared.answers.Listed.{Listed}
 use Rattle.state.specs.declared.answers.WrittenOff.{WrittenOff}
@@ -39,7 +39,7 @@ pub record Over {A : Type 0} (numbers_of : A → List ℕ) (list : List ℕ) (ro
   pub answers : numbers_of answer ≡ in_runs list (length rows) (numbers_of core)
 
 -- 01 "What may be asked": start
-abbrev pub StartedRuns : (lists : Lists) (starts : List ℕ) (rows : List Run) (records : List ℕ) (answer : Started) (rows' : List Run) (records' : List ℕ) → Type 0
+abbrev pub StartedRuns : (lists : Lists) (starts : List ℕ) (rows : List Run) (records : List ℕ) (answer : Result (Unit {0}) Refusal) (rows' : List Run) (records' : List ℕ) → Type 0
 StartedRuns lists starts rows records answer rows' records' = Over started_numbers lists.contracts rows rows' (λ ns ns' core. StartedBox (lends lists ns records) starts core (lends lists ns' records')) answer
 
 -- 01 "What may be asked": judge a batch without change
@@ -78,7 +78,7 @@ HeadersPass lists = (header_sound lists.contracts ≡ true) × (spread_header_so
 -- 01, the order of checks: a call on these runs that no rule before 15 refuses, the numbers of its answer, and those that stand behind a
 -- refusal by 15; M-102: of a batch that no key was compared
 pub data UpToMemory (lists : Lists) (rows : List Run) : List ℕ → List ℕ → Type 0 where
-  starts : {starts records records' : List ℕ} {rows' : List Run} {answer : Started} → sound lists.contracts ≡ true → spreads_sound lists.contracts lists.pairs ≡ true
+  starts : {starts records records' : List ℕ} {rows' : List Run} {answer : Result (Unit {0}) Refusal} → sound lists.contracts ≡ true → spreads_sound lists.contracts lists.pairs ≡ true
       → each_starts (segments_of lists.contracts) starts ≡ true → StartedRuns lists starts rows records answer rows' records' → UpToMemory lists rows (started_numbers answer) []
   judges : {records batch : List ℕ} {answer : Judged} → HeadersPass lists → JudgedRuns lists rows records batch answer → UpToMemory lists rows (judged_numbers answer) (0 ∷ [])
   takes : {records batch records' : List ℕ} {rows' : List Run} {answer : Judged} → HeadersPass lists → TookRuns lists rows records batch answer rows' records' → UpToMemory lists rows (judged_numbers answer) (0 ∷ [])

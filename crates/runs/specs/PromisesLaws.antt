@@ -1,11 +1,10 @@
 -- What the promises over a lent row of runs settle: one outcome, a refusal that changes no run, 15 with the runs wanted
 -- (proofs/TooFew), and else the answer of the call over numbers, so that what is known of that call is known of this one.
-use Rattle.std.specs.Prelude.{ℕ, ◌≤◌, ◌≡◌, refl, false, List, [], ◌∷◌, eqb, length, get_or}
+use Rattle.std.specs.Prelude.{ℕ, ◌≤◌, ◌≡◌, refl, false, List, [], ◌∷◌, eqb, length, get_or, Result, Ok, Err}
 use Rattle.std.proofs.Common.{ap, sym, ◌∙◌, subst}
 use Rattle.std.proofs.Math.Option.{none, some}
 use Rattle.laws.specs.RulesLaws.{unlike}
 use Rattle.forms.specs.declared.rows.Level.{Level}
-use Rattle.state.specs.declared.answers.Started.{Started}
 use Rattle.state.specs.declared.answers.Judged.{Judged}
 use Rattle.state.specs.declared.answers.Listed.{Listed}
 use Rattle.state.specs.declared.answers.WrittenOff.{WrittenOff}
@@ -40,12 +39,12 @@ use Rattle.runs.specs.Promises.{Over, StartedRuns, JudgedRuns, TookRuns, ListedG
 left_told : {lists : Lists} {records records' : List ℕ} (rows rows' : List Run) → lends lists (flat rows) records ≡ lends lists (flat rows') records' → (rows ≡ rows') × (records ≡ records')
 left_told rows rows' e = (flat_told rows rows' (ap (λ (l : Lent). l.rows) e), ap (λ (l : Lent). l.records) e)
 
-pub one_started_runs : {lists : Lists} {starts records records' records'' : List ℕ} {rows rows' rows'' : List Run} (a b : Started) → StartedRuns lists starts rows records a rows' records'
+pub one_started_runs : {lists : Lists} {starts records records' records'' : List ℕ} {rows rows' rows'' : List Run} (a b : Result (Unit {0}) Refusal) → StartedRuns lists starts rows records a rows' records'
     → StartedRuns lists starts rows records b rows'' records'' → (a ≡ b) × (rows' ≡ rows'') × (records' ≡ records'')
 one_started_runs {lists} {rows = rows} {rows' = rows'} {rows'' = rows''} a b p q =
     let same = one_started p.core q.core p.promised q.promised in
     let left = left_told rows' rows'' same.1 in
-    (started_told a b (p.answers ∙ ap (λ (c : Started). in_runs lists.contracts (length rows) (started_numbers c)) same.0 ∙ sym q.answers), left.0, left.1)
+    (started_told a b (p.answers ∙ ap (λ (c : Result (Unit {0}) Refusal). in_runs lists.contracts (length rows) (started_numbers c)) same.0 ∙ sym q.answers), left.0, left.1)
 
 pub one_judged_runs : {lists : Lists} {records batch : List ℕ} {rows : List Run} (a b : Judged) → JudgedRuns lists rows records batch a → JudgedRuns lists rows records batch b → a ≡ b
 one_judged_runs {lists} {records} {batch} {rows} a b p q =
@@ -110,11 +109,11 @@ module _ (lists : Lists) (rows : List Run) (enough : runs_wanted lists.contracts
   wrote_off_enough answer = over_enough written_off_told answer
 
 -- an accepted start is one over numbers
-pub started_core : {lists : Lists} {starts records records' : List ℕ} {rows rows' : List Run} → StartedRuns lists starts rows records Started.Started rows' records'
-    → StartedBox (lends lists (flat rows) records) starts Started.Started (lends lists (flat rows') records')
+pub started_core : {lists : Lists} {starts records records' : List ℕ} {rows rows' : List Run} → StartedRuns lists starts rows records (Ok tt) rows' records'
+    → StartedBox (lends lists (flat rows) records) starts (Ok tt) (lends lists (flat rows') records')
 started_core {lists} {starts} {records} {records'} {rows} {rows'} p =
-    subst (λ (c : Started). StartedBox (lends lists (flat rows) records) starts c (lends lists (flat rows') records'))
-    (sym (started_told Started.Started p.core (told_other lists (length rows) (started_numbers p.core) (0 ∷ []) p.answers refl))) p.promised
+    subst (λ (c : Result (Unit {0}) Refusal). StartedBox (lends lists (flat rows) records) starts c (lends lists (flat rows') records'))
+    (sym (started_told (Ok tt) p.core (told_other lists (length rows) (started_numbers p.core) (0 ∷ []) p.answers refl))) p.promised
 
 -- ---- a refusal changes no run, no record and no cell
 
@@ -122,12 +121,12 @@ started_core {lists} {starts} {records} {records'} {rows} {rows'} p =
 accepted_never : (lists : Lists) (lent : ℕ) (r : Refusal) (values : List ℕ) → refusal_numbers r ≡ in_runs lists.contracts lent (0 ∷ values) → none ≡ some r
 accepted_never lists lent r values e = refused_by_lem none values r (e ∙ in_runs_other lists.contracts lent (0 ∷ values) refl)
 
-pub started_refused : {lists : Lists} {starts records records' : List ℕ} {rows rows' : List Run} (r : Refusal) → StartedRuns lists starts rows records (Started.Refused r) rows' records' → (rows' ≡ rows) × (records' ≡ records)
+pub started_refused : {lists : Lists} {starts records records' : List ℕ} {rows rows' : List Run} (r : Refusal) → StartedRuns lists starts rows records (Err r) rows' records' → (rows' ≡ rows) × (records' ≡ records)
 started_refused {lists} {starts} {records} {records'} {rows} {rows'} r p = go p.core p.promised p.answers
   where
-    go : (core : Started) → StartedBox (lends lists (flat rows) records) starts core (lends lists (flat rows') records') → refusal_numbers r ≡ in_runs lists.contracts (length rows) (started_numbers core) → (rows' ≡ rows) × (records' ≡ records)
-    go Started.Started q e = absurd (unlike (sym (accepted_never lists (length rows) r [] e)))
-    go (Started.Refused s) q e = left_told rows' rows (start_refusal_lem s q).1
+    go : (core : Result (Unit {0}) Refusal) → StartedBox (lends lists (flat rows) records) starts core (lends lists (flat rows') records') → refusal_numbers r ≡ in_runs lists.contracts (length rows) (started_numbers core) → (rows' ≡ rows) × (records' ≡ records)
+    go (Ok _) q e = absurd (unlike (sym (accepted_never lists (length rows) r [] e)))
+    go (Err s) q e = left_told rows' rows (start_refusal_lem s q).1
 
 pub took_refused : {lists : Lists} {records batch records' : List ℕ} {rows rows' : List Run} (r : Refusal) {compared : ℕ} → TookRuns lists rows records batch (Judged.Refused r compared) rows' records' → (rows' ≡ rows) × (records' ≡ records)
 took_refused {lists} {records} {batch} {records'} {rows} {rows'} r {compared} p = go p.core p.promised p.answers

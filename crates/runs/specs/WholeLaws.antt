@@ -1,7 +1,7 @@
 -- The promises of the calls over numbers, from the front of the gap rows to all of them: what stands behind the first `most` numbers
 -- is neither looked at nor changed.
 use Prim.Native.Nat.{ℕ, ◌≤◌}
-use Rattle.std.specs.Prelude.{◌≡◌, refl, true, false, length, drop}
+use Rattle.std.specs.Prelude.{◌≡◌, refl, true, false, length, drop, Result}
 use Rattle.std.proofs.Math.Path.{ap, ap₂, sym}
 use Rattle.std.proofs.Common.{◌∙◌, true≢false}
 use mathlib.Core.List.{List, [], ◌∷◌, ◌++◌, append_assoc}
@@ -24,7 +24,6 @@ use Rattle.sequence.specs.Changes.{wrote_off}
 use Rattle.sequence.specs.RowLaid.{laid}
 use Rattle.head.specs.Tests.{is_some}
 use Rattle.message.specs.Message.{key_place}
-use Rattle.state.specs.declared.answers.Started.{Started}
 use Rattle.state.specs.declared.answers.Judged.{Judged}
 use Rattle.state.specs.declared.answers.Listed.{Listed}
 use Rattle.state.specs.declared.answers.WrittenOff.{WrittenOff}
@@ -89,7 +88,7 @@ module _ (lent : Lent) (h : header_sound lent.lists.contracts ≡ false) where
   start_unlisted starts =
       ⊎_elim (λ (s : sound lent.lists.contracts ≡ true). absurd (true≢false (sym (sound_header contracts lent.lists.contracts s) ∙ h))) (λ (s : sound lent.lists.contracts ≡ false). rw s) (either (sound lent.lists.contracts))
 
-  pub started_unlisted : (starts : List ℕ) {lent' : Lent} (answer : Started) → StartedBox lent starts answer lent' → started_numbers answer ≡ refusal_numbers ListOf
+  pub started_unlisted : (starts : List ℕ) {lent' : Lent} (answer : Result (Unit {0}) Refusal) → StartedBox lent starts answer lent' → started_numbers answer ≡ refusal_numbers ListOf
   started_unlisted starts answer p = p.answers ∙ told_as _ [] (start_unlisted starts)
 
   module _ (letter : ℕ) where
@@ -180,7 +179,7 @@ module _ (lent : Lent) (z : List ℕ) (room : most ≤ length lent.rows) where
         heads lists.contracts (λ h. rw (start_unlisted lent h starts))
         (λ header. left_longer z (start_broken lent starts) lent (lent_started lent starts) (lent_started all starts) (rows_left header))
 
-    pub started_front : {lent' : Lent} (answer : Started) → StartedBox lent starts answer lent' → StartedBox all starts answer (longer z lent')
+    pub started_front : {lent' : Lent} (answer : Result (Unit {0}) Refusal) → StartedBox lent starts answer lent' → StartedBox all starts answer (longer z lent')
     started_front answer p = record {
       answers = p.answers ∙ ap (λ (o : Option Refusal). answered o []) (sym broken_front);
       left = ap (longer z) p.left ∙ sym started_left ∙ ap (λ (o : Option Refusal). left_by o all (lent_started all starts)) (sym broken_front);

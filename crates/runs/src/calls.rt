@@ -5,7 +5,7 @@ ghost use Rattle.runs.specs.Promises.{StartedRuns, JudgedRuns, TookRuns, ListedG
 use crate::front;
 use copies::Run;
 use layout::Level;
-use quotebox::{Judged, Listed, Reading, SpreadReading, Started, WrittenOff};
+use quotebox::{Judged, Listed, Reading, Refusal, SpreadReading, WrittenOff};
 
 pub fn start(
     list: &[u8],
@@ -13,7 +13,7 @@ pub fn start(
     starts: &[u32],
     rows: &mut [Run],
     records: &mut [u64],
-) -> Started
+) -> Result<(), Refusal>
     ensures { StartedRuns (lists list.now spreads.now) starts.now rows.old records.old result rows.new records.new }
 {
     let runs = copies::out(rows);

@@ -11,11 +11,11 @@ ghost use Rattle.runs.specs.Promises.{StartedRuns, JudgedRuns, TookRuns, ListedG
 use crate::refusal;
 use copies::Run;
 use layout::Level;
-use quotebox::{Judged, Listed, Reading, SpreadReading, Started, WrittenOff};
+use quotebox::{Judged, Listed, Reading, Refusal, SpreadReading, WrittenOff};
 
 #[derive(Clone, Copy)]
 pub(crate) struct Began {
-    pub answer: Started,
+    pub answer: Result<(), Refusal>,
     pub runs: [Run; copies::MOST],
 }
 
@@ -38,7 +38,7 @@ fn start_numbers(
     numbers: &mut [u32],
     lent: usize,
     records: &mut [u64],
-) -> Started
+) -> Result<(), Refusal>
     requires { lent ≤ length numbers.old }
     ensures { StartedBox (lends (lists list.now spreads.now) (take lent numbers.old) records.old) starts.now result (lends (lists list.now spreads.now) (take lent numbers.new) records.new) }
 {

@@ -4,7 +4,7 @@ ghost use Rattle.state.specs.Refusals.{refusal_numbers};
 ghost use Rattle.state.specs.Answers.{started_numbers, judged_numbers, listed_numbers, written_off_numbers, recorded_numbers};
 ghost use Rattle.runs.specs.Wanted.{in_runs};
 
-use quotebox::{Judged, Listed, Recorded, Refusal, Started, WrittenOff};
+use quotebox::{Judged, Listed, Recorded, Refusal, WrittenOff};
 
 fn in_runs(list: &[u8], lent: usize, refusal: Refusal) -> Refusal
     ensures { refusal_numbers result ≡ in_runs list.now lent (refusal_numbers refusal) }
@@ -19,13 +19,10 @@ fn in_runs(list: &[u8], lent: usize, refusal: Refusal) -> Refusal
 }
 
 #[tactic(auto, unfolding(crate::specs::Wanted::in_runs))]
-pub(crate) fn started(list: &[u8], lent: usize, answer: Started) -> Started
+pub(crate) fn started(list: &[u8], lent: usize, answer: Result<(), Refusal>) -> Result<(), Refusal>
     ensures { started_numbers result ≡ in_runs list.now lent (started_numbers answer) }
 {
-    match answer {
-        Started::Started => Started::Started,
-        Started::Refused(refusal) => Started::Refused(in_runs(list, lent, refusal)),
-    }
+    answer.map_err(|refusal| in_runs(list, lent, refusal))
 }
 
 #[tactic(auto, unfolding(crate::specs::Wanted::in_runs))]

@@ -1,5 +1,5 @@
 -- What the promises settle: one outcome, a refusal that leaves everything, and what an accepted start leaves.
-use Rattle.std.specs.Prelude.{ℕ, ◌<◌, ◌≡◌, refl, List, [], ◌∷◌, ◌++◌, length, get_or, drop, replicate}
+use Rattle.std.specs.Prelude.{ℕ, ◌<◌, ◌≡◌, refl, List, [], ◌∷◌, ◌++◌, length, get_or, drop, replicate, Result, Ok, Err}
 use Rattle.std.proofs.Common.{sym, ap₂, ◌∙◌, arith, length-append, length-drop, drop_at}
 use Rattle.std.proofs.Math.Path.{ap}
 use Rattle.std.proofs.Math.Option.{Option, none, some}
@@ -20,8 +20,6 @@ use Rattle.slots.specs.Slots.{Slot, SlotListed, records_wanted}
 use Rattle.slots.specs.Places.{slot_at}
 use Rattle.slots.specs.SlotsLaws.{slot_inside, slot_some}
 use Rattle.state.specs.declared.refusal.Refusal.{Refusal}
-use Rattle.state.specs.declared.answers.Started.{Started}
-use Rattle.state.specs.declared.answers.Written.{Written}
 use Rattle.state.specs.Answers.{answered, left_by}
 use Rattle.state.specs.Memory.{Lent, lends, gap_row_cells, gap_rows_wanted, gap_row_of, SameBehind}
 use Rattle.state.specs.GoodState.{GoodState}
@@ -34,16 +32,16 @@ use Rattle.starting.specs.StartPromises.{StartedBox, PutNoSpreads}
 
 -- ---- one outcome
 
-pub one_started : {lent lent' lent'' : Lent} {starts : List ℕ} (a b : Started) → StartedBox lent starts a lent' → StartedBox lent starts b lent'' → (a ≡ b) × (lent' ≡ lent'')
+pub one_started : {lent lent' lent'' : Lent} {starts : List ℕ} (a b : Result (Unit {0}) Refusal) → StartedBox lent starts a lent' → StartedBox lent starts b lent'' → (a ≡ b) × (lent' ≡ lent'')
 one_started a b p q = (started_told a b (p.answers ∙ sym q.answers), p.left ∙ sym q.left)
 
-pub one_no_spreads : {list out out' out'' : List ℕ} (a b : Written) → PutNoSpreads list out a out' → PutNoSpreads list out b out'' → (a ≡ b) × (out' ≡ out'')
+pub one_no_spreads : {list out out' out'' : List ℕ} (a b : Result ℕ Refusal) → PutNoSpreads list out a out' → PutNoSpreads list out b out'' → (a ≡ b) × (out' ≡ out'')
 one_no_spreads a b p q = (written_told a b (p.answers ∙ sym q.answers), p.left ∙ sym q.left)
 
 -- ---- by what its steps leave
 
 module _ (lent : Lent) (starts : List ℕ) where
-  pub start_refused : (r : Refusal) → start_broken lent starts ≡ some r → StartedBox lent starts (Started.Refused r) lent
+  pub start_refused : (r : Refusal) → start_broken lent starts ≡ some r → StartedBox lent starts (Err r) lent
   start_refused r e =
       record {
         answers = sym (ap (λ (o : Option Refusal). answered o []) e);
@@ -51,7 +49,7 @@ module _ (lent : Lent) (starts : List ℕ) where
       }
 
   pub start_done : start_broken lent starts ≡ none → {rows' records' : List ℕ} → rows' ≡ rows_started lent.lists starts lent.rows → records' ≡ records_cleared lent.lists lent.records
-      → StartedBox lent starts Started.Started (lends lent.lists rows' records')
+      → StartedBox lent starts (Ok tt) (lends lent.lists rows' records')
   start_done e r s =
       record {
         answers = sym (ap (λ (o : Option Refusal). answered o []) e);
@@ -60,13 +58,13 @@ module _ (lent : Lent) (starts : List ℕ) where
 
 -- ---- a refused call: the first broken rule's refusal, and nothing changes
 
-pub start_refusal_lem : {lent lent' : Lent} {starts : List ℕ} (r : Refusal) → StartedBox lent starts (Started.Refused r) lent'
+pub start_refusal_lem : {lent lent' : Lent} {starts : List ℕ} (r : Refusal) → StartedBox lent starts (Err r) lent'
     → (start_broken lent starts ≡ some r) × (lent' ≡ lent)
 start_refusal_lem {lent} {starts = starts} r p =
     let broken = refused_by_lem (start_broken lent starts) [] r p.answers in
     (broken, p.left ∙ left_as _ r lent (lent_started lent starts) broken)
 
-pub no_spreads_refusal_lem : {list out out' : List ℕ} (r : Refusal) → PutNoSpreads list out (Written.Refused r) out'
+pub no_spreads_refusal_lem : {list out out' : List ℕ} (r : Refusal) → PutNoSpreads list out (Err r) out'
     → (first_broken (no_spreads_rules list (length out)) ≡ some r) × (out' ≡ out)
 no_spreads_refusal_lem {list} {out} r p =
     let broken = refused_by_lem (first_broken (no_spreads_rules list (length out))) (length (no_spreads list) ∷ []) r p.answers in
@@ -74,7 +72,7 @@ no_spreads_refusal_lem {list} {out} r p =
 
 -- ---- an accepted start
 
-module _ {lent lent' : Lent} {starts : List ℕ} (p : StartedBox lent starts Started.Started lent') where
+module _ {lent lent' : Lent} {starts : List ℕ} (p : StartedBox lent starts (Ok tt) lent') where
   abbrev lists : Lists
   lists = lent.lists
 
@@ -132,9 +130,9 @@ module _ {lent lent' : Lent} {starts : List ℕ} (p : StartedBox lent starts Sta
 
 -- ---- no call writes past the cells wanted for state
 
-pub start_nothing_behind : {lent lent' : Lent} {starts : List ℕ} (answer : Started) → StartedBox lent starts answer lent' → SameBehind lent lent'
-start_nothing_behind (Started.Refused r) p = rw (start_refusal_lem r p).1 (record { rows_behind = refl; records_behind = refl })
-start_nothing_behind {lent} {starts = starts} Started.Started p =
+pub start_nothing_behind : {lent lent' : Lent} {starts : List ℕ} (answer : Result (Unit {0}) Refusal) → StartedBox lent starts answer lent' → SameBehind lent lent'
+start_nothing_behind (Err r) p = rw (start_refusal_lem r p).1 (record { rows_behind = refl; records_behind = refl })
+start_nothing_behind {lent} {starts = starts} (Ok tt) p =
     let lists : Lists = lent.lists in
     record {
       rows_behind = ap (drop (gap_rows_wanted lists)) (rows_are p) ∙ drop_at (started_rows (segments_of lists.contracts) starts) _ (gap_rows_wanted lists) (started_lengths starts (segments_of lists.contracts));

@@ -8,7 +8,7 @@ ghost use Rattle.starting.specs.Start.{start_of, each_starts, start_rules};
 ghost use Rattle.starting.specs.StartActs.{started_rows};
 ghost use Rattle.starting.specs.StartPromises.{StartedBox};
 
-use state::{Refusal, Started};
+use state::Refusal;
 
 // A segment's start number; one that is missing counts as 0.
 fn start_of(starts: &[u32], segment: usize) -> u32
@@ -84,15 +84,11 @@ pub fn start(
     starts: &[u32],
     rows: &mut [u32],
     records: &mut [u64],
-) -> Started
+) -> Result<(), Refusal>
     ensures { StartedBox (lends (lists list.now spreads.now) rows.old records.old) starts.now result (lends (lists list.now spreads.now) rows.new records.new) }
 {
-    match check_start(list, spreads, starts, rows.len(), records.len()) {
-        Ok(()) => {
-            begin_rows(starts, rows, files::segments(list));
-            clear(records, slots::records_wanted(list, spreads));
-            Started::Started
-        }
-        Err(refusal) => Started::Refused(refusal),
-    }
+    check_start(list, spreads, starts, rows.len(), records.len())?;
+    begin_rows(starts, rows, files::segments(list));
+    clear(records, slots::records_wanted(list, spreads));
+    Ok(())
 }

@@ -4,18 +4,16 @@ use Rattle.std.specs.Prelude.{ℕ, List, [], ◌∷◌, ◌++◌, Result, Ok, Er
 use Rattle.std.proofs.Math.Option.{Option, none, some}
 use Rattle.layout.specs.Cells.{session_cell}
 use Rattle.state.specs.declared.refusal.Refusal.{Refusal}
-use Rattle.state.specs.declared.answers.Started.{Started}
 use Rattle.state.specs.declared.answers.Judged.{Judged}
 use Rattle.state.specs.declared.answers.Listed.{Listed}
 use Rattle.state.specs.declared.answers.WrittenOff.{WrittenOff}
 use Rattle.state.specs.declared.answers.Recorded.{Recorded}
-use Rattle.state.specs.declared.answers.Written.{Written}
 use Rattle.state.specs.Refusals.{refusal_numbers}
 
 -- 01 "What may be asked": start, which answers nothing more
-abbrev pub started_numbers : Started → List ℕ
-started_numbers Started.Started = 0 ∷ []
-started_numbers (Started.Refused refusal) = refusal_numbers refusal
+abbrev pub started_numbers : Result (Unit {0}) Refusal → List ℕ
+started_numbers (Ok _) = 0 ∷ []
+started_numbers (Err refusal) = refusal_numbers refusal
 
 -- 01 "What may be asked": an accepted batch answers how many messages were taken, old and heartbeats; M-102: and then how many keys
 -- its lookups compared, behind a refusal too
@@ -40,9 +38,9 @@ recorded_numbers Recorded.NoRecord = 0 ∷ 0 ∷ []
 recorded_numbers (Recorded.Refused refusal) = refusal_numbers refusal
 
 -- 01 "What may be asked": "the writer its length"
-abbrev pub written_numbers : Written → List ℕ
-written_numbers (Written.Message length) = 0 ∷ length ∷ []
-written_numbers (Written.Refused refusal) = refusal_numbers refusal
+abbrev pub written_numbers : Result ℕ Refusal → List ℕ
+written_numbers (Ok length) = 0 ∷ length ∷ []
+written_numbers (Err refusal) = refusal_numbers refusal
 
 -- 01, the order of checks: one that refuses nothing answers nothing more
 abbrev pub checked_numbers : Result (Unit {0}) Refusal → List ℕ

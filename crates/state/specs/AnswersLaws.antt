@@ -1,5 +1,5 @@
 -- An answer's numbers tell the answer: a way back from the numbers, and so which rule was broken, or that none was.
-use Rattle.std.specs.Prelude.{ℕ, ◌≡◌, refl, cond, List, [], ◌∷◌, eqb, get_or, drop, Result, Ok, Err}
+use Rattle.std.specs.Prelude.{ℕ, ◌≡◌, refl, cond, List, [], ◌∷◌, eqb, get_or, drop, Result, Ok, Err, Option as Maybe, Some, None, ok_or}
 use Rattle.std.proofs.Common.{sym, ap}
 use Rattle.std.proofs.Math.Option.{Option, none, some}
 use Rattle.laws.specs.Told.{told}
@@ -7,11 +7,9 @@ use Rattle.forms.specs.declared.forms.Session.TheVariants as session
 use Rattle.layout.specs.Cells.{session_in}
 use Rattle.state.specs.declared.refusal.Refusal.{Refusal}
 use Rattle.state.specs.declared.answers.Judged.{Judged}
-use Rattle.state.specs.declared.answers.Started.{Started}
 use Rattle.state.specs.declared.answers.Listed.{Listed}
 use Rattle.state.specs.declared.answers.WrittenOff.{WrittenOff}
 use Rattle.state.specs.declared.answers.Recorded.{Recorded}
-use Rattle.state.specs.declared.answers.Written.{Written}
 use Rattle.state.specs.Refusals.{refusal_numbers}
 use Rattle.state.specs.RefusalsLaws.{refusal_of, accepts, refusal_behind, refusal_back, refusal_told, never}
 use Rattle.state.specs.Answers.{judged_numbers, started_numbers, listed_numbers, written_off_numbers, recorded_numbers, written_numbers, checked_numbers, answered, left_by, checked_by}
@@ -39,6 +37,16 @@ pub checked_told : (c : Result (Unit {0}) Refusal) (o : Option Refusal) → chec
 checked_told (Ok _) o e = sym (accepted_by o [] [] e).0
 checked_told (Err r) o e = sym (refused_by_lem o [] r e)
 
+-- ---- what is there, or a refusal
+
+pub there_told : {A : Type 0} (o : Maybe A) (r : Refusal) {a : A} → ok_or o r ≡ Ok a → o ≡ Some a
+there_told (Some b) r e = cc
+there_told None r e = cc
+
+pub refusal_there : {A : Type 0} (o : Maybe A) (r : Refusal) {s : Refusal} → ok_or o r ≡ Err s → (o ≡ None) × (s ≡ r)
+refusal_there (Some b) r e = cc
+refusal_there None r e = (refl, (cc))
+
 -- ---- answers
 
 -- the way back to an answer that is a refusal or what an accepted call's numbers make
@@ -49,14 +57,14 @@ module _ {A : Type 0} (accepted : List ℕ → A) (refused : Refusal → A) wher
   refused_back : (r : Refusal) → answer_of (refusal_numbers r) ≡ refused r
   refused_back r = let b = refusal_back r in rw (b.1, b.0)
 
-abbrev started_of : List ℕ → Started
-started_of = answer_of (λ ns. Started.Started) Started.Refused
+abbrev started_of : List ℕ → Result (Unit {0}) Refusal
+started_of = answer_of (λ ns. (Ok tt)) Err
 
-started_back : (a : Started) → started_of (started_numbers a) ≡ a
-started_back Started.Started = refl
-started_back (Started.Refused r) = refused_back (λ ns. Started.Started) Started.Refused r
+started_back : (a : Result (Unit {0}) Refusal) → started_of (started_numbers a) ≡ a
+started_back (Ok _) = refl
+started_back (Err r) = refused_back (λ ns. (Ok tt)) Err r
 
-pub started_told : (a b : Started) → started_numbers a ≡ started_numbers b → a ≡ b
+pub started_told : (a b : Result (Unit {0}) Refusal) → started_numbers a ≡ started_numbers b → a ≡ b
 started_told = told started_numbers started_of started_back
 
 -- behind a refusal of a batch stands how many keys were compared
@@ -103,15 +111,15 @@ recorded_back (Recorded.Refused r) = refused_back record_answered Recorded.Refus
 pub recorded_told : (a b : Recorded) → recorded_numbers a ≡ recorded_numbers b → a ≡ b
 recorded_told = told recorded_numbers (answer_of record_answered Recorded.Refused) recorded_back
 
-abbrev length_answered : List ℕ → Written
-length_answered ns = Written.Message (get_or ns 1 0)
+abbrev length_answered : List ℕ → Result ℕ Refusal
+length_answered ns = Ok (get_or ns 1 0)
 
-written_back : (a : Written) → answer_of length_answered Written.Refused (written_numbers a) ≡ a
-written_back (Written.Message length) = refl
-written_back (Written.Refused r) = refused_back length_answered Written.Refused r
+written_back : (a : Result ℕ Refusal) → answer_of length_answered Err (written_numbers a) ≡ a
+written_back (Ok length) = refl
+written_back (Err r) = refused_back length_answered Err r
 
-pub written_told : (a b : Written) → written_numbers a ≡ written_numbers b → a ≡ b
-written_told = told written_numbers (answer_of length_answered Written.Refused) written_back
+pub written_told : (a b : Result ℕ Refusal) → written_numbers a ≡ written_numbers b → a ≡ b
+written_told = told written_numbers (answer_of length_answered Err) written_back
 
 -- ---- what a call leaves
 

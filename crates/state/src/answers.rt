@@ -2,12 +2,6 @@
 use crate::refusal::Refusal;
 use layout::Session;
 
-#[derive(Clone, Copy)]
-pub enum Started {
-    Started,
-    Refused(Refusal),
-}
-
 // Of a batch: how many messages were taken, old and heartbeats, or the refusal; and how many keys its lookups compared.
 #[derive(Clone, Copy)]
 pub enum Judged {
@@ -34,12 +28,5 @@ pub enum WrittenOff {
 pub enum Recorded {
     Record(u64, Session),
     NoRecord,
-    Refused(Refusal),
-}
-
-// The length of the message that was written.
-#[derive(Clone, Copy)]
-pub enum Written {
-    Message(usize),
     Refused(Refusal),
 }

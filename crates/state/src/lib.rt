@@ -7,7 +7,7 @@ mod gap_rows;
 mod refusal;
 mod state;
 
-pub use answers::{Judged, Listed, Recorded, Started, Written, WrittenOff};
+pub use answers::{Judged, Listed, Recorded, WrittenOff};
 pub use gap_rows::{copy_row, put_row, row_of};
 pub use refusal::{Refusal, of_fault, refusal_numbers};
 pub use state::{check_memory, check_segment, check_state};

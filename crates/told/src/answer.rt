@@ -4,7 +4,7 @@ ghost use Rattle.told.specs.Told.{told_of, record_numbers, with_fourth};
 ghost use Rattle.state.specs.Refusals.{refusal_numbers};
 ghost use Rattle.state.specs.Answers.{started_numbers, judged_numbers, listed_numbers, written_off_numbers, written_numbers};
 
-use quotebox::{Judged, Listed, Recorded, Refusal, Started, Written, WrittenOff};
+use quotebox::{Judged, Listed, Recorded, Refusal, WrittenOff};
 
 #[derive(Clone, Copy)]
 pub struct Told {
@@ -31,12 +31,12 @@ fn of_refusal(refusal: Refusal) -> Told
     }
 }
 
-pub fn of_started(started: Started) -> Told
+pub fn of_started(started: Result<(), Refusal>) -> Told
     ensures { result ≡ told_of (started_numbers started) }
 {
     match started {
-        Started::Started => of_numbers(0, 0, 0, 0),
-        Started::Refused(refusal) => of_refusal(refusal),
+        Ok(()) => of_numbers(0, 0, 0, 0),
+        Err(refusal) => of_refusal(refusal),
     }
 }
 
@@ -92,12 +92,12 @@ pub fn of_recorded(recorded: Recorded) -> Told
     }
 }
 
-pub fn of_written(written: Written) -> Told
+pub fn of_written(written: Result<usize, Refusal>) -> Told
     ensures { result ≡ told_of (written_numbers written) }
 {
     match written {
-        Written::Message(length) => of_numbers(0, length, 0, 0),
-        Written::Refused(refusal) => of_refusal(refusal),
+        Ok(length) => of_numbers(0, length, 0, 0),
+        Err(refusal) => of_refusal(refusal),
     }
 }
 

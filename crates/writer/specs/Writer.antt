@@ -15,7 +15,6 @@ use Rattle.forms.specs.Rows.{message_length}
 use Rattle.forms.specs.Sizes.{bare_length}
 use Rattle.compose.specs.Write.{Laid, write_rows, over_front, where_good}
 use Rattle.head.specs.Fields.{zero_sum}
-use Rattle.state.specs.declared.answers.Written.{Written}
 use Rattle.state.specs.declared.refusal.Refusal.{Refusal}
 use Rattle.state.specs.declared.refusal.Refusal.TheVariants.{Code as CodeOver, Numbering, Field, Range, Memory}
 use Rattle.writer.specs.declared.writing.Code.{Code}
@@ -114,6 +113,6 @@ pub record LaysRows (rows : Laid) (before : List ℕ) (answer : Result (Unit {0}
   pub leaves : after ≡ where_good rows.verdict (over_front rows.bytes before) before
 
 -- a word of our own: a message with this data, where there is room
-pub record PutsMessage (code : Code) (number : ℕ) (bytes out : List ℕ) (answer : Written) (out' : List ℕ) : Type 0 where
+pub record PutsMessage (code : Code) (number : ℕ) (bytes out : List ℕ) (answer : Result ℕ Refusal) (out' : List ℕ) : Type 0 where
   pub answers : written_numbers answer ≡ answered (first_broken (room_rules (length bytes + bare_length) (length out))) ((length bytes + bare_length) ∷ [])
   pub leaves : out' ≡ left_by (first_broken (room_rules (length bytes + bare_length) (length out))) out (message_put code number bytes out)

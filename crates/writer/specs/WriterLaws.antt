@@ -29,7 +29,6 @@ use Rattle.compose.specs.Write.{Laid, over_front, where_good, WritesUpdate, writ
 use Rattle.compose.specs.WriteLaws.{good_length}
 use Rattle.compose.specs.PutLaws.{laid_whole}
 use Rattle.head.specs.Tests.{takes_number}
-use Rattle.state.specs.declared.answers.Written.{Written}
 use Rattle.state.specs.declared.refusal.Refusal.{Refusal}
 use Rattle.state.specs.declared.refusal.Refusal.TheVariants.{Code as CodeOver, Numbering, Memory}
 use Rattle.writer.specs.declared.writing.Code.{Code}
@@ -146,13 +145,13 @@ module _ (code : Code) (number : ℕ) (bytes out : List ℕ) (room : length byte
       ∙ stored_behind before trailer out end before_long (omega arith)
       ∙ ap (λ (n : ℕ). (before ++ trailer) ++ drop n out) last
 
-  puts : {out' : List ℕ} → out' ≡ message_put code number bytes out → PutsMessage code number bytes out (Written.Message whole) out'
+  puts : {out' : List ℕ} → out' ≡ message_put code number bytes out → PutsMessage code number bytes out (Ok whole) out'
   puts e = let t = le-leb whole (length out) room in record { answers = rw t; leaves = rw t e }
 
 -- head, data and trailer as they are stored
 pub message_put_lem : (code : Code) (number : ℕ) (bytes out : List ℕ) (n : ℕ) → length bytes ≡ n → n + bare_length ≤ length out → (sum : Sum) {headed filled out' : List ℕ}
     → headed ≡ sets out 0 (head_bytes code (n + bare_length) number) → filled ≡ sets headed 8 bytes → sum ≡ sum_rule code.0 code.1
-    → out' ≡ sets filled (8 + n) (sum_written sum (take (8 + n) filled) ++ (end_byte ∷ [])) → PutsMessage code number bytes out (Written.Message (n + bare_length)) out'
+    → out' ≡ sets filled (8 + n) (sum_written sum (take (8 + n) filled) ++ (end_byte ∷ [])) → PutsMessage code number bytes out (Ok (n + bare_length)) out'
 message_put_lem code number bytes out n e room sum {headed} {filled} first second is third =
     let trailed : List ℕ → Sum → List ℕ = λ (s : List ℕ) (k : Sum). sets s (8 + length bytes) (sum_written k (take (8 + length bytes) s) ++ (end_byte ∷ [])) in
     let head : headed ≡ sets out 0 (head_bytes code (length bytes + bare_length) number) = rw (← e) at first in
@@ -162,7 +161,7 @@ message_put_lem code number bytes out n e room sum {headed} {filled} first secon
     ((rw (← e) at third) ∙ ap (trailed filled) is ∙ ap (λ (s : List ℕ). trailed s (sum_rule code.0 code.1)) data_in ∙ all_put code number bytes out (rw (← e) at room)))
 
 pub no_room : (code : Code) (number : ℕ) (bytes out : List ℕ) (n : ℕ) → n ≡ length bytes + bare_length → length out < n
-    → PutsMessage code number bytes out (Written.Refused (Memory n)) out
+    → PutsMessage code number bytes out (Err (Memory n)) out
 no_room code number bytes out n e h =
     let t : _ = lt-leb (length bytes + bare_length) (length out) (omega arith) in
     rw e (record { answers = rw t; leaves = rw t })
@@ -176,7 +175,7 @@ module _ (form : Option Form) (code : Code) (number : ℕ) (key values out : Lis
   abbrev broken : Maybe Refusal
   broken = first_broken (write_rules form number key values (length out))
 
-  refuses : (r : Refusal) → broken ≡ some r → WroteForm form code number key values out (Written.Refused r) out
+  refuses : (r : Refusal) → broken ≡ some r → WroteForm form code number key values out (Err r) out
   refuses r e =
       record {
         answers = sym (ap (λ (o : Maybe Refusal). answered o (length_written form ∷ [])) e);
@@ -186,12 +185,12 @@ module _ (form : Option Form) (code : Code) (number : ℕ) (key values out : Lis
   abbrev behind : List Rule
   behind = room_rules (length_written form) (length out)
 
-  pub code_refused : (r : Refusal) → first_broken (code_rules form number) ≡ some r → WroteForm form code number key values out (Written.Refused r) out
+  pub code_refused : (r : Refusal) → first_broken (code_rules form number) ≡ some r → WroteForm form code number key values out (Err r) out
   unfolding write_rules
   code_refused r e = refuses r (front_broken (code_rules form number) (rows_rules rows.verdict ++ behind) r e)
 
   module _ (coded : first_broken (code_rules form number) ≡ none) where
-    pub rows_refused : (r : Refusal) → first_broken (rows_rules rows.verdict) ≡ some r → WroteForm form code number key values out (Written.Refused r) out
+    pub rows_refused : (r : Refusal) → first_broken (rows_rules rows.verdict) ≡ some r → WroteForm form code number key values out (Err r) out
     unfolding write_rules
     rows_refused r e =
         refuses r (front_holds (code_rules form number) (rows_rules rows.verdict ++ behind) (none_hold (code_rules form number) coded) ∙ front_broken (rows_rules rows.verdict) behind r e)
@@ -211,7 +210,7 @@ module _ (form : Option Form) (code : Code) (number : ℕ) (key values out : Lis
           (l.leaves ∙ ap (λ v. where_good v (over_front rows.bytes before) before) (rows_pass rows.verdict good) ∙ front)
           ∙ take_at rows.bytes (drop (length rows.bytes) before) n long_rows
 
-      pub sent : {answer : Written} {out' : List ℕ} → PutsMessage code number rows.bytes out answer out' → WroteForm form code number key values out answer out'
+      pub sent : {answer : Result ℕ Refusal} {out' : List ℕ} → PutsMessage code number rows.bytes out answer out' → WroteForm form code number key values out answer out'
       unfolding write_rules length_written
       sent p =
           let decides = front_holds (code_rules form number) (rows_rules rows.verdict ++ behind) (none_hold (code_rules form number) coded) ∙ front_holds (rows_rules rows.verdict) behind (none_hold (rows_rules rows.verdict) good) in
@@ -230,10 +229,10 @@ module _ (form : Option Form) (code : Code) (number : ℕ) (key values out : Lis
 
 module _ (item : Item) (code : Code) (level : Level) (number : ℕ) (key : List ℕ) (values : Form → List ℕ) (out : List ℕ) where
   -- it is written from its own values
-  pub form_chosen_lem : {form : Form} {given out' : List ℕ} {answer : Written} → form_written item code level ≡ Some form → given ≡ values form
+  pub form_chosen_lem : {form : Form} {given out' : List ℕ} {answer : Result ℕ Refusal} → form_written item code level ≡ Some form → given ≡ values form
       → WroteForm (Some form) code number key given out answer out' → WroteValues item code level number key values out answer out'
   form_chosen_lem chose same wrote = rw (chose, ← same) wrote
 
   -- 6 where there is none
-  pub none_chosen : form_written item code level ≡ None → WroteValues item code level number key values out (Written.Refused (CodeOver 0)) out
+  pub none_chosen : form_written item code level ≡ None → WroteValues item code level number key values out (Err (CodeOver 0)) out
   none_chosen chose = rw chose (code_refused None code number key [] out (CodeOver 0) refl)

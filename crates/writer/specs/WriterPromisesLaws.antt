@@ -1,5 +1,5 @@
 -- What the writer's promise settles: one outcome, a refusal that changes no byte, and the message of an accepted call.
-use Rattle.std.specs.Prelude.{ℕ, ◌+◌, ◌≡◌, ◌↔◌, List, [], ◌∷◌, ◌++◌, length, take, drop, Option}
+use Rattle.std.specs.Prelude.{ℕ, ◌+◌, ◌≡◌, ◌↔◌, List, [], ◌∷◌, ◌++◌, length, take, drop, Option, Result, Ok, Err}
 use Rattle.std.proofs.Math.Path.{ap, sym}
 use Rattle.std.proofs.Common.{◌∙◌, leb-true, le-leb, take_at, drop_at}
 use Rattle.std.proofs.Math.Option.{Option as Maybe, none, some}
@@ -10,7 +10,6 @@ use Rattle.forms.specs.declared.forms.Form.{Form}
 use Rattle.forms.specs.declared.forms.Item.{Item}
 use Rattle.compose.specs.Write.{Laid}
 use Rattle.forms.specs.Sizes.{bare_length}
-use Rattle.state.specs.declared.answers.Written.{Written}
 use Rattle.state.specs.declared.refusal.Refusal.{Refusal}
 use Rattle.writer.specs.declared.writing.Code.{Code}
 use Rattle.state.specs.AnswersLaws.{written_told, refused_by_lem, accepted_by}
@@ -61,18 +60,18 @@ module _ (item : Item) (code : Code) (level : Level) (number : ℕ) (key : List 
   abbrev rows : Laid
   rows = data_written form key given
 
-  pub one_written : {out' out'' : List ℕ} (a b : Written) → WroteValues item code level number key values out a out'
+  pub one_written : {out' out'' : List ℕ} (a b : Result ℕ Refusal) → WroteValues item code level number key values out a out'
       → WroteValues item code level number key values out b out'' → (a ≡ b) × (out' ≡ out'')
   one_written a b p q = (written_told a b (p.answers ∙ sym q.answers), p.out_left ∙ sym q.out_left)
 
   -- a refusal is the first broken rule's, and no byte changes
-  pub write_refusal_lem : {out' : List ℕ} (r : Refusal) → WroteValues item code level number key values out (Written.Refused r) out' → (broken ≡ some r) × (out' ≡ out)
+  pub write_refusal_lem : {out' : List ℕ} (r : Refusal) → WroteValues item code level number key values out (Err r) out' → (broken ≡ some r) × (out' ≡ out)
   write_refusal_lem r p =
       let e = refused_by_lem broken (length_written form ∷ []) r p.answers in
       (e, p.out_left ∙ ap (λ (o : Maybe Refusal). left_by o out (message_put code number rows.bytes out)) e)
 
   -- an accepted message: its length is answered, it stands in front, and no byte behind it changes
-  module _ {out' : List ℕ} (n : ℕ) (p : WroteValues item code level number key values out (Written.Message n) out') where
+  module _ {out' : List ℕ} (n : ℕ) (p : WroteValues item code level number key values out (Ok n) out') where
     held : (broken ≡ none) × (n ∷ [] ≡ length_written form ∷ [])
     held = accepted_by broken (length_written form ∷ []) (n ∷ []) p.answers
 

@@ -7,12 +7,10 @@ ghost use Rattle.state.specs.Answers.{checked_numbers, checked_by};
 ghost use Rattle.writer.specs.Writer.{rows_rules, data_written, head_bytes, sum_written, end_byte, LaysRows, PutsMessage};
 ghost use Rattle.writer.specs.WriterPromises.{WroteForm, WroteMessage, WroteSpread};
 
-use layout::{
-    BadRow, Form, Item, KEY_BYTES, Level, MOST_DATA, MOST_ROWS, Named, PAIR_BYTES, Sum,
-};
+use layout::{BadRow, Form, Item, KEY_BYTES, Level, MOST_DATA, MOST_ROWS, Named, PAIR_BYTES, Sum};
 use quote::Quote;
 use spread::SpreadQuote;
-use state::{Refusal, Written};
+use state::Refusal;
 
 // Any two bytes.
 #[derive(Clone, Copy)]
@@ -85,18 +83,24 @@ fn put_trailer(rule: Sum, at: usize, out: &mut [u8])
 }
 
 // Where there is room (15), with so many bytes of the data.
-fn put_message(code: Code, number: u32, data: &[u8], long: usize, out: &mut [u8]) -> Written
+fn put_message(
+    code: Code,
+    number: u32,
+    data: &[u8],
+    long: usize,
+    out: &mut [u8],
+) -> Result<usize, Refusal>
     requires { (long ≤ most_data) × (long ≤ length «data».now) }
     ensures { PutsMessage code number (take long «data».now) out.old result out.new }
 {
     let whole = long + layout::BARE;
     if out.len() < whole {
-        return Written::Refused(Refusal::Memory(whole));
+        return Err(Refusal::Memory(whole));
     }
     put_head(code, whole as u16, number, out);
     put_data(data, long, out);
     put_trailer(layout::sum_rule(code.0, code.1), HEAD + long, out);
-    Written::Message(whole)
+    Ok(whole)
 }
 
 // A form's number (10), its rows, and then the message.
@@ -107,17 +111,15 @@ fn write_form(
     key: &[u8],
     values: &[u64; MOST_ROWS],
     out: &mut [u8],
-) -> Written
+) -> Result<usize, Refusal>
     ensures { WroteForm (Some form) code number key.now values.now out.old result out.new }
 {
     if !head::takes_number(Named::Form(form), number) {
-        return Written::Refused(Refusal::Numbering(0));
+        return Err(Refusal::Numbering(0));
     }
     let mut data = [0u8; MOST_DATA];
-    match lay_rows(form, key, values, &mut data) {
-        Err(refusal) => Written::Refused(refusal),
-        Ok(()) => put_message(code, number, &data, layout::data_length(form), out),
-    }
+    lay_rows(form, key, values, &mut data)?;
+    put_message(code, number, &data, layout::data_length(form), out)
 }
 
 // 6 for a code that is not in the table, and for those of pairs.
@@ -128,16 +130,13 @@ pub fn write_message(
     key: &[u8; KEY_BYTES],
     quote: Quote,
     out: &mut [u8],
-) -> Written
+) -> Result<usize, Refusal>
     ensures { WroteMessage code level number key.now quote out.old result out.new }
 {
-    match layout::written_form(code.0, code.1, Item::Contract, level) {
-        Some(form) => {
-            let values = quote::values_of(form, quote);
-            write_form(form, code, number, key, &values, out)
-        }
-        None => Written::Refused(Refusal::Code(0)),
-    }
+    let chosen = layout::written_form(code.0, code.1, Item::Contract, level);
+    let form = chosen.ok_or(Refusal::Code(0))?;
+    let values = quote::values_of(form, quote);
+    write_form(form, code, number, key, &values, out)
 }
 
 // 6 for every code but those of pairs.
@@ -148,14 +147,11 @@ pub fn write_spread(
     pair: &[u8; PAIR_BYTES],
     quote: SpreadQuote,
     out: &mut [u8],
-) -> Written
+) -> Result<usize, Refusal>
     ensures { WroteSpread code level number pair.now quote out.old result out.new }
 {
-    match layout::written_form(code.0, code.1, Item::Pair, level) {
-        Some(form) => {
-            let values = spread::spread_values_of(form, quote);
-            write_form(form, code, number, pair, &values, out)
-        }
-        None => Written::Refused(Refusal::Code(0)),
-    }
+    let chosen = layout::written_form(code.0, code.1, Item::Pair, level);
+    let form = chosen.ok_or(Refusal::Code(0))?;
+    let values = spread::spread_values_of(form, quote);
+    write_form(form, code, number, pair, &values, out)
 }

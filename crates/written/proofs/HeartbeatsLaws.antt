@@ -1,5 +1,5 @@
 -- A written heartbeat is accepted where its segment is listed, and changes nothing.
-use Rattle.std.specs.Prelude.{ℕ, ◌^◌, ◌<◌, ◌≡◌, refl, List, [], ◌∷◌, take}
+use Rattle.std.specs.Prelude.{ℕ, ◌^◌, ◌<◌, ◌≡◌, refl, List, [], ◌∷◌, take, Ok}
 use Rattle.std.proofs.Common.{ap, ◌∙◌, arith}
 use Rattle.lookup.specs.Lookup.{segment_of}
 use Rattle.forms.specs.declared.rows.Level.{Level}
@@ -15,7 +15,6 @@ use Rattle.head.specs.GoodHead.{LetterListed}
 use Rattle.head.specs.HeadLaws.{listed_exact, number_exact}
 use Rattle.state.specs.declared.answers.Judged.{Judged}
 use Rattle.state.specs.declared.answers.Judged.TheVariants.{Accepted}
-use Rattle.state.specs.declared.answers.Written.{Written}
 use Rattle.state.specs.Answers.{judged_numbers}
 use Rattle.state.specs.AnswersLaws.{judged_told}
 use Rattle.state.specs.GoodState.{GoodState}
@@ -39,7 +38,7 @@ unfolding written_form meaning_of
 heartbeats_chosen level = ((Heartbeat, refl, refl), (Heartbeat, refl, refl), (Heartbeat, refl, refl))
 
 module _ (code : Code) (level : Level) (number : ℕ) (key : List ℕ) (values : Form → List ℕ) (out out' : List ℕ) (n : ℕ)
-    (beat : WritesHeartbeat code level) (wrote : WroteValues Contract code level number key values out (Written.Message n) out')
+    (beat : WritesHeartbeat code level) (wrote : WroteValues Contract code level number key values out (Ok n) out')
   where
     abbrev form : Form
     form = beat.0

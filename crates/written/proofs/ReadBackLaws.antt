@@ -38,7 +38,6 @@ use Rattle.message.specs.MessageLaws.{key_found}
 use Rattle.state.specs.declared.answers.Judged.{Judged}
 use Rattle.state.specs.declared.answers.Judged.TheVariants.{Accepted}
 use Rattle.state.specs.declared.answers.Recorded.{Recorded}
-use Rattle.state.specs.declared.answers.Written.{Written}
 use Rattle.writer.specs.declared.writing.Code.{Code}
 use Rattle.turns.specs.Turns.{message_acts, number_acts}
 use Rattle.batch.specs.Acts.{box_of}
@@ -113,7 +112,7 @@ market_updates Pair level form tells quote normal = refl
 
 module _ (item : Item) (code : Code) (level : Level) (number : ℕ) (key : List ℕ) (quote : QuoteFor item) (out out' : List ℕ) (n : ℕ) (form : Form)
     (update : WritesUpdate item code level form) (few : number < 2 ^ 32) (key_long : length key ≡ key_bytes_of item)
-    (wrote : WroteValues item code level number key (λ form. cells_for item form quote) out (Written.Message n) out')
+    (wrote : WroteValues item code level number key (λ form. cells_for item form quote) out (Ok n) out')
   where
     abbrev letter : ℕ
     letter = segment_letter code.0
@@ -266,21 +265,21 @@ module _ (code : Code) (level : Level) (number : ℕ) (key out out' : List ℕ) 
     (room : takes (gaps_of_letter lent (segment_letter code.0)) number ≡ true → full (gaps_of_letter lent (segment_letter code.0)) number ≡ false)
   where
     -- a contract's quote in the normal market, row for row; level 1 has the first order a side, and the others read as none
-    pub contract_back : (quote : Quote) → WroteMessage code level number key quote out (Written.Message n) out' → length key ≡ key_bytes_of Contract
+    pub contract_back : (quote : Quote) → WroteMessage code level number key quote out (Ok n) out' → length key ≡ key_bytes_of Contract
         → WritesUpdate Contract code level form → quote.market_type ≡ 78 → (place : ℕ) → key_place Contract lent.lists (segment_letter code.0) key ≡ some place
         → ReadsBack Contract (segment_letter code.0) key level number (session_of form) (seen_quote form quote) lent (batch_of (take n out'))
     contract_back quote wrote key_long update normal place listed =
         reads_back Contract code level number key quote out out' n form update few key_long wrote lent state room normal place listed
 
     -- and a pair's, with every minus but that of zero
-    pub pair_back : (quote : SpreadQuote) → WroteSpread code level number key quote out (Written.Message n) out' → length key ≡ key_bytes_of Pair
+    pub pair_back : (quote : SpreadQuote) → WroteSpread code level number key quote out (Ok n) out' → length key ≡ key_bytes_of Pair
         → WritesUpdate Pair code level form → (place : ℕ) → key_place Pair lent.lists (segment_letter code.0) key ≡ some place
         → ReadsBack Pair (segment_letter code.0) key level number (session_of form) (seen_spread form quote) lent (batch_of (take n out'))
     pair_back quote wrote key_long update place listed =
         reads_back Pair code level number key quote out out' n form update few key_long wrote lent state room tt place listed
 
     -- M-104: a contract's quote in another market, whose key need not be listed
-    pub contract_passed : (quote : Quote) → WroteMessage code level number key quote out (Written.Message n) out' → length key ≡ key_bytes_of Contract
+    pub contract_passed : (quote : Quote) → WroteMessage code level number key quote out (Ok n) out' → length key ≡ key_bytes_of Contract
         → WritesUpdate Contract code level form → (quote.market_type ≡ 78 → ⊥) → LetterListed lent.lists.contracts (segment_letter code.0)
         → PassesOver (segment_letter code.0) number lent (batch_of (take n out'))
     contract_passed quote wrote key_long update other listed =
@@ -288,7 +287,7 @@ module _ (code : Code) (level : Level) (number : ℕ) (key out out' : List ℕ) 
 
 -- M-104: "D and T keep N alone": what has no time stamp is written in the normal market only
 pub normal_alone : (code : Code) (level : Level) (number : ℕ) (key : List ℕ) (quote : Quote) (out out' : List ℕ) (n : ℕ) (form : Form)
-    → WritesUpdate Contract code level form → WroteMessage code level number key quote out (Written.Message n) out' → is_stamped form ≡ false → quote.market_type ≡ 78
+    → WritesUpdate Contract code level form → WroteMessage code level number key quote out (Ok n) out' → is_stamped form ≡ false → quote.market_type ≡ 78
 normal_alone code level number key quote out out' n form update wrote plain =
     let taken = (market_there Contract code level number key (λ form. values_of form quote) out out' n form update.0 wrote level update.1).0 in
     sym ((market_row form level update.1).1 quote) ∙ eqb-true _ 78 (rw plain at taken)

@@ -1,5 +1,5 @@
 -- What a batch that holds just a written message does, and what stands in an update's record then.
-use Rattle.std.specs.Prelude.{ℕ, suc, ◌+◌, ◌-◌, ◌≤◌, ◌<◌, ◌≡◌, Bool, true, false, List, [], ◌∷◌, ◌++◌, length, get_or, take, drop, Some}
+use Rattle.std.specs.Prelude.{ℕ, suc, ◌+◌, ◌-◌, ◌≤◌, ◌<◌, ◌≡◌, Bool, true, false, List, [], ◌∷◌, ◌++◌, length, get_or, take, drop, Some, Ok}
 use Rattle.std.proofs.Math.Path.{refl}
 use Rattle.std.proofs.Common.{ap, sym, ◌∙◌, ⊎_elim, append_assoc, arith, lt-ltb, length-append, length-drop, take_at, drop_at, length-take-le}
 use Rattle.std.proofs.Math.Nat.{mod-eq_of_lt}
@@ -20,7 +20,6 @@ use Rattle.sequence.specs.Changes.{full, after}
 use Rattle.sequence.specs.Row.{gaps_of}
 use Rattle.sequence.specs.RowLaid.{laid}
 use Rattle.state.specs.declared.answers.Judged.{Judged}
-use Rattle.state.specs.declared.answers.Written.{Written}
 use Rattle.state.specs.Answers.{judged_numbers}
 use Rattle.state.specs.AnswersLaws.{judged_told}
 use Rattle.state.specs.GoodState.{GoodState}
@@ -72,7 +71,7 @@ module _ (message : List ℕ) (short : length message ≤ 32767) where
 
 -- what a written message does where it stands alone, the batch does
 module _ (item : Item) (code : Code) (level : Level) (number : ℕ) (key : List ℕ) (values : Form → List ℕ) (out out' : List ℕ) (n : ℕ)
-    (form : Form) (chose : form_written item code level ≡ Some form) (wrote : WroteValues item code level number key values out (Written.Message n) out')
+    (form : Form) (chose : form_written item code level ≡ Some form) (wrote : WroteValues item code level number key values out (Ok n) out')
   where
     abbrev alone : List ℕ
     alone = written item code level number key values out out' n form chose wrote

@@ -1,5 +1,5 @@
 -- The writer refuses exactly: 6, 10, 11 and 12 by row, 15, and nothing else.
-use Rattle.std.specs.Prelude.{ℕ, ◌≤◌, ◌<◌, ◌≡◌, Bool, false, cond, ◌↔◌, List, [], ◌∷◌, ◌++◌, leb, length, Option, Some, Ok, Err}
+use Rattle.std.specs.Prelude.{ℕ, ◌≤◌, ◌<◌, ◌≡◌, Bool, false, cond, ◌↔◌, List, [], ◌∷◌, ◌++◌, leb, length, Option, Some, Ok, Err, Result}
 use Rattle.layout.specs.declared.read.BadRow.TheVariants as bad_row
 use Rattle.layout.specs.Answers.{Verdict}
 use Rattle.std.proofs.Math.Path.{refl, ap}
@@ -24,7 +24,6 @@ use Rattle.forms.specs.FormsLaws.{nothing_rows}
 use Rattle.forms.specs.Rows.{message_length}
 use Rattle.compose.specs.Write.{write_rows}
 use Rattle.head.specs.Tests.{takes_number}
-use Rattle.state.specs.declared.answers.Written.{Written}
 use Rattle.state.specs.declared.refusal.Refusal.{Refusal}
 use Rattle.state.specs.declared.refusal.Refusal.TheVariants.{Code as CodeOver, Numbering, Field, Range, Memory}
 use Rattle.writer.specs.declared.writing.Code.{Code}
@@ -125,7 +124,7 @@ module _ (wanted : ℕ) (v : Verdict) (fits : Bool) where
 
 -- ---- the promise
 
-module _ (item : Item) (code : Code) (level : Level) (number : ℕ) (key : List ℕ) (values : Form → List ℕ) (out out' : List ℕ) (answer : Written)
+module _ (item : Item) (code : Code) (level : Level) (number : ℕ) (key : List ℕ) (values : Form → List ℕ) (out out' : List ℕ) (answer : Result ℕ Refusal)
     (wrote : WroteValues item code level number key values out answer out')
   where
     abbrev chose : Option Form
@@ -145,26 +144,26 @@ module _ (item : Item) (code : Code) (level : Level) (number : ℕ) (key : List 
     rules_are = refl
 
     -- a refusal is answered exactly where its rule is the first broken one
-    answers_refusal : (r : Refusal) → answer ≡ Written.Refused r ↔ broken ≡ some r
+    answers_refusal : (r : Refusal) → answer ≡ Err r ↔ broken ≡ some r
     answers_refusal r = (
       (λ e. refused_by_lem broken (length_written chose ∷ []) r (ap written_numbers (sym e) ∙ wrote.answers)),
-      (λ e. written_told answer (Written.Refused r) (wrote.answers ∙ ap (λ (o : Maybe Refusal). answered o (length_written chose ∷ [])) e)),
+      (λ e. written_told answer (Err r) (wrote.answers ∙ ap (λ (o : Maybe Refusal). answered o (length_written chose ∷ [])) e)),
     )
 
-    answers_length : answer ≡ Written.Message (length_written chose) ↔ broken ≡ none
+    answers_length : answer ≡ Ok (length_written chose) ↔ broken ≡ none
     answers_length = (
       (λ e. (accepted_by broken (length_written chose ∷ []) (length_written chose ∷ []) (ap written_numbers (sym e) ∙ wrote.answers)).0),
-      (λ e. written_told answer (Written.Message (length_written chose)) (wrote.answers ∙ ap (λ (o : Maybe Refusal). answered o (length_written chose ∷ [])) e)),
+      (λ e. written_told answer (Ok (length_written chose)) (wrote.answers ∙ ap (λ (o : Maybe Refusal). answered o (length_written chose ∷ [])) e)),
     )
 
     -- 6 exactly where the code is not in the table
-    pub refuses_code : answer ≡ Written.Refused (CodeOver 0) ↔ in_table chose ≡ false
+    pub refuses_code : answer ≡ Err (CodeOver 0) ↔ in_table chose ≡ false
     refuses_code =
         Iff.trans (answers_refusal (CodeOver 0))
         (rw rules_are (code_why (length_written chose) (in_table chose) (numbered chose number) (data_written chose key handed).verdict fitting))
 
     -- 10 exactly where the code is in the table and the number is not one that its messages have
-    pub refuses_number : answer ≡ Written.Refused (Numbering 0) ↔ (in_table chose ≡ true) × (numbered chose number ≡ false)
+    pub refuses_number : answer ≡ Err (Numbering 0) ↔ (in_table chose ≡ true) × (numbered chose number ≡ false)
     refuses_number =
         Iff.trans (answers_refusal (Numbering 0))
         (rw rules_are (number_why (length_written chose) (in_table chose) (numbered chose number) (data_written chose key handed).verdict fitting))
@@ -193,25 +192,25 @@ module _ (item : Item) (code : Code) (level : Level) (number : ℕ) (key : List 
         both_fine same = let good = verdict_good item form key (values form) given from key_long in ((λ p. (good.0 p.0, same.0 p.1)), (λ p. (good.1 p.0, same.1 p.1)))
 
         -- 11 at row k exactly where that row is malformed and every row before it is fine
-        pub refuses_field : (k : ℕ) → answer ≡ Written.Refused (Field 0 k) ↔ First form key given (MalformedAt form key given) k
+        pub refuses_field : (k : ℕ) → answer ≡ Err (Field 0 k) ↔ First form key given (MalformedAt form key given) k
         refuses_field k =
             Iff.trans (answers_refusal (Field 0 k))
             (by (some (Field 0 k)) (Iff.trans (field_why wanted own (leb wanted (length out)) k) (verdict_field item form key (values form) given from key_long k)))
 
         -- 12 at row k exactly where that row is out of range and every row before it is fine
-        pub refuses_range : (k : ℕ) → answer ≡ Written.Refused (Range 0 k) ↔ First form key given (OutOfRangeAt form given) k
+        pub refuses_range : (k : ℕ) → answer ≡ Err (Range 0 k) ↔ First form key given (OutOfRangeAt form given) k
         refuses_range k =
             Iff.trans (answers_refusal (Range 0 k))
             (by (some (Range 0 k)) (Iff.trans (range_why wanted own (leb wanted (length out)) k) (verdict_range item form key (values form) given from key_long k)))
 
         -- 15 exactly where every row is fine and `out` is shorter than the message
-        pub refuses_memory : answer ≡ Written.Refused (Memory wanted) ↔ AllFine form key given × (length out < wanted)
+        pub refuses_memory : answer ≡ Err (Memory wanted) ↔ AllFine form key given × (length out < wanted)
         refuses_memory =
             Iff.trans (answers_refusal (Memory wanted))
             (by (some (Memory wanted)) (Iff.trans (room_why wanted own (leb wanted (length out))) (both_fine (leb-false wanted (length out), lt-leb wanted (length out)))))
 
         -- and no refusal otherwise: the message is written exactly where every row is fine and there is room
-        pub accepts : answer ≡ Written.Message wanted ↔ AllFine form key given × (wanted ≤ length out)
+        pub accepts : answer ≡ Ok wanted ↔ AllFine form key given × (wanted ≤ length out)
         unfolding length_written
         accepts =
             Iff.trans (rw (ap length_written is_chosen) at answers_length)

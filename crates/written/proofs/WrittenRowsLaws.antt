@@ -15,10 +15,10 @@ use Rattle.print.specs.WriteLaws.{Refused, sideless}
 use Rattle.decimal.specs.declared.Held.{Held}
 use Rattle.decimal.specs.declared.Held.TheVariants.{Nothing, Units, Below}
 use Rattle.quote.specs.declared.quote.Quote.{Quote}
-use Rattle.amount.specs.declared.price.Price.{Price}
-use Rattle.amount.specs.declared.quantity.Quantity.{Quantity}
-use Rattle.amount.specs.declared.turnover.Turnover.{Turnover}
-use Rattle.amount.specs.declared.difference.Difference.{Difference}
+use Rattle.amount.specs.declared.price.Price.{Price as PriceUnits}
+use Rattle.amount.specs.declared.quantity.Quantity.{Quantity as QuantityUnits}
+use Rattle.amount.specs.declared.turnover.Turnover.{Turnover as TurnoverUnits}
+use Rattle.amount.specs.declared.difference.Difference.{Difference as DifferenceUnits}
 use Rattle.spread.specs.declared.spread.SpreadQuote.{SpreadQuote}
 use Rattle.forms.specs.declared.rows.Level.{Level}
 use Rattle.forms.specs.declared.forms.Form.{Form}
@@ -90,19 +90,19 @@ plains_at form given values behind e k h =
     ∙ get_or-map plain (named_rows form) k (named instrument (Key 0))
     ∙ ap (λ (row : Row). plain_in row (value_at form given k)) (sym (get_or-map (λ (row : NamedRow). row.row) (named_rows form) k (named instrument (Key 0))))
 
-price_given_lem : (p : Option Price) → value_of_price p ≡ value_of false (held_of (price_given p))
+price_given_lem : (p : Option PriceUnits) → value_of_price p ≡ value_of false (held_of (price_given p))
 price_given_lem None = refl
 price_given_lem (Some units) = refl
 
-quantity_given_lem : (q : Option Quantity) → value_of_quantity q ≡ value_of false (held_of (quantity_given q))
+quantity_given_lem : (q : Option QuantityUnits) → value_of_quantity q ≡ value_of false (held_of (quantity_given q))
 quantity_given_lem None = refl
 quantity_given_lem (Some units) = refl
 
-turnover_given_lem : (t : Option Turnover) → value_of_turnover t ≡ value_of false (held_of (turnover_given t))
+turnover_given_lem : (t : Option TurnoverUnits) → value_of_turnover t ≡ value_of false (held_of (turnover_given t))
 turnover_given_lem None = refl
 turnover_given_lem (Some units) = refl
 
-difference_given_lem : (d : Option Difference) → value_of_difference d ≡ value_of true (held_of (difference_given d))
+difference_given_lem : (d : Option DifferenceUnits) → value_of_difference d ≡ value_of true (held_of (difference_given d))
 difference_given_lem None = refl
 difference_given_lem (Some units) = refl
 

@@ -1,5 +1,5 @@
 -- Every number of a written message stands in its field as the shortest text.
-use Rattle.std.specs.Prelude.{ℕ, ◌-◌, ◌≤◌, ◌<◌, ◌≡◌, refl, Bool, true, false, List, eqb, length, take, Some}
+use Rattle.std.specs.Prelude.{ℕ, ◌-◌, ◌≤◌, ◌<◌, ◌≡◌, refl, Bool, true, false, List, eqb, length, take, Some, Ok}
 use Rattle.std.proofs.Common.{ap, sym, ◌∙◌, ⊎_elim, arith, lit<}
 use Rattle.laws.specs.Order.{order}
 use Rattle.decimal.specs.declared.Kind.{Kind}
@@ -24,7 +24,6 @@ use Rattle.compose.specs.RowTextLaws.{filled_is as text_filled}
 use Rattle.compose.specs.Write.{text, of_written, row_text, held_text, write_refusal}
 use Rattle.forms.specs.Names.{Name}
 use Rattle.head.specs.Fields.{data_of}
-use Rattle.state.specs.declared.answers.Written.{Written}
 use Rattle.writer.specs.declared.writing.Code.{Code}
 use Rattle.writer.specs.Chosen.{form_written}
 use Rattle.writer.specs.WriterPromises.{WroteValues}
@@ -123,7 +122,7 @@ row_number (Difference width) part value field e = number_field difference width
 -- ---- a written message
 
 module _ (item : Item) (code : Code) (level : Level) (number : ℕ) (key : List ℕ) (values : Form → List ℕ) (out out' : List ℕ) (n : ℕ)
-    (form : Form) (chose : form_written item code level ≡ Some form) (wrote : WroteValues item code level number key values out (Written.Message n) out')
+    (form : Form) (chose : form_written item code level ≡ Some form) (wrote : WroteValues item code level number key values out (Ok n) out')
     (given : Name → Value) (from : Given item form given (values form))
   where
     -- row k's field in the message that was written

@@ -47,7 +47,6 @@ use Rattle.message.specs.Reads.{message_of}
 use Rattle.message.specs.MessageLaws.{key_found, good_head, heartbeat_reads, outline_told, acts, update_is}
 use Rattle.head.specs.RulesLaws.{hold_good}
 use Rattle.slots.specs.SlotsLaws.{rows_behind}
-use Rattle.state.specs.declared.answers.Written.{Written}
 use Rattle.writer.specs.declared.writing.Code.{Code}
 use Rattle.writer.specs.Writer.{rows_written, values_written, data_written, message_bytes}
 use Rattle.writer.specs.Chosen.{form_written, numbered}
@@ -59,7 +58,7 @@ use Rattle.written.specs.WrittenFormLaws.{form_told_lem, is_code_lem}
 use Rattle.written.proofs.WrittenRowsLaws.{market_row}
 
 module _ (item : Item) (code : Code) (level : Level) (number : ℕ) (key : List ℕ) (values : Form → List ℕ) (out out' : List ℕ) (n : ℕ)
-    (form : Form) (chose : form_written item code level ≡ Some form) (wrote : WroteValues item code level number key values out (Written.Message n) out')
+    (form : Form) (chose : form_written item code level ≡ Some form) (wrote : WroteValues item code level number key values out (Ok n) out')
   where
     abbrev rows : Laid
     rows = write_rows 0 (rows_of form) key (values form)

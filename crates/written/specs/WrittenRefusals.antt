@@ -4,10 +4,10 @@ use Rattle.decimal.specs.declared.Kind.{Kind}
 use Rattle.decimal.specs.Kinds as kind
 use Rattle.print.specs.Write.{NoText}
 use Rattle.quote.specs.declared.quote.Quote.{Quote}
-use Rattle.amount.specs.declared.price.Price.{Price}
-use Rattle.amount.specs.declared.quantity.Quantity.{Quantity}
-use Rattle.amount.specs.declared.turnover.Turnover.{Turnover}
-use Rattle.amount.specs.declared.difference.Difference.{Difference}
+use Rattle.amount.specs.declared.price.Price.{Price as PriceUnits}
+use Rattle.amount.specs.declared.quantity.Quantity.{Quantity as QuantityUnits}
+use Rattle.amount.specs.declared.turnover.Turnover.{Turnover as TurnoverUnits}
+use Rattle.amount.specs.declared.difference.Difference.{Difference as DifferenceUnits}
 use Rattle.spread.specs.declared.spread.SpreadQuote.{SpreadQuote}
 use Rattle.forms.specs.declared.forms.Form.{Form}
 use Rattle.forms.specs.declared.rows.Row.{Row}
@@ -28,22 +28,22 @@ pub data Value : Type 0 where
   amount : Bool → ℕ → Value
 
 -- 01 "Numbers in text": a price, or "none"
-abbrev pub price_given : Option Price → Value
+abbrev pub price_given : Option PriceUnits → Value
 price_given None = nothing
 price_given (Some units) = amount false units.0
 
 -- 01 "Numbers in text": a quantity, or "none"
-abbrev pub quantity_given : Option Quantity → Value
+abbrev pub quantity_given : Option QuantityUnits → Value
 quantity_given None = nothing
 quantity_given (Some units) = amount false units.0
 
 -- 01 "Numbers in text": a turnover, or "none"
-abbrev pub turnover_given : Option Turnover → Value
+abbrev pub turnover_given : Option TurnoverUnits → Value
 turnover_given None = nothing
 turnover_given (Some units) = amount false units.0
 
 -- M-100: a price difference, or "none"
-abbrev pub difference_given : Option Difference → Value
+abbrev pub difference_given : Option DifferenceUnits → Value
 difference_given None = nothing
 difference_given (Some units) = amount units.0 units.1
 

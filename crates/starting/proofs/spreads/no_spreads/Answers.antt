@@ -1,29 +1,29 @@
 -- The header first, then the room.
+use Rattle.std.specs.Prelude.{Ok, Err}
 use Rattle.std.proofs.Common.{ℕ, ◌≤◌, ◌<◌, ◌≡◌, sym, ◌∙◌, true, false, List, arith, le-leb, length}
 use borrow.Author.Tests.{lt-leb}
 use lib.Seq.{sets}
 use Rattle.pairs.specs.NoSpreads.{no_spreads}
 use Rattle.pairs.specs.NoSpreadsLaws.{no_spreads_size}
 use Rattle.contracts.specs.SoundTests.{header_sound}
-use Rattle.state.specs.declared.answers.Written.{Written}
 use Rattle.state.specs.declared.refusal.Refusal.TheVariants as refusal
 use Rattle.starting.specs.StartPromises.{PutNoSpreads}
 use Rattle.starting.specs.NoSpreadsRules.{no_spreads_rules}
 use Rattle.starting.proofs.spreads.no_spreads.Goals as goal
 
 module _ (list out : List ℕ) where
-  unsound : header_sound list ≡ false → PutNoSpreads list out (Written.Refused refusal.List) out
+  unsound : header_sound list ≡ false → PutNoSpreads list out (Err refusal.List) out
   unfolding no_spreads_rules
   unsound h = record { answers = rw h; left = rw h }
 
   module _ (h : header_sound list ≡ true) (size : ℕ) (is : size ≡ length (no_spreads list)) where
-    short : length out < size → PutNoSpreads list out (Written.Refused (refusal.Memory size)) out
+    short : length out < size → PutNoSpreads list out (Err (refusal.Memory size)) out
     unfolding no_spreads_rules
     short few =
         let no = lt-leb (length (no_spreads list)) (length out) (omega (arith, is)) in
         record { answers = rw (h, no, is); left = rw (h, no) }
 
-    put : size ≤ length out → PutNoSpreads list out (Written.Message size) (sets out 0 (no_spreads list))
+    put : size ≤ length out → PutNoSpreads list out (Ok size) (sets out 0 (no_spreads list))
     unfolding no_spreads_rules
     put room =
         let yes = le-leb (length (no_spreads list)) (length out) (omega (arith, is)) in

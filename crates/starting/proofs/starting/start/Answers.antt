@@ -13,7 +13,7 @@ use Rattle.starting.proofs.starting.start.Goals as goal
 
 pub begin_rows-requires : goal.begin_rows-requires
 begin_rows-requires c =
-    let held : let a = c.args in first_broken (start_rules (lists a.list.now a.spreads.now) a.starts.now (length a.rows.now) (length a.records.now)) ≡ none = sym (checked_told c.check_start.result _ c.check_start.ensures) ∙ ap checked_refusal c.in-Ok.is in
+    let held : let a = c.args in first_broken (start_rules (lists a.list.now a.spreads.now) a.starts.now (length a.rows.now) (length a.records.now)) ≡ none = sym (checked_told c.check_start.result _ c.check_start.ensures) ∙ ap checked_refusal c.in_ok-check_start.was in
     let good : let a = c.args in GoodStart (lists a.list.now a.spreads.now) a.starts.now (length a.rows.now) (length a.records.now) =
     let a = c.args in
     (start_exact (lists a.list.now a.spreads.now) a.starts.now (length a.rows.now) (length a.records.now)).0 held in
@@ -21,17 +21,17 @@ begin_rows-requires c =
 
 pub clear-requires : goal.clear-requires
 clear-requires c =
-    let held : let a = c.args in first_broken (start_rules (lists a.list.now a.spreads.now) a.starts.now (length a.rows.now) (length a.records.now)) ≡ none = sym (checked_told c.check_start.result _ c.check_start.ensures) ∙ ap checked_refusal c.in-Ok.is in
+    let held : let a = c.args in first_broken (start_rules (lists a.list.now a.spreads.now) a.starts.now (length a.rows.now) (length a.records.now)) ≡ none = sym (checked_told c.check_start.result _ c.check_start.ensures) ∙ ap checked_refusal c.in_ok-check_start.was in
     let good : let a = c.args in GoodStart (lists a.list.now a.spreads.now) a.starts.now (length a.rows.now) (length a.records.now) =
     let a = c.args in
     (start_exact (lists a.list.now a.spreads.now) a.starts.now (length a.rows.now) (length a.records.now)).0 held in
     let told = c in
     rw c.records_wanted.ensures good.records_lent
 
-pub returns-in-Ok : goal.returns-in-Ok
+pub returns : goal.returns
 unfolding rows_started records_cleared
-returns-in-Ok c =
-    let held : let a = c.args in first_broken (start_rules (lists a.list.now a.spreads.now) a.starts.now (length a.rows.now) (length a.records.now)) ≡ none = sym (checked_told c.check_start.result _ c.check_start.ensures) ∙ ap checked_refusal c.in-Ok.is in
+returns c =
+    let held : let a = c.args in first_broken (start_rules (lists a.list.now a.spreads.now) a.starts.now (length a.rows.now) (length a.records.now)) ≡ none = sym (checked_told c.check_start.result _ c.check_start.ensures) ∙ ap checked_refusal c.in_ok-check_start.was in
     let clear = c in
     let begin = clear in
     let told = begin in

@@ -2,6 +2,7 @@
 use Rattle.std.specs.Prelude.{Option, Some}
 use Rattle.std.proofs.Common.{arith, ◌≡◌, ap, sym, ◌∙◌, length, take, replicate, length-take}
 use Rattle.std.proofs.Math.Option.{none}
+use Rattle.std.proofs.lemmas.Result.{err_from_is_err_and}
 use Rattle.laws.specs.Rules.{first_broken}
 use Rattle.forms.specs.declared.forms.Form.{Form}
 use Rattle.forms.specs.Forms.{rows_of}
@@ -12,7 +13,7 @@ use Rattle.compose.specs.Write.{Laid}
 use Rattle.state.specs.AnswersLaws.{checked_refusal, checked_told}
 use Rattle.writer.specs.Writer.{code_rules, rows_rules, data_written, LaysRows}
 use Rattle.writer.specs.WriterLaws.{other_number, code_holds, code_refused, rows_refused, sent, long_rows, laid_rows}
-use Rattle.writer.proofs.writing.write_form.Goals.{In-Ok, After-lay_rows}
+use Rattle.writer.proofs.writing.write_form.Goals.{In_ok-lay_rows, After-lay_rows}
 use Rattle.writer.proofs.writing.write_form.Goals as goal
 
 -- what is known once the rows are laid
@@ -30,12 +31,12 @@ module _ (l : After-lay_rows) where
   lays = l.lay_rows.ensures
 
 -- and all of them good
-module _ (t : In-Ok) where
+module _ (t : In_ok-lay_rows) where
   abbrev laid : After-lay_rows
-  laid = (goal.at.In-Ok t).After-lay_rows
+  laid = (goal.at.In_ok-lay_rows t).After-lay_rows
 
   passed : first_broken (rows_rules (rows laid).verdict) ≡ none
-  passed = sym (checked_told laid.lay_rows.result _ (lays laid).answers) ∙ ap checked_refusal t.in-Ok.is
+  passed = sym (checked_told laid.lay_rows.result _ (lays laid).answers) ∙ ap checked_refusal t.in_ok-lay_rows.was
 
   long : length (rows laid).bytes ≡ data_length (rows_of t.args.form)
   long =
@@ -57,19 +58,21 @@ returns-then-not-takes_number c =
 
 pub put_message-requires : goal.put_message-requires
 put_message-requires c =
-    let t = (goal.at.put_message-requires c).In-Ok in
+    let t = (goal.at.put_message-requires c).In_ok-lay_rows in
     let there = simp length-take at (ap length (in_front t)) in
     rw c.data_length.ensures ((fits t.args.form).data_fits, omega (arith, there, long t))
 
-pub returns-in-Err : goal.returns-in-Err
-returns-in-Err c =
-    let l = (goal.at.returns-in-Err c).After-lay_rows in
+pub returns-in_err-lay_rows : goal.returns-in_err-lay_rows
+returns-in_err-lay_rows c =
+    let l = (goal.at.returns-in_err-lay_rows c).After-lay_rows in
     let a = c.args in
-    rows_refused (form l) a.code a.number a.key.now a.values.now a.out.now (coded l) _ (sym (checked_told l.lay_rows.result (first_broken (rows_rules (rows l).verdict)) (lays l).answers) ∙ ap checked_refusal c.in-Err.is)
+    let broken = sym (checked_told l.lay_rows.result (first_broken (rows_rules (rows l).verdict)) (lays l).answers) ∙ ap checked_refusal c.in_err-lay_rows.was in
+    let p = err_from_is_err_and c.from_residual.result c.from_residual.ensures.1 in
+    rw (p.1, p.2) (rows_refused (form l) a.code a.number a.key.now a.values.now a.out.now (coded l) _ broken)
 
-pub returns-in-Ok : goal.returns-in-Ok
-returns-in-Ok c =
-    let t = (goal.at.returns-in-Ok c).In-Ok in
+pub returns : goal.returns
+returns c =
+    let t = (goal.at.returns c).In_ok-lay_rows in
     let l = laid t in
     let a = c.args in
     sent (form l) a.code a.number a.key.now a.values.now a.out.now (coded l) (passed t)

@@ -8,18 +8,18 @@ use files::Habit;
 // The most segments of a list.
 pub const MOST_SEGMENTS: usize = 3;
 
-// Tests are joined by `&` and `|`: none can fail, so that none has to wait for another.
+// Tests are joined by `&`: none can fail, so that none has to wait for another.
 
 pub fn is_letter(letter: u8) -> bool
     ensures { result ≡ is_letter letter }
 {
-    (letter == b'D') | (letter == b'F') | (letter == b'T')
+    matches!(letter, b'D' | b'F' | b'T')
 }
 
 fn within(low: usize, high: usize, n: usize) -> bool
     ensures { result ≡ within low high n }
 {
-    (low <= n) & (n <= high)
+    (low..=high).contains(&n)
 }
 
 fn letter_ascends(list: &[u8], segment: usize) -> bool
@@ -32,6 +32,7 @@ fn letter_ascends(list: &[u8], segment: usize) -> bool
 }
 
 // Where the body of a segment begins, with no hole before it.
+#[tactic(auto, using(files::specs::FileLaws::segments_under, files::specs::FileLaws::bodies_under))]
 fn body_at(list: &[u8], habit: Habit, segment: usize) -> usize
     ensures { result ≡ body_at habit list.now segment }
 {
@@ -40,6 +41,7 @@ fn body_at(list: &[u8], habit: Habit, segment: usize) -> usize
         + (habit.key as usize) * files::contracts_before(list, segment)
 }
 
+#[tactic(auto, unfolding(crate::specs::SoundTests::entry_sound))]
 fn entry_sound(list: &[u8], habit: Habit, segment: usize) -> bool
     ensures { result ≡ entry_sound habit list.now segment }
 {
@@ -54,6 +56,7 @@ fn entry_sound(list: &[u8], habit: Habit, segment: usize) -> bool
         & (files::offset_at(list, segment) == body_at(list, habit, segment))
 }
 
+#[tactic(auto, using(files::specs::FileLaws::count_under, files::specs::FileLaws::offset_under))]
 pub fn key_of(list: &[u8], habit: Habit, segment: usize, place: usize) -> &[u8]
     requires { place < count_at list.now segment }
     ensures { result.now ≡ key_by habit list.now segment place }
@@ -72,6 +75,7 @@ fn key_ascends(list: &[u8], habit: Habit, segment: usize, place: usize) -> bool
     files::order_of(before, key_of(list, habit, segment, place)).is_lt()
 }
 
+#[tactic(auto, unfolding(crate::specs::SoundTests::key_sound))]
 fn key_sound(list: &[u8], habit: Habit, segment: usize, place: usize) -> bool
     requires { place < count_at list.now segment }
     ensures { result ≡ key_sound habit list.now segment place }
@@ -99,6 +103,7 @@ pub fn bodies_sound(list: &[u8], habit: Habit) -> bool
 }
 
 // The check of the calls after start: all that stands before the bodies, and the size.
+#[tactic(auto, unfolding(crate::specs::SoundTests::header_sound_by))]
 pub fn header_sound(list: &[u8], habit: Habit) -> bool
     ensures { result ≡ header_sound_by habit list.now }
 {
@@ -111,6 +116,7 @@ pub fn header_sound(list: &[u8], habit: Habit) -> bool
 }
 
 // The check of start: the bodies too.
+#[tactic(auto, unfolding(crate::specs::SoundTests::sound_by))]
 pub fn sound(list: &[u8], habit: Habit) -> bool
     ensures { result ≡ sound_by habit list.now }
 {

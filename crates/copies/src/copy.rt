@@ -5,6 +5,7 @@ ghost use Rattle.copies.specs.Rows.{over, blanks};
 use crate::run;
 use crate::run::Run;
 
+#[tactic(auto, using(crate::specs::RowsLaws::over_is))]
 pub fn out(rows: &[Run]) -> [Run; run::MOST]
     ensures { result ≡ over rows.now blanks }
 {
@@ -15,6 +16,7 @@ pub fn out(rows: &[Run]) -> [Run; run::MOST]
 }
 
 // Every run behind them stays.
+#[tactic(auto, using(crate::specs::RowsLaws::over_is))]
 pub fn back(runs: [Run; run::MOST], rows: &mut [Run])
     ensures { rows.new ≡ over runs rows.old }
 {

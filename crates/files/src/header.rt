@@ -9,6 +9,7 @@ pub const NUMBER: usize = 2;
 pub const ENTRY: usize = 8;
 
 // The place of a segment's entry; of one past the end, a place past the end.
+#[tactic(auto, using(wire::specs::NumberLaws::past_zero))]
 fn entry(list: &[u8], segment: usize) -> usize
     ensures { EntryPlace list.now segment result }
 {
@@ -19,6 +20,7 @@ fn entry(list: &[u8], segment: usize) -> usize
     }
 }
 
+#[tactic(auto, unfolding(crate::specs::File::segments_of))]
 pub fn segments(list: &[u8]) -> usize
     ensures { result ≡ segments_of list.now }
 {

@@ -22,6 +22,7 @@ pub fn order_of(a: &[u8], b: &[u8]) -> Ordering
 }
 
 // The key of so many bytes that begins at a place of the list: what stands past the end is left out.
+#[tactic(auto, unfolding(crate::specs::File::key_from))]
 fn key_from(list: &[u8], size: usize, at: usize) -> &[u8]
     ensures { result.now ≡ key_from size list.now at }
 {

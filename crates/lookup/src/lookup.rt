@@ -29,6 +29,7 @@ pub fn place_of(list: &[u8], habit: Habit, segment: usize, wanted: &[u8]) -> Sou
     let mut low = 0;
     let mut left = files::count_at(list, segment);
     let mut compared = 0;
+    // Kept: the library's binary search halves by another rule, and does not tell how many keys it compared.
     while 0 < left {
         let below = (left - 1) / 2;
         let place = low + below;

@@ -5,6 +5,7 @@ ghost use Rattle.files.specs.File.{segments_of, entry_at};
 ghost use Rattle.pairs.specs.NoSpreads.{empty_entry, no_spreads};
 
 // Its bytes: the contents alone.
+#[tactic(auto, using(files::specs::FileLaws::segments_under))]
 pub fn no_spreads_size(list: &[u8]) -> usize
     ensures { result ≡ entry_at (segments_of list.now) }
 {
@@ -22,6 +23,7 @@ fn put_empty_entry(out: &mut [u8], at: usize, letter: u8, offset: u32)
 }
 
 // Over the front of `out`, as far as it goes.
+#[tactic(auto, using(files::specs::FileLaws::segments_under, crate::specs::NoSpreadsLaws::entries_next), unfolding(crate::specs::NoSpreads::no_spreads))]
 pub fn put_no_spreads(list: &[u8], out: &mut [u8])
     ensures { out.new ≡ sets out.old 0 (no_spreads list.now) }
 {

@@ -51,6 +51,7 @@ fn pairs_fit(list: &[u8], spreads: &[u8]) -> bool
 }
 
 // The check of the calls after start, behind the contract list's.
+#[tactic(auto, unfolding(crate::specs::SpreadTests::spread_header_sound))]
 pub fn spread_header_sound(list: &[u8], spreads: &[u8]) -> bool
     ensures { result ≡ spread_header_sound list.now spreads.now }
 {
@@ -59,6 +60,7 @@ pub fn spread_header_sound(list: &[u8], spreads: &[u8]) -> bool
 }
 
 // The check of start, behind the contract list's: the pairs too.
+#[tactic(auto, unfolding(crate::specs::SpreadTests::spreads_sound))]
 pub fn spreads_sound(list: &[u8], spreads: &[u8]) -> bool
     ensures { result ≡ spreads_sound list.now spreads.now }
 {

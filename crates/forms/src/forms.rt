@@ -196,9 +196,15 @@ pub fn record_form(item: Item, level: Level) -> Form
 fn family_of(letter: u8, second: u8) -> Family
     ensures { family_meaning result ≡ meaning_of letter second }
 {
+    // Most messages of a quiet line are heartbeats, and theirs is the short way. P has none.
+    // Kept: in one match of both bytes a heartbeat takes a tenth longer.
+    if second == b'H' {
+        return match letter {
+            b'D' | b'T' | b'F' => Family::Heartbeat,
+            _ => Family::Outside,
+        };
+    }
     match (letter, second) {
-        // P has no heartbeat.
-        (b'D' | b'T' | b'F', b'H') => Family::Heartbeat,
         (b'D' | b'T', b'N') => Family::Contract,
         (b'D' | b'T', b'P') => Family::Pair,
         (b'F', b'N') => Family::Future,

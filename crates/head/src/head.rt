@@ -88,58 +88,75 @@ fn coded(letter: u8, segment: Option<usize>, bytes: &[u8]) -> bool
     segment.is_some()
 }
 
-#[tactic(auto, unfolding(crate::specs::Tests::trailed, crate::specs::Fields::end_byte))]
-fn trailed(bytes: &[u8], whole: usize) -> bool
-    requires { Framed bytes.now × (whole ≡ length_of bytes.now) }
-    ensures { result ≡ trailed bytes.now }
-{
-    wire::u8_at(bytes, whole - 1) == END
+// A message whose frame is good, and its length.
+#[derive(Clone, Copy)]
+struct Whole<'a> {
+    bytes: &'a [u8],
+    length: usize,
+    ghost framed: { Framed bytes.now × (length ≡ length_of bytes.now) },
 }
 
-// Whether these two bytes are sent as the sum.
-#[tactic(auto, unfolding(crate::specs::Fields::sum_sent))]
-fn carries(bytes: &[u8], whole: usize, first: u8, second: u8) -> bool
-    requires { Framed bytes.now × (whole ≡ length_of bytes.now) }
-    ensures { result ≡ same_bytes (sum_sent bytes.now) (first ∷ second ∷ []) }
-{
-    if wire::u8_at(bytes, whole - fields::TRAILER) != first {
-        return false;
+impl<'a> Whole<'a> {
+    #[tactic(auto, using(crate::specs::HeadLaws::framed_exact))]
+    fn of(bytes: &'a [u8]) -> Whole<'a>
+        requires { framed bytes.now ≡ true }
+        ensures { result.bytes.now ≡ bytes.now }
+    {
+        Whole {
+            bytes,
+            length: fields::length_of(bytes),
+        }
     }
-    wire::u8_at(bytes, whole - 2) == second
-}
 
-#[tactic(auto, unfolding(crate::specs::Fields::right_sum))]
-fn carries_right(bytes: &[u8], whole: usize) -> bool
-    requires { Framed bytes.now × (whole ≡ length_of bytes.now) }
-    ensures { result ≡ same_bytes (sum_sent bytes.now) (right_sum bytes.now) }
-{
-    let end = whole - fields::TRAILER;
-    let sent = checksum::sent(checksum::sum(&bytes[..end]));
-    carries(bytes, whole, sent[0], sent[1])
+    #[tactic(auto, unfolding(crate::specs::Tests::trailed, crate::specs::Fields::end_byte))]
+    fn trailed(&self) -> bool
+        ensures { result ≡ trailed self.now.bytes.now }
+    {
+        wire::u8_at(self.bytes, self.length - 1) == END
+    }
+
+    // Whether these two bytes are sent as the sum.
+    #[tactic(auto, unfolding(crate::specs::Fields::sum_sent))]
+    fn carries(&self, first: u8, second: u8) -> bool
+        ensures { result ≡ same_bytes (sum_sent self.now.bytes.now) (first ∷ second ∷ []) }
+    {
+        if wire::u8_at(self.bytes, self.length - fields::TRAILER) != first {
+            return false;
+        }
+        wire::u8_at(self.bytes, self.length - 2) == second
+    }
+
+    #[tactic(auto, unfolding(crate::specs::Fields::right_sum))]
+    fn carries_right(&self) -> bool
+        ensures { result ≡ same_bytes (sum_sent self.now.bytes.now) (right_sum self.now.bytes.now) }
+    {
+        let end = self.length - fields::TRAILER;
+        let sent = checksum::sent(checksum::sum(&self.bytes[..end]));
+        self.carries(sent[0], sent[1])
+    }
+
+    // By the rule of its code. The sum is worked out only where zero doesn't settle it.
+    #[tactic(auto, unfolding(crate::specs::Tests::summed, crate::specs::Fields::sum_in))]
+    fn summed(&self) -> bool
+        ensures { result ≡ summed self.now.bytes.now }
+    {
+        match layout::sum_rule(fields::letter_of(self.bytes), fields::second_of(self.bytes)) {
+            Sum::Zero => self.carries(0, 0),
+            Sum::Right => self.carries_right(),
+            Sum::RightOrZero => {
+                if self.carries(0, 0) {
+                    return true;
+                }
+                self.carries_right()
+            }
+        }
+    }
 }
 
 fn takes_length(named: Named) -> bool
     ensures { result ≡ takes_length named }
 {
     !matches!(named, Named::NoLength)
-}
-
-// By the rule of its code. The sum is worked out only where zero doesn't settle it.
-#[tactic(auto, unfolding(crate::specs::Tests::summed, crate::specs::Fields::sum_in))]
-fn summed(bytes: &[u8], whole: usize) -> bool
-    requires { Framed bytes.now × (whole ≡ length_of bytes.now) }
-    ensures { result ≡ summed bytes.now }
-{
-    match layout::sum_rule(fields::letter_of(bytes), fields::second_of(bytes)) {
-        Sum::Zero => carries(bytes, whole, 0, 0),
-        Sum::Right => carries_right(bytes, whole),
-        Sum::RightOrZero => {
-            if carries(bytes, whole, 0, 0) {
-                return true;
-            }
-            carries_right(bytes, whole)
-        }
-    }
 }
 
 // A message that tells of nothing is a heartbeat.
@@ -171,7 +188,6 @@ pub fn is_heartbeat(named: Named) -> bool
 }
 
 // The rules 5 to 7 in turn: the first broken one decides.
-#[tactic(auto, using(crate::specs::HeadLaws::framed_exact))]
 pub fn judge_frame(letter: u8, segment: Option<usize>, bytes: &[u8]) -> Result<(), Fault>
     ensures { head_numbers result ≡ head_numbers (first_fault (frame_rules letter (place_of segment) bytes.now)) }
 {
@@ -181,14 +197,13 @@ pub fn judge_frame(letter: u8, segment: Option<usize>, bytes: &[u8]) -> Result<(
     if !coded(letter, segment, bytes) {
         return Err(Fault::Code);
     }
-    if !trailed(bytes, fields::length_of(bytes)) {
+    if !Whole::of(bytes).trailed() {
         return Err(Fault::Trailer);
     }
     Ok(())
 }
 
 // Where these hold, the rules 8 to 10 in turn.
-#[tactic(auto, using(crate::specs::HeadLaws::framed_exact))]
 pub fn judge_form(bytes: &[u8], named: Named) -> Result<(), Fault>
     requires { (framed bytes.now ≡ true) × (named ≡ form_in bytes.now) }
     ensures { head_numbers result ≡ head_numbers (first_fault (form_rules bytes.now)) }
@@ -196,7 +211,7 @@ pub fn judge_form(bytes: &[u8], named: Named) -> Result<(), Fault>
     if !takes_length(named) {
         return Err(Fault::Length);
     }
-    if !summed(bytes, fields::length_of(bytes)) {
+    if !Whole::of(bytes).summed() {
         return Err(Fault::Checksum);
     }
     if !takes_number(named, fields::number_of(bytes)) {
@@ -206,12 +221,12 @@ pub fn judge_form(bytes: &[u8], named: Named) -> Result<(), Fault>
 }
 
 // The same for a heartbeat, of which both sum and number are zero: it needs no other word of the table.
-#[tactic(auto, using(crate::specs::HeadLaws::framed_exact, crate::specs::HeadLaws::heartbeat_length, crate::specs::HeadLaws::heartbeat_sum, crate::specs::HeadLaws::heartbeat_number))]
+#[tactic(auto, using(crate::specs::HeadLaws::heartbeat_length, crate::specs::HeadLaws::heartbeat_sum, crate::specs::HeadLaws::heartbeat_number))]
 pub fn judge_heartbeat(bytes: &[u8]) -> Result<(), Fault>
     requires { (framed bytes.now ≡ true) × (is_heartbeat (form_in bytes.now) ≡ true) }
     ensures { head_numbers result ≡ head_numbers (first_fault (form_rules bytes.now)) }
 {
-    if !carries(bytes, fields::length_of(bytes), 0, 0) {
+    if !Whole::of(bytes).carries(0, 0) {
         return Err(Fault::Checksum);
     }
     if fields::number_of(bytes) != 0 {

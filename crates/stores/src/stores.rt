@@ -2,11 +2,11 @@
 ghost use Rattle.std.specs.Prelude.{◌≡◌, suc, ◌+◌, ◌*◌, ◌≤◌, ◌<◌, length};
 ghost use Rattle.std.proofs.lemmas.List.Edits.{sets};
 ghost use Rattle.forms.specs.Forms.{rows_of, subject_of, key_rows_of};
-ghost use Rattle.forms.specs.Sizes.{most_rows, key_row_count, pair_row_count};
+ghost use Rattle.forms.specs.Sizes.{key_row_count, pair_row_count};
 ghost use Rattle.slots.specs.Places.{record_of};
 ghost use Rattle.stores.specs.Stores.{store_cells, StoreKept, Near, KeptFor, Fits, AllFit, stored_at, made_of, made};
 
-use layout::{Form, Item, KEY_ROWS, Level, PAIR_ROWS, Subject};
+use layout::{Form, Item, KEY_ROWS, Level, MOST_ROWS, PAIR_ROWS, Subject};
 use slots::Fronts;
 
 // The cells of a store: its record's place, how many cells the record has, and those: at most as many as a contract's level 2 has.
@@ -20,8 +20,8 @@ fn put(cells: &mut [u64], at: usize, part: &[u64])
 }
 
 // The record of a contract's update behind its number: the session, the market type, the time stamp, which some have not, and the rest.
-fn put_contract(stores: &mut [u64], at: usize, form: Form, cells: &[u64])
-    requires { (suc key_row_count ≤ length (rows_of form)) × (length cells.now ≡ most_rows) × (at + length (record_of Item.Contract form cells.now) ≤ length stores.old) }
+fn put_contract(stores: &mut [u64], at: usize, form: Form, cells: &[u64; MOST_ROWS])
+    requires { (suc key_row_count ≤ length (rows_of form)) × (at + length (record_of Item.Contract form cells.now) ≤ length stores.old) }
     ensures { stores.new ≡ sets stores.old at (record_of Item.Contract form cells.now) }
 {
     let end = rows::count_of(form);
@@ -37,16 +37,16 @@ fn put_contract(stores: &mut [u64], at: usize, form: Form, cells: &[u64])
 }
 
 // That of a pair's update: the rows behind its key.
-fn put_pair(stores: &mut [u64], at: usize, form: Form, cells: &[u64])
-    requires { (pair_row_count ≤ length (rows_of form)) × (length cells.now ≡ most_rows) × (at + length (record_of Item.Pair form cells.now) ≤ length stores.old) }
+fn put_pair(stores: &mut [u64], at: usize, form: Form, cells: &[u64; MOST_ROWS])
+    requires { (pair_row_count ≤ length (rows_of form)) × (at + length (record_of Item.Pair form cells.now) ≤ length stores.old) }
     ensures { stores.new ≡ sets stores.old at (record_of Item.Pair form cells.now) }
 {
     let end = rows::count_of(form);
     put(stores, at, &cells[PAIR_ROWS..end]);
 }
 
-fn put_record(stores: &mut [u64], at: usize, item: Item, form: Form, cells: &[u64])
-    requires { (suc (key_rows_of item) ≤ length (rows_of form)) × (length cells.now ≡ most_rows) × (at + length (record_of item form cells.now) ≤ length stores.old) }
+fn put_record(stores: &mut [u64], at: usize, item: Item, form: Form, cells: &[u64; MOST_ROWS])
+    requires { (suc (key_rows_of item) ≤ length (rows_of form)) × (at + length (record_of item form cells.now) ≤ length stores.old) }
     ensures { stores.new ≡ sets stores.old at (record_of item form cells.now) }
 {
     match item {
@@ -64,9 +64,9 @@ fn keep(
     item: Item,
     level: Level,
     number: u32,
-    cells: &[u64],
+    cells: &[u64; MOST_ROWS],
 ) -> usize
-    requires { (store_cells * kept ≤ length stores.old) × (subject_of form ≡ Subject.Of item level) × (length cells.now ≡ most_rows) }
+    requires { (store_cells * kept ≤ length stores.old) × (subject_of form ≡ Subject.Of item level) }
     ensures { StoreKept stores.old kept slot number (record_of item form cells.now) result stores.new }
 {
     let at = STORE * kept;
@@ -88,9 +88,9 @@ pub fn keep_update(
     place: usize,
     form: Form,
     number: u32,
-    cells: &[u64],
+    cells: &[u64; MOST_ROWS],
 ) -> usize
-    requires { (store_cells * kept ≤ length stores.old) × Near fronts × (place < 65536) × (length cells.now ≡ most_rows) }
+    requires { (store_cells * kept ≤ length stores.old) × Near fronts × (place < 65536) }
     ensures { KeptFor (subject_of form) form stores.old kept fronts place number cells.now result stores.new }
 {
     match layout::subject_of(form) {

@@ -23,6 +23,8 @@ pub struct Full;
 
 // A number comes. The row has to be sound: to look would cost the number that comes in order, which is nearly every one,
 // more than all else does.
+// Kept: that the row is sound stands in several contracts, since a struct that holds the lent row would owe it at each write, and the
+// writes of one step break it in between.
 #[tactic(auto, unfolding(sequence::specs::Row::gaps_of))]
 pub fn take(row: &mut [u32; CELLS], number: u32) -> Result<Taken, Full>
     requires { sound_gap_row row.old ≡ true }

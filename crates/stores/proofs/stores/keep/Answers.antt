@@ -10,16 +10,16 @@ pub put_record-requires : goal.put_record-requires
 put_record-requires c =
     let a = c.args in
     let cells = record_of a.item a.form a.cells.now in
-    let long_is = record_long a.form a.item a.level c.requires.1 a.cells.now c.requires.2 in
+    let long_is = record_long a.form a.item a.level c.requires.1 a.cells.now c.told-cells in
     let few : suc (length cells) ≤ 35 = omega (arith, long_is, level_most a.item a.level) in
     let room : 37 * a.kept + 37 ≤ length a.stores.now = omega (arith, c.if-stores-at-lt-STORE.false, c.requires.0) in
-    (rows_behind a.form a.item a.level c.requires.1, c.requires.2, simp length-set (omega (arith, room, few)))
+    (rows_behind a.form a.item a.level c.requires.1, simp length-set (omega (arith, room, few)))
 
 pub returns : goal.returns
 returns c =
     let a = c.args in
     let cells = record_of a.item a.form a.cells.now in
-    let long_is = record_long a.form a.item a.level c.requires.1 a.cells.now c.requires.2 in
+    let long_is = record_long a.form a.item a.level c.requires.1 a.cells.now c.told-cells in
     inr (
       omega (arith, c.if-stores-at-lt-STORE.false, c.requires.0),
       add-one a.kept,

@@ -29,7 +29,7 @@ room : (stores cells : List ℕ) (at : ℕ) (form : Form) (t : Bool) → is_stam
 room stores cells at form t e h = subst (λ (b : Bool). at + suc (suc (length (no_stamp b ++ rest_of form cells))) ≤ length stores) e h
 
 pub slice_bounds-put-end : goal.slice_bounds-put-end
-slice_bounds-put-end c = few_rows c.args.form c.args.cells.now _ c.count_of-end.ensures c.requires.1
+slice_bounds-put-end c = omega (arith, few_rows c.args.form c.args.cells.now _ c.count_of-end.ensures c.told-cells, c.told-cells)
 
 pub put-requires : goal.put-requires
 put-requires c =
@@ -37,13 +37,13 @@ put-requires c =
     let cells = c.args.cells.now in
     let form = c.args.form in
     let at = c.args.at in
-    rw (part_is form cells 6 _ c.count_of-end.ensures c.requires.1) (elim c.if-not-is_stamped.branch [
+    rw (part_is form cells 6 _ c.count_of-end.ensures c.told-cells) (elim c.if-not-is_stamped.branch [
       | then-not-is_stamped w ↦
-          let fits = room stores cells at form false (sym c.is_stamped.ensures ∙ w.if-not-is_stamped.true) c.requires.2 in
+          let fits = room stores cells at form false (sym c.is_stamped.ensures ∙ w.if-not-is_stamped.true) c.requires.1 in
           let long : length c.if-not-is_stamped.stores ≡ length stores = ap length w.stores-is ∙ simp length-set in
           omega (arith, long, w.rest-is, fits)
       | else-not-is_stamped w ↦
-          let fits = room stores cells at form true (sym c.is_stamped.ensures ∙ w.if-not-is_stamped.false) c.requires.2 in
+          let fits = room stores cells at form true (sym c.is_stamped.ensures ∙ w.if-not-is_stamped.false) c.requires.1 in
           let long : length c.if-not-is_stamped.stores ≡ length stores = ap length w.stores-is ∙ simp length-set in
           omega (arith, long, w.rest-is, fits)
     ])
@@ -58,7 +58,7 @@ returns c =
     let market = get_or cells key_row_count 0 in
     let part = take (c.count_of-end.result - 6) (drop 6 cells) in
     let session_is : session ≡ session_cell (session_of form) = c.session_cell.ensures ∙ ap session_cell c.session_of.ensures in
-    let rest = part_is form cells 6 _ c.count_of-end.ensures c.requires.1 in
+    let rest = part_is form cells 6 _ c.count_of-end.ensures c.told-cells in
     let third : at + 2 + 1 ≡ at + 3 = omega arith in
     c.put.ensures ∙ elim c.if-not-is_stamped.branch [
       | then-not-is_stamped w ↦

@@ -46,7 +46,6 @@ keep_update-kept-requires c =
       c.requires.within,
       fronts_near both c.requires.headers a.there.now.letter a.there.now.fronts c.requires.fronts_are a.bytes.now message refl what_is,
       place_few both c.requires.headers a.there.now.letter a.there.now.fronts c.requires.fronts_are a.bytes.now message refl what_is,
-      search rules,
     )
 
 pub returns-in-Heartbeat : goal.returns-in-Heartbeat

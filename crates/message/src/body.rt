@@ -147,6 +147,7 @@ fn update(
 }
 
 // What a message with a good head is.
+// Kept: the frame is known and the form named in `formed` too; a struct for these two would be built and taken apart once.
 fn contents(there: &Lists, bytes: &[u8], named: Named, cells: &mut [u64; MOST_ROWS]) -> Outline
     requires { (framed bytes.now ≡ true) × (named ≡ form_in bytes.now) }
     ensures { ReadsMessage (contents_by (places_there (lists there.now.list.now there.now.spreads.now) bytes.now (place_of there.now.segment)) bytes.now) (compared_as (acts_as bytes.now) (keys_there (lists there.now.list.now there.now.spreads.now) bytes.now (place_of there.now.segment))) (rows_read bytes.now).cells cells.old result cells.new }

@@ -81,6 +81,7 @@ fn keep(
 }
 
 // By what the update tells of: the records of its segment begin at `fronts`.
+// Kept: how many stores are kept stands beside their memory, since that is lent in one of three sizes and nothing is allocated.
 pub fn keep_update(
     stores: &mut [u64],
     kept: usize,

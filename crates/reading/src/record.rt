@@ -47,11 +47,7 @@ fn cells_at(item: Item, stamped: bool, records: &[u64], at: usize, level: Level)
     let key = layout::key_rows_of(item);
     let first = at + slots::cells_in_front(item);
     let mut cells = [0u64; MOST_ROWS];
-    let mut i = 0;
-    while i < count {
-        cells[key + i] = records[first + i];
-        i += 1;
-    }
+    cells[key..key + count].copy_from_slice(&records[first..first + count]);
     if stamped {
         return cells;
     }

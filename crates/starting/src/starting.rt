@@ -14,23 +14,13 @@ use state::Refusal;
 fn start_of(starts: &[u32], segment: usize) -> u32
     ensures { result ≡ start_of starts.now segment }
 {
-    if segment < starts.len() {
-        return starts[segment];
-    }
-    0
+    starts.get(segment).copied().unwrap_or(0)
 }
 
 fn each_starts(starts: &[u32], segments: usize) -> bool
     ensures { result ≡ each_starts segments starts.now }
 {
-    let mut i = 0;
-    while i < segments {
-        if start_of(starts, i) == 0 {
-            return false;
-        }
-        i += 1;
-    }
-    true
+    (0..segments).all(|i| 0 < start_of(starts, i))
 }
 
 fn check_start(
@@ -58,12 +48,10 @@ fn begin_rows(starts: &[u32], rows: &mut [u32], segments: usize)
     requires { gap_row_cells * segments ≤ length rows.old }
     ensures { rows.new ≡ started_rows segments starts.now ++ drop (gap_row_cells * segments) rows.old }
 {
-    let mut row = [0u32; 132];
-    let mut i = 0;
-    while i < segments {
+    let mut row = [0u32; sequence::CELLS];
+    for i in 0..segments {
         sequence::start(&mut row, start_of(starts, i));
         state::put_row(rows, i, &row);
-        i += 1;
     }
 }
 
@@ -71,11 +59,7 @@ fn clear(records: &mut [u64], cells: usize)
     requires { cells ≤ length records.old }
     ensures { records.new ≡ replicate cells 0 ++ drop cells records.old }
 {
-    let mut i = 0;
-    while i < cells {
-        records[i] = 0;
-        i += 1;
-    }
+    records[..cells].fill(0);
 }
 
 pub fn start(

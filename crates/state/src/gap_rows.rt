@@ -11,11 +11,7 @@ pub fn copy_row(rows: &[u32], segment: usize, row: &mut [u32; CELLS])
     ensures { row.new ≡ gap_row_of rows.now segment }
 {
     let at = CELLS * segment;
-    let mut j = 0;
-    while j < CELLS {
-        row[j] = rows[at + j];
-        j += 1;
-    }
+    row.copy_from_slice(&rows[at..at + CELLS]);
 }
 
 pub fn row_of(rows: &[u32], segment: usize) -> [u32; CELLS]
@@ -32,9 +28,5 @@ pub fn put_row(rows: &mut [u32], segment: usize, row: &[u32; CELLS])
     ensures { rows.new ≡ with_gap_row rows.old segment row.now }
 {
     let at = CELLS * segment;
-    let mut j = 0;
-    while j < CELLS {
-        rows[at + j] = row[j];
-        j += 1;
-    }
+    rows[at..at + CELLS].copy_from_slice(row);
 }

@@ -29,14 +29,11 @@ fn rows_sound(rows: &[u32], segments: usize) -> bool
     requires { gap_row_cells * segments ≤ length rows.now }
     ensures { result ≡ gap_rows_sound segments rows.now }
 {
-    let mut i = 0;
-    while i < segments {
+    for i in 0..segments {
         let at = sequence::CELLS * i;
-        let end = at + sequence::CELLS;
-        if !sequence::sound(&rows[at..end]) {
+        if !sequence::sound(&rows[at..at + sequence::CELLS]) {
             return false;
         }
-        i += 1;
     }
     true
 }

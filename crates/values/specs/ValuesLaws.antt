@@ -1,6 +1,8 @@
 -- Laws of an update's values.
-use Rattle.std.specs.Prelude.{ℕ, zero, suc, ◌+◌, ◌≤◌, ◌≡◌, refl, Bool, true, false, List, [], ◌∷◌, ◌++◌, map, length, take, drop, replicate}
-use Rattle.std.proofs.Common.{ap, ◌∙◌, append_assoc, arith, length-drop, length-take-le}
+use Rattle.std.specs.Prelude.{ℕ, zero, suc, ◌+◌, ◌-◌, ◌≤◌, ◌≡◌, refl, Bool, true, false, List, [], ◌∷◌, ◌++◌, map, length, take, drop, replicate}
+use Rattle.std.proofs.Common.{ap, sym, ◌∙◌, append_assoc, arith, length-drop, length-take-le, take_all}
+use Rattle.std.proofs.lemmas.Slice.{put_mid-paste}
+use borrow.Rule.Slice.PartMut.{put_mid}
 use Rattle.std.proofs.Math.Option.{Option, none, some}
 use Rattle.std.proofs.lemmas.List.Edits.{sets, sets-eq}
 use Rattle.forms.specs.declared.forms.Item.{Item}
@@ -20,6 +22,15 @@ use Rattle.spread.specs.Spread.{difference_of, spread_order_in, spread_quote_by,
 use Rattle.slots.specs.Places.{record_rows}
 use Rattle.slots.specs.SlotsLaws.{rows_few, rows_kept}
 use Rattle.values.specs.Values.{first, most, value_rows, row_values, spread_values, value_at, quote_from, spread_from, quote_in, spread_in}
+
+-- cells copied to a place, as they are cut out
+pub copied_in : (cells from : List ℕ) (at first count : ℕ) → at + count ≤ length cells → first + count ≤ length from
+    → put_mid at (at + count - at) cells (take (first + count - first) (drop first from)) ≡ sets cells at (take count (drop first from))
+copied_in cells from at first count room there =
+    let part : List ℕ = take count (drop first from) in
+    let long : length part ≡ count = length-take-le count (drop first from) (simp length-drop (omega arith)) in
+    put_mid-paste at _ cells _ part (length part) (ap (λ (n : ℕ). take n (drop first from)) (omega arith)) (omega (arith, long)) refl
+    ∙ rw (take_all (length part) part (omega arith)) (sym (sets-eq part cells at (omega (arith, long))))
 
 -- ---- the values of rows
 

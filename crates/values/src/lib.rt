@@ -19,17 +19,6 @@ pub const NONE: u64 = 0xffff_ffff_ffff_ffff;
 // The values of the level that has the most: as many as its record has cells.
 pub const MOST: usize = slots::CONTRACT_TWO;
 
-fn copy(from: &[u64], first: usize, to: &mut [u64], at: usize, count: usize)
-    requires { (first + count ≤ length from.now) × (at + count ≤ length to.old) }
-    ensures { to.new ≡ sets to.old at (take count (drop first from.now)) }
-{
-    let mut i = 0;
-    while i < count {
-        to[at + i] = from[first + i];
-        i += 1;
-    }
-}
-
 // The values of the rows behind the key, of those of all rows. What stands before them stays as it is, and so do values that the level
 // has no row for.
 fn put_rows(item: Item, level: Level, laid: &[u64; MOST_ROWS], values: &mut [u64; MOST])
@@ -39,7 +28,7 @@ fn put_rows(item: Item, level: Level, laid: &[u64; MOST_ROWS], values: &mut [u64
     let behind = layout::key_rows_of(item);
     let at = slots::cells_in_front(item);
     let rows = slots::record_rows(item, level);
-    copy(laid, behind, values, at, rows);
+    values[at..at + rows].copy_from_slice(&laid[behind..behind + rows]);
 }
 
 // Number and session aren't looked at.
@@ -51,7 +40,7 @@ fn laid_in(item: Item, level: Level, values: &[u64; MOST]) -> [u64; MOST_ROWS]
     let from = slots::cells_in_front(item);
     let at = layout::key_rows_of(item);
     let count = slots::record_rows(item, level);
-    copy(values, from, &mut laid, at, count);
+    laid[at..at + count].copy_from_slice(&values[from..from + count]);
     laid
 }
 

@@ -9,14 +9,11 @@ use Rattle.starting.proofs.starting.begin_rows.Goals as goal
 
 pub loop-i-preserved : goal.loop-i-preserved
 loop-i-preserved c =
-    let d = c in
-    let at = d in
-    let l = at.loop-i in
-    let a = at.args in
+    let l = c.loop-i in
+    let a = c.args in
     let put = c.put_row in
-    let row : List ℕ = d.start.new.row in
-    let begun-row : row ≡ started_row (start_of a.starts.now l.i) = d.start.ensures.left ∙ ap started_row d.start_of.ensures in (
-      omega arith,
-      ap length put.ensures ∙ length_with l.rows l.i row (omega arith) (ap length begun-row ∙ started_length (start_of a.starts.now l.i)) ∙ l.invariant.1,
-      put.ensures ∙ ap₂ (λ (ns : List ℕ) (r : List ℕ). with_gap_row ns l.i r) l.invariant.2 begun-row ∙ started_more a.starts.now l.i a.rows.now,
+    let row : List ℕ = c.start.new.row in
+    let begun-row : row ≡ started_row (start_of a.starts.now l.i) = c.start.ensures.left ∙ ap started_row c.start_of.ensures in (
+      ap length put.ensures ∙ length_with l.rows l.i row (omega arith) (ap length begun-row ∙ started_length (start_of a.starts.now l.i)) ∙ l.invariant.0,
+      put.ensures ∙ ap₂ (λ (ns : List ℕ) (r : List ℕ). with_gap_row ns l.i r) l.invariant.1 begun-row ∙ started_more a.starts.now l.i a.rows.now,
     )

@@ -1,9 +1,6 @@
-use Rattle.std.proofs.Common.{◌-◌, ◌≤◌, ◌≡◌, true}
+use Rattle.std.proofs.Common.{◌≡◌, true}
 use Rattle.state.specs.MemoryRows.{gap_rows_sound}
 use Rattle.state.proofs.state.rows_sound.Given as goal
 
 abbrev pub invariant-loop-i : goal.invariant-loop-i
-invariant-loop-i l = (l.i ≤ l.segments) × (gap_rows_sound l.i l.rows ≡ true)
-
-abbrev pub decreases-loop-i : goal.decreases-loop-i
-decreases-loop-i l = l.segments - l.i
+invariant-loop-i l = gap_rows_sound l.i l.rows ≡ true

@@ -5,11 +5,9 @@ use Rattle.message.proofs.body.heartbeat.Goals as goal
 
 pub returns-in-Ok : goal.returns-in-Ok
 returns-in-Ok c place keys cells =
-    let start = c in
-    let bytes = start.args.bytes.now in
-    let (form, named, nothing) = heartbeat_form _ start.requires.1 in
-    good_form place keys bytes cells _ c.judge_heartbeat.ensures c.in-Ok.is
-    (heartbeat_reads place keys bytes _ c.length_of.ensures cells form named nothing)
+    let (form, named, nothing) = heartbeat_form _ c.requires.1 in
+    good_form place keys _ cells _ c.judge_heartbeat.ensures c.in-Ok.is
+    (heartbeat_reads place keys _ _ c.length_of.ensures cells form named nothing)
 
 pub returns-in-Err : goal.returns-in-Err
 returns-in-Err c place keys cells =

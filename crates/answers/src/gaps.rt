@@ -1,8 +1,9 @@
 // The gaps, listed and written off.
 ghost use Rattle.std.specs.Prelude.{◌≤◌, IfOk, length, OnErr, ◌≡◌};
 
-use quotebox::Listed;
+use quotebox::{GapsListed, Refusal};
 use std::io::Result;
+use std::result;
 
 // Of the cells for runs as many are lent as the command tells.
 fn list_into(
@@ -12,7 +13,7 @@ fn list_into(
     rows: &[u32],
     records: &[u64],
     cells: &mut [u32],
-) -> Listed {
+) -> result::Result<GapsListed, Refusal> {
     let letter = wire::u8_at(bytes, 1);
     let lent = console::least(wire::u16_at(bytes, 2) as usize, cells.len());
     quotebox::list_gaps(list, spreads, rows, records, letter, &mut cells[0..lent])

@@ -22,8 +22,8 @@ use Rattle.message.specs.Reads.{contents_by, message_of}
 use Rattle.turns.specs.Turns.{message_acts, messages_act}
 use Rattle.batch.specs.Batch.{flag_of, size_of, count_of}
 use Rattle.batch.specs.Acts.{batch_acts}
+use Rattle.state.specs.Answers.{Listed, runs_told}
 use Rattle.state.specs.Memory.{lends, Lent}
-use Rattle.state.specs.declared.answers.Listed.{Listed}
 use Rattle.listing.specs.ListPromises.{ListedRuns}
 use Rattle.starting.specs.Start.{each_starts, start_rules}
 use Rattle.starting.specs.StartActs.{rows_started, records_cleared}
@@ -79,7 +79,7 @@ unfolding no_spreads pairs_listed spread_header_sound spreads_sound start_rules 
 says = (refl, refl, refl, refl)
 
 -- and so listing its gaps with two cells lent answers highest 4 and one run
-pub lists_gap : (answer : Listed) (cells' : List ℕ) → ListedRuns now.lent 84 (0 ∷ 0 ∷ []) answer cells' → answer ≡ Listed.Runs 4 1
+pub lists_gap : (answer : Listed) (cells' : List ℕ) → ListedRuns now.lent 84 (0 ∷ 0 ∷ []) answer cells' → answer ≡ runs_told 4 1
 lists_gap answer cells' p =
     let one = says.3 in
-    (after_calls reached).list_answered 84 0 says.0 (0 ∷ 0 ∷ []) answer cells' p (subst (λ (n : ℕ). 2 * n ≤ 2) (sym one) (omega arith)) ∙ ap₂ Listed.Runs says.1 one
+    (after_calls reached).list_answered 84 0 says.0 (0 ∷ 0 ∷ []) answer cells' p (subst (λ (n : ℕ). 2 * n ≤ 2) (sym one) (omega arith)) ∙ ap₂ runs_told says.1 one

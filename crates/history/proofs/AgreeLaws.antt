@@ -20,7 +20,6 @@ use Rattle.sequence.specs.Row.{gaps_of}
 use Rattle.message.specs.Message.{Message, place_in}
 use Rattle.state.specs.declared.refusal.Refusal.{Refusal}
 use Rattle.state.specs.declared.refusal.Refusal.TheVariants.{Code, Contract, Memory}
-use Rattle.state.specs.declared.answers.Listed.{Listed}
 use Rattle.state.specs.declared.answers.Recorded.{Recorded}
 use Rattle.state.specs.Memory.{Lent, lends, gap_row_in}
 use Rattle.slots.specs.Slots.{Slot, slot as record_slot}
@@ -32,7 +31,7 @@ use Rattle.reading.specs.ReadsLaws.{record_refused}
 use Rattle.listing.specs.ListActs.{list_values, runs_put}
 use Rattle.listing.specs.ListRules.{gaps_of_letter, list_rules}
 use Rattle.reading.specs.ReadRules.{record_rules}
-use Rattle.state.specs.Answers.{left_by, answered}
+use Rattle.state.specs.Answers.{left_by, answered, Listed}
 use Rattle.state.specs.Refusals.{Rule}
 use Rattle.reading.specs.RecordLaws.{segment_broken, key_broken}
 use Rattle.starting.specs.Start.{start_of}

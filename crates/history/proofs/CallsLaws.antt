@@ -15,10 +15,8 @@ use Rattle.sequence.specs.Gaps.{Gaps}
 use Rattle.sequence.specs.Runs.{Run}
 use Rattle.state.specs.declared.refusal.Refusal.{Refusal}
 use Rattle.state.specs.declared.answers.Judged.{Judged}
-use Rattle.state.specs.declared.answers.Listed.{Listed}
-use Rattle.state.specs.declared.answers.WrittenOff.{WrittenOff}
 use Rattle.state.specs.declared.answers.Recorded.{Recorded}
-use Rattle.state.specs.Answers.{started_numbers, listed_numbers, written_off_numbers, recorded_numbers, written_numbers, answered, left_by}
+use Rattle.state.specs.Answers.{started_numbers, listed_numbers, written_off_numbers, recorded_numbers, written_numbers, answered, left_by, Listed, WrittenOff}
 use Rattle.state.specs.Memory.{Lent}
 use Rattle.turns.specs.Turns.{Acted, acted, refused}
 use Rattle.batch.specs.Acts.{batch_acts, lent_after}

@@ -4,8 +4,7 @@ use Rattle.std.proofs.Common.{sym, ap, subst, ◌∙◌}
 use Rattle.std.proofs.Math.Option.{Option, none, some}
 use Rattle.state.specs.declared.refusal.Refusal.{Refusal}
 use Rattle.state.specs.declared.answers.Judged.{Judged}
-use Rattle.state.specs.declared.answers.WrittenOff.{WrittenOff}
-use Rattle.state.specs.Answers.{left_by}
+use Rattle.state.specs.Answers.{left_by, WrittenOff}
 use Rattle.state.specs.Memory.{Lent}
 use Rattle.state.specs.AnswersLaws.{accepted_by}
 use Rattle.batch.specs.Promises.{TookBatch}

@@ -1,5 +1,5 @@
 -- Every call keeps what holds, and so it holds after every history.
-use Rattle.std.specs.Prelude.{ℕ, ◌+◌, ◌*◌, ◌≤◌, ◌<◌, ◌≡◌, refl, true, ◌||◌, List, [], ◌∷◌, length, Ok}
+use Rattle.std.specs.Prelude.{ℕ, ◌+◌, ◌*◌, ◌≤◌, ◌<◌, ◌≡◌, refl, true, ◌||◌, List, [], ◌∷◌, length, Ok, Err}
 use Rattle.std.proofs.Common.{sym, ap, subst, ◌∙◌, ⊎_elim, arith, eq-eqb, ne_eqb, ltb-true}
 use Rattle.std.proofs.Math.Path.{fun_ext}
 use Rattle.std.proofs.Math.Option.{Option, none, some}
@@ -16,11 +16,10 @@ use Rattle.sequence.specs.Answers.{write_off_answer, lowest, written_off}
 use Rattle.sequence.specs.Row.{gaps_of}
 use Rattle.sequence.specs.RowLaws.{sound_row_exactly}
 use Rattle.message.specs.Message.{Message}
+use Rattle.state.specs.Answers.{WrittenOff, run_told}
 use Rattle.state.specs.declared.refusal.Refusal.TheVariants.{NoGap}
 use Rattle.state.specs.declared.answers.Judged.{Judged}
 use Rattle.state.specs.declared.answers.Judged.TheVariants as judged
-use Rattle.state.specs.declared.answers.WrittenOff.{WrittenOff}
-use Rattle.state.specs.declared.answers.WrittenOff.TheVariants as answer
 use Rattle.turns.specs.Turns.{Box, acted}
 use Rattle.batch.specs.Batch.{batch_letter, count_of, batch_data}
 use Rattle.batch.specs.Acts.{batch_acts, box_of, lent_after}
@@ -160,7 +159,7 @@ off_here i r past = fun_ext (λ n. rw (eq-eqb i i refl))
 pub off_elsewhere : (i j : ℕ) (r : Run) (past : List Event) → (j ≡ i → ⊥) → wrote_off_in i (off j r ∷ past) ≡ wrote_off_in i past
 off_elsewhere i j r past n = fun_ext (λ k. rw (ne_eqb j i n))
 
-module _ {lent lent' : Lent} {letter : ℕ} (first last : ℕ) (p : WroteOffRun lent letter (answer.Removed first last) lent') where
+module _ {lent lent' : Lent} {letter : ℕ} (first last : ℕ) (p : WroteOffRun lent letter (run_told first last) lent') where
   held : first_broken (write_off_rules lent letter) ≡ none
   held =
       (accepted_by (first_broken (write_off_rules lent letter)) (run_values (lowest_run (gaps_of_letter lent letter))) (first ∷ last ∷ []) p.answers).0
@@ -205,10 +204,10 @@ module _ {lent lent' : Lent} {letter : ℕ} (first last : ℕ) (p : WroteOffRun 
 -- whatever a write-off is answered
 pub off_holds : {lent lent' : Lent} {starts : List ℕ} {past : List Event} → Holds starts lent past → (letter : ℕ) (a : WrittenOff)
     → WroteOffRun lent letter a lent' → Holds starts lent' (after_write_off lent.lists letter a past)
-off_holds {lent} {lent'} {starts} {past} h letter (answer.Removed first last) p =
-    let l = off_listed first last p in
-    subst (λ (o : Option ℕ). Holds starts lent' (off_in o (first to last) past)) (sym l.1) (removed_holds first last p h l.0 l.1)
-off_holds h letter (answer.Refused refusal) p = rw (off_refusal_lem refusal p).1 h
+off_holds {lent} {lent'} {starts} {past} h letter (Ok run) p =
+    let l = off_listed run.first run.last p in
+    subst (λ (o : Option ℕ). Holds starts lent' (off_in o (run.first to run.last) past)) (sym l.1) (removed_holds run.first run.last p h l.0 l.1)
+off_holds h letter (Err refusal) p = rw (off_refusal_lem refusal p).1 h
 
 -- ---- every history
 

@@ -1,5 +1,5 @@
 -- Demand 3, "After any sequence of calls from a fresh start, the gap list names exactly the missing numbers".
-use Rattle.std.specs.Prelude.{ℕ, suc, ◌*◌, ◌≤◌, ◌<◌, ◌≡◌, refl, true, List, [], ◌∷◌, length}
+use Rattle.std.specs.Prelude.{ℕ, suc, ◌*◌, ◌≤◌, ◌<◌, ◌≡◌, refl, true, List, [], ◌∷◌, length, Err}
 use Rattle.std.proofs.Common.{sym, ◌∙◌, ⊎_elim, add-one, arith}
 use Rattle.std.proofs.Math.Path.{ap, ap₂}
 use Rattle.std.proofs.Math.Option.{Option, none, some}
@@ -17,13 +17,12 @@ use Rattle.sequence.specs.Row.{pairs}
 use Rattle.sequence.specs.RowLaid.{flat}
 use Rattle.sequence.specs.Sound.{SoundGaps}
 use Rattle.sequence.specs.SoundLaws.{sound_apart}
-use Rattle.state.specs.declared.answers.Listed.{Listed}
 use Rattle.listing.specs.ListPromises.{ListedRuns}
 use Rattle.listing.specs.ListPromisesLaws.{answers_runs, runs_in_cells}
 use Rattle.listing.specs.ListActsLaws.{gaps_are}
 use Rattle.listing.specs.ListActs.{list_values}
 use Rattle.listing.specs.ListRules.{gaps_of_letter, list_rules}
-use Rattle.state.specs.Answers.{answered, listed_numbers}
+use Rattle.state.specs.Answers.{answered, listed_numbers, Listed, runs_told}
 use Rattle.state.specs.AnswersLaws.{listed_told}
 use Rattle.starting.specs.Start.{start_of}
 use Rattle.state.specs.Memory.{Lent}
@@ -81,7 +80,7 @@ module _ {starts : List ℕ} {lent : Lent} {past : List Event} (r : Reached star
   runs_are = fits_standing start (taken_of i start past) (wrote_off_in i past) (gaps_of_letter lent letter) fits_here
 
   -- "After any sequence of calls from a fresh start, the gap list names exactly the missing numbers"
-  pub gaps_exactly : (cells : List ℕ) (highest runs : ℕ) (cells' : List ℕ) → ListedRuns lent letter cells (Listed.Runs highest runs) cells'
+  pub gaps_exactly : (cells : List ℕ) (highest runs : ℕ) (cells' : List ℕ) → ListedRuns lent letter cells (runs_told highest runs) cells'
       → NamesMissing i start past highest runs cells'
   gaps_exactly cells highest runs cells' p =
       let g : Gaps = gaps_of_letter lent letter in
@@ -105,20 +104,20 @@ module _ {starts : List ℕ} {lent : Lent} {past : List Event} (r : Reached star
     abbrev told : Option Refusal → List ℕ
     told o = answered o (list_values (gaps_of_letter lent letter))
 
-    pub runs_answered_lem : 2 * runs_standing i start past ≤ length cells → answer ≡ Listed.Runs (highest_in i start past) (runs_standing i start past)
+    pub runs_answered_lem : 2 * runs_standing i start past ≤ length cells → answer ≡ runs_told (highest_in i start past) (runs_standing i start past)
     unfolding list_rules
     runs_answered_lem h =
         let g : Gaps = gaps_of_letter lent letter in
         let room = le-leb (wanted g.runs) (length cells) (rw wanted_are h) in
         let holds = last_holds (segment_rules lent letter) (record { holds = leb (wanted g.runs) (length cells); refusal = Memory (wanted g.runs) }) segment_good room in
-        let values : 0 ∷ list_values g ≡ listed_numbers (Listed.Runs (highest_in i start past) (runs_standing i start past)) = ap₂ (λ (a b : ℕ). 0 ∷ a ∷ b ∷ []) fits_here.highest_is runs_are in
-        listed_told answer (Listed.Runs (highest_in i start past) (runs_standing i start past)) (p.answers ∙ ap told holds ∙ values)
+        let values : 0 ∷ list_values g ≡ listed_numbers (runs_told (highest_in i start past) (runs_standing i start past)) = ap₂ (λ (a b : ℕ). 0 ∷ a ∷ b ∷ []) fits_here.highest_is runs_are in
+        listed_told answer (runs_told (highest_in i start past) (runs_standing i start past)) (p.answers ∙ ap told holds ∙ values)
 
-    pub runs_refused : length cells < 2 * runs_standing i start past → answer ≡ Listed.Refused (Memory (2 * runs_standing i start past))
+    pub runs_refused : length cells < 2 * runs_standing i start past → answer ≡ Err (Memory (2 * runs_standing i start past))
     unfolding list_rules
     runs_refused h =
         let g : Gaps = gaps_of_letter lent letter in
         let short = lt-leb (wanted g.runs) (length cells) (rw wanted_are h) in
         let broken = last_broken (segment_rules lent letter) (record { holds = leb (wanted g.runs) (length cells); refusal = Memory (wanted g.runs) }) segment_good short in
-        listed_told answer (Listed.Refused (Memory (2 * runs_standing i start past)))
-        (p.answers ∙ ap told broken ∙ ap (λ (n : ℕ). listed_numbers (Listed.Refused (Memory n))) wanted_are)
+        listed_told answer (Err (Memory (2 * runs_standing i start past)))
+        (p.answers ∙ ap told broken ∙ ap (λ (n : ℕ). listed_numbers (Err (Memory n))) wanted_are)

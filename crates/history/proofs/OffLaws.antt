@@ -1,5 +1,5 @@
 -- What a write-off answers and does after every history, in the words of the past: 01 "Sequence and gaps".
-use Rattle.std.specs.Prelude.{ℕ, suc, ◌+◌, ◌≤◌, ◌≡◌, refl, true, false, ◌&&◌, ◌||◌, List, [], ◌∷◌, ◌↔◌, eqb, length}
+use Rattle.std.specs.Prelude.{ℕ, suc, ◌+◌, ◌≤◌, ◌≡◌, refl, true, false, ◌&&◌, ◌||◌, List, [], ◌∷◌, ◌↔◌, eqb, length, Err}
 use Rattle.std.proofs.Common.{sym, ap, subst, ◌∙◌, true≢false, arith, lt-ltb}
 use Rattle.std.proofs.Math.Logic.{⊎_elim}
 use Rattle.std.proofs.Math.Option.{Option, none, some}
@@ -17,8 +17,7 @@ use Rattle.sequence.specs.Runs.{Run, ◌to◌, names}
 use Rattle.sequence.specs.RunsLaws.{names_in, names_below, names_above}
 use Rattle.state.specs.declared.refusal.Refusal.{Refusal}
 use Rattle.state.specs.declared.refusal.Refusal.TheVariants.{NoGap}
-use Rattle.state.specs.declared.answers.WrittenOff.{WrittenOff}
-use Rattle.state.specs.Answers.{answered}
+use Rattle.state.specs.Answers.{answered, WrittenOff, run_told}
 use Rattle.state.specs.AnswersLaws.{written_off_told}
 use Rattle.state.specs.Memory.{Lent, gap_row_of}
 use Rattle.state.specs.Refusals.{Rule}
@@ -50,7 +49,7 @@ module _ {starts : List ℕ} {lent : Lent} {past : List Event} (r : Reached star
 
   -- ---- a run is removed
 
-  module _ (first last : ℕ) (lent' : Lent) (p : WroteOffRun lent letter (WrittenOff.Removed first last) lent') where
+  module _ (first last : ℕ) (lent' : Lent) (p : WroteOffRun lent letter (run_told first last) lent') where
     abbrev here : Gaps
     here = gaps_of (gap_row_of lent.rows i)
 
@@ -80,7 +79,7 @@ module _ {starts : List ℕ} {lent : Lent} {past : List Event} (r : Reached star
   some_gap = record { holds = ltb 0 (length runs); refusal = NoGap }
 
   -- 17 is all that a write-off of a listed segment can be refused with
-  pub only_none : (refusal : Refusal) (lent' : Lent) → WroteOffRun lent letter (WrittenOff.Refused refusal) lent' → refusal ≡ NoGap
+  pub only_none : (refusal : Refusal) (lent' : Lent) → WroteOffRun lent letter (Err refusal) lent' → refusal ≡ NoGap
   unfolding write_off_rules
   only_none refusal lent' p =
       let broken = (off_refusal_lem refusal p).0 in
@@ -90,14 +89,14 @@ module _ {starts : List ℕ} {lent : Lent} {past : List Event} (r : Reached star
 
   -- 17 exactly when no number is missing
   pub off_none : (answer : WrittenOff) (lent' : Lent) → WroteOffRun lent letter answer lent'
-      → answer ≡ WrittenOff.Refused NoGap ↔ ((n : ℕ) → missing_in i start past n ≡ false)
+      → answer ≡ Err NoGap ↔ ((n : ℕ) → missing_in i start past n ≡ false)
   unfolding write_off_rules write_off_answer
   off_none answer lent' p = (none_missing, none_there)
     where
       f : Fits start (taken_of i start past) (wrote_off_in i past) (gaps_of_letter lent letter)
       f = fits_here r letter i s
 
-      none_missing : answer ≡ WrittenOff.Refused NoGap → (n : ℕ) → missing_in i start past n ≡ false
+      none_missing : answer ≡ Err NoGap → (n : ℕ) → missing_in i start past n ≡ false
       none_missing e n =
           let broken : first_broken (write_off_rules lent letter) ≡ some NoGap = (off_refusal_lem NoGap (subst (λ (a : WrittenOff). WroteOffRun lent letter a lent') e p)).0 in
           ⊎_elim
@@ -105,15 +104,15 @@ module _ {starts : List ℕ} {lent : Lent} {past : List Event} (r : Reached star
           (λ (h : ltb 0 (length runs) ≡ false). sym (f.missing_is n) ∙ (no_gap_exactly f.sound).0 (no_runs runs h) n)
           (either (ltb 0 (length runs)))
 
-      none_there : ((n : ℕ) → missing_in i start past n ≡ false) → answer ≡ WrittenOff.Refused NoGap
+      none_there : ((n : ℕ) → missing_in i start past n ≡ false) → answer ≡ Err NoGap
       none_there h =
           let empty : ltb 0 (length runs) ≡ false = some_runs runs ((no_gap_exactly f.sound).1 (λ n. f.missing_is n ∙ h n)) in
           let broken : first_broken (write_off_rules lent letter) ≡ some NoGap = last_broken (segment_rules lent letter) some_gap (segment_good r letter i s) empty in
-          written_off_told answer (WrittenOff.Refused NoGap)
+          written_off_told answer (Err NoGap)
           (p.answers ∙ ap (λ (o : Option Refusal). answered o (run_values (lowest_run (gaps_of_letter lent letter)))) broken)
 
   -- ---- what is written off afterwards
 
   pub off_after : (first last j n : ℕ)
-      → wrote_off_in j (after_write_off lent.lists letter (WrittenOff.Removed first last) past) n ≡ eqb i j && names (first to last) n || wrote_off_in j past n
+      → wrote_off_in j (after_write_off lent.lists letter (run_told first last) past) n ≡ eqb i j && names (first to last) n || wrote_off_in j past n
   off_after first last j n = ap (λ (o : Option ℕ). wrote_off_in j (off_in o (first to last) past) n) s

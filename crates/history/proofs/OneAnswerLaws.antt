@@ -21,13 +21,12 @@ use Rattle.pairs.specs.ItemsLaws.{sound_headers, segments_of_lem, sound_of}
 use Rattle.message.specs.Message.{place_in}
 use Rattle.quote.specs.Quote.{values_of}
 use Rattle.spread.specs.Spread.{spread_values_of}
+use Rattle.state.specs.Answers.{Listed, WrittenOff, run_told, runs_told}
 use Rattle.state.specs.declared.answers.Recorded.{Recorded}
 use Rattle.message.specs.Good.{KeyListed}
 use Rattle.head.specs.GoodHead.{LetterListed}
 use Rattle.state.specs.declared.refusal.Refusal.TheVariants.{Memory}
 use Rattle.state.specs.declared.refusal.Refusal.{Refusal}
-use Rattle.state.specs.declared.answers.Listed.{Listed}
-use Rattle.state.specs.declared.answers.WrittenOff.{WrittenOff}
 use Rattle.slots.specs.Slots.{Slot, slot as record_slot}
 use Rattle.writer.specs.WriterPromisesLaws.{one_written}
 use Rattle.starting.specs.StartPromisesLaws.{one_no_spreads}
@@ -116,7 +115,7 @@ module _ (m : Machine) (letter : ℕ) where
   one_listing (machine.ListsGaps.no_letter u) (machine.ListsGaps.all_runs j t top runs c g n k) = absurd (u (listed_there t))
   one_listing (machine.ListsGaps.too_few i s h) (machine.ListsGaps.no_letter v) = absurd (v (listed_there s))
   one_listing (machine.ListsGaps.too_few i s h) (machine.ListsGaps.too_few j t g) =
-      (ap (λ (n : ℕ). Listed.Refused (Memory (2 * standing m n))) (one_segment s t), refl)
+      (ap (λ (n : ℕ). Err (Memory (2 * standing m n))) (one_segment s t), refl)
   one_listing (machine.ListsGaps.too_few i s h) (machine.ListsGaps.all_runs j t top runs c g n k) =
       let same = ap (standing m) (one_segment s t) in absurd (omega (arith, counted_runs n))
   one_listing (machine.ListsGaps.all_runs i s top runs c h n k) (machine.ListsGaps.no_letter v) = absurd (v (listed_there s))
@@ -126,7 +125,7 @@ module _ (m : Machine) (letter : ℕ) where
       let here = subst (λ (x : ℕ). NamesExactly (m.start x) (highest m x) (is_missing m x) top' runs' c') (sym (one_segment s t)) o in
       let one = one_naming n here in
       let behind : drop (2 * runs) c ≡ drop (2 * runs') c' = k ∙ ap (λ (r : ℕ). drop (2 * r) cells) one.1 ∙ sym l in
-      (ap₂ Listed.Runs one.0 one.1, sym (take-append-drop (2 * runs) c) ∙ ap₂ ◌++◌ one.2 behind ∙ take-append-drop (2 * runs') c')
+      (ap₂ runs_told one.0 one.1, sym (take-append-drop (2 * runs) c) ∙ ap₂ ◌++◌ one.2 behind ∙ take-append-drop (2 * runs') c')
 
   one_off : {a b : WrittenOff} {m' m'' : Machine} → WritesOff m letter a m' → WritesOff m letter b m'' → (a ≡ b) × (m' ≡ m'')
   one_off (machine.WritesOff.no_letter u) (machine.WritesOff.no_letter v) = (refl, refl)
@@ -145,7 +144,7 @@ module _ (m : Machine) (letter : ℕ) where
       let firsts = one.0 in
       let lasts = one.1 in
       let same = one_segment s t in
-      (ap₂ WrittenOff.Removed firsts lasts, (λ k. written_off (same k) (firsts k to lasts k) m))
+      (ap₂ run_told firsts lasts, (λ k. written_off (same k) (firsts k to lasts k) m))
 
   -- of sound lists a key has one place
   key_there : SoundLists m.lists → {key : List ℕ} (item : Item) (i place : ℕ) → (i < segments_of m.lists.contracts) × (place < count_at (file_of item m.lists) i)

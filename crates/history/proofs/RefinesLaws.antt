@@ -1,5 +1,5 @@
 -- The calls refine the machine: after every history each call answers what the machine may answer, and leaves what it leaves.
-use Rattle.std.specs.Prelude.{ℕ, ◌*◌, ◌≤◌, ◌<◌, ◌≡◌, refl, List, [], Ok}
+use Rattle.std.specs.Prelude.{ℕ, ◌*◌, ◌≤◌, ◌<◌, ◌≡◌, refl, List, [], Ok, Err}
 use Rattle.std.proofs.Common.{sym, ◌∙◌}
 use Rattle.std.proofs.Math.Path.{ap, subst}
 use Rattle.std.proofs.Math.Logic.{⊎_elim}
@@ -27,10 +27,8 @@ use Rattle.message.specs.MessageLaws.{key_in}
 use Rattle.state.specs.declared.refusal.Refusal.{Refusal}
 use Rattle.state.specs.declared.refusal.Refusal.TheVariants.{Code, Contract, Memory, NoGap}
 use Rattle.state.specs.declared.answers.Judged.{Judged}
-use Rattle.state.specs.declared.answers.Listed.{Listed}
-use Rattle.state.specs.declared.answers.WrittenOff.{WrittenOff}
 use Rattle.state.specs.declared.answers.Recorded.{Recorded}
-use Rattle.state.specs.Answers.{answered}
+use Rattle.state.specs.Answers.{answered, Listed, WrittenOff, run_told}
 use Rattle.state.specs.AnswersLaws.{listed_told, written_off_told, recorded_told}
 use Rattle.state.specs.Memory.{Lent}
 use Rattle.slots.specs.Slots.{slot}
@@ -89,16 +87,16 @@ module _ {starts : List ℕ} {lent : Lent} {past : List Event} (r : Reached star
 
   module _ (letter : ℕ) (cells : List ℕ) (answer : Listed) (cells' : List ℕ) (p : ListedRuns lent letter cells answer cells') where
     -- a refusal leaves the cells
-    list_refused : (q : Refusal) → answer ≡ Listed.Refused q → ListsGaps now letter cells (Listed.Refused q) cells → ListsGaps now letter cells answer cells'
+    list_refused : (q : Refusal) → answer ≡ Err q → ListsGaps now letter cells (Err q) cells → ListsGaps now letter cells answer cells'
     list_refused q e l =
         let kept : cells' ≡ cells = (list_refusal_lem q (subst (λ (a : Listed). ListedRuns lent letter cells a cells') e p)).1 in
-        subst (λ (a : Listed). ListsGaps now letter cells a cells') (sym e) (subst (ListsGaps now letter cells (Listed.Refused q)) (sym kept) l)
+        subst (λ (a : Listed). ListsGaps now letter cells a cells') (sym e) (subst (ListsGaps now letter cells (Err q)) (sym kept) l)
 
     lists_as : (o : Option ℕ) → segment_of lists.contracts letter ≡ o → ListsGaps now letter cells answer cells'
     unfolding list_rules
     lists_as none u =
         let broken : first_broken (list_rules lent letter (length cells)) ≡ some (Code 0) = front_broken (segment_rules lent letter) _ (Code 0) (refused_code letter u) in
-        let e = listed_told answer (Listed.Refused (Code 0)) (p.answers ∙ ap (λ (o : Option Refusal). answered o (list_values (gaps_of_letter lent letter))) broken) in
+        let e = listed_told answer (Err (Code 0)) (p.answers ∙ ap (λ (o : Option Refusal). answered o (list_values (gaps_of_letter lent letter))) broken) in
         list_refused (Code 0) e (machine.ListsGaps.no_letter (unlisted letter u))
     lists_as (some i) s =
         ⊎_elim (λ (h : 2 * runs_standing i (start_of starts i) past ≤ length cells).
@@ -117,19 +115,19 @@ module _ {starts : List ℕ} {lent : Lent} {past : List Event} (r : Reached star
     then answer = machine_of lists starts (after_write_off lists letter answer past)
 
     off_listed : (i : ℕ) → segment_of lists.contracts letter ≡ some i → (answer : WrittenOff) → WroteOffRun lent letter answer lent' → WritesOff now letter answer (then answer)
-    off_listed i s (WrittenOff.Removed first last) p =
-        subst (λ (o : Option ℕ). WritesOff now letter (WrittenOff.Removed first last) (machine_of lists starts (off_in o (first to last) past))) (sym s)
-        (machine.WritesOff.the_lowest i s first last (off_lowest r letter i s first last lent' p))
-    off_listed i s (WrittenOff.Refused q) p =
+    off_listed i s (Ok run) p =
+        subst (λ (o : Option ℕ). WritesOff now letter (run_told run.first run.last) (machine_of lists starts (off_in o (run.first to run.last) past))) (sym s)
+        (machine.WritesOff.the_lowest i s run.first run.last (off_lowest r letter i s run.first run.last lent' p))
+    off_listed i s (Err q) p =
         let is = only_none r letter i s q lent' p in
-        let refused : WrittenOff.Refused q ≡ WrittenOff.Refused NoGap = ap WrittenOff.Refused is in
-        subst (λ (a : Refusal). WritesOff now letter (WrittenOff.Refused a) now) (sym is) (machine.WritesOff.no_gap i s ((off_none r letter i s (WrittenOff.Refused q) lent' p).0 refused))
+        let refused : Err q ≡ Err NoGap = ap Err is in
+        subst (λ (a : Refusal). WritesOff now letter (Err a) now) (sym is) (machine.WritesOff.no_gap i s ((off_none r letter i s (Err q) lent' p).0 refused))
 
     off_as : (answer : WrittenOff) → WroteOffRun lent letter answer lent' → (o : Option ℕ) → segment_of lists.contracts letter ≡ o → WritesOff now letter answer (then answer)
     unfolding write_off_rules
     off_as answer p none u =
         let broken : first_broken (write_off_rules lent letter) ≡ some (Code 0) = front_broken (segment_rules lent letter) _ (Code 0) (refused_code letter u) in
-        let e = written_off_told answer (WrittenOff.Refused (Code 0)) (p.answers ∙ ap (λ (o : Option Refusal). answered o (run_values (lowest_run (gaps_of_letter lent letter)))) broken) in
+        let e = written_off_told answer (Err (Code 0)) (p.answers ∙ ap (λ (o : Option Refusal). answered o (run_values (lowest_run (gaps_of_letter lent letter)))) broken) in
         subst (λ (a : WrittenOff). WritesOff now letter a (then a)) (sym e) (machine.WritesOff.no_letter (unlisted letter u))
     off_as answer p (some i) s = off_listed i s answer p
 

@@ -1,5 +1,5 @@
 -- After every history a record shows what a message of an accepted batch says.
-use Rattle.std.specs.Prelude.{ℕ, zero, suc, ◌≡◌, refl, Bool, true, false, cond, ◌⊎◌, eqb, drop, Result}
+use Rattle.std.specs.Prelude.{ℕ, zero, suc, ◌≡◌, refl, Bool, true, false, cond, ◌⊎◌, eqb, drop, Result, Ok, Err}
 use Rattle.std.proofs.Common.{sym, ap, subst, ◌∙◌, true≢false, inl, inr, ⊎_elim}
 use mathlib.Core.List.Memᴰ
 use mathlib.Core.List.{List, [], ◌∷◌, Memᴰ}
@@ -28,10 +28,8 @@ use Rattle.message.specs.MessageLaws.{key_found}
 use Rattle.state.specs.declared.refusal.Refusal.{Refusal}
 use Rattle.state.specs.declared.answers.Judged.{Judged}
 use Rattle.state.specs.declared.answers.Judged.TheVariants as judged
-use Rattle.state.specs.declared.answers.WrittenOff.{WrittenOff}
-use Rattle.state.specs.declared.answers.WrittenOff.TheVariants as answer
 use Rattle.state.specs.declared.answers.Recorded.{Recorded}
-use Rattle.state.specs.Answers.{recorded_numbers, left_by}
+use Rattle.state.specs.Answers.{recorded_numbers, left_by, WrittenOff}
 use Rattle.state.specs.AnswersLaws.{accepted_by}
 use Rattle.state.specs.Memory.{Lent}
 use Rattle.slots.specs.Slots.{Slot, slot as record_slot}
@@ -118,8 +116,8 @@ module _ (lists : Lists) where
 
   write_off_sourced : (letter : ℕ) (batches : List (List ℕ)) (past : List Event) → Sourced lists batches past
       → (a : WrittenOff) → Sourced lists batches (after_write_off lists letter a past)
-  write_off_sourced letter batches past h (answer.Removed first last) = off_sourced batches past h (segment_of lists.contracts letter) _
-  write_off_sourced letter batches past h (answer.Refused refusal) = h
+  write_off_sourced letter batches past h (Ok run) = off_sourced batches past h (segment_of lists.contracts letter) _
+  write_off_sourced letter batches past h (Err refusal) = h
 
 -- ---- every history
 

@@ -8,11 +8,10 @@ use Rattle.sequence.specs.Runs.{◌to◌, names}
 use Rattle.forms.specs.declared.forms.Form.{Form}
 use Rattle.forms.specs.declared.forms.Item.{Item}
 use Rattle.forms.specs.declared.rows.Level.{Level}
+use Rattle.state.specs.Answers.{Listed, WrittenOff, run_told, runs_told}
 use Rattle.state.specs.declared.refusal.Refusal.{Refusal}
 use Rattle.state.specs.declared.refusal.Refusal.TheVariants.{Gaps, NoGap, Memory}
 use Rattle.state.specs.declared.answers.Judged.{Judged}
-use Rattle.state.specs.declared.answers.Listed.{Listed}
-use Rattle.state.specs.declared.answers.WrittenOff.{WrittenOff}
 use Rattle.state.specs.declared.answers.Recorded.{Recorded}
 use Rattle.writer.specs.declared.writing.Code.{Code}
 use Rattle.turns.specs.Compared.{compared_of, reached_in}
@@ -36,23 +35,23 @@ use Rattle.history.specs.Refines.{machine_of}
 pub record AfterCalls (starts : List ℕ) (lent : Lent) (past : List Event) : Type 0 where
   -- "the gap list names exactly the missing numbers"
   pub names_missing : (letter i : ℕ) → segment_of lent.lists.contracts letter ≡ some i → (cells : List ℕ) (highest runs : ℕ) (cells' : List ℕ)
-      → ListedRuns lent letter cells (Listed.Runs highest runs) cells' → NamesMissing i (start_of starts i) past highest runs cells'
+      → ListedRuns lent letter cells (runs_told highest runs) cells' → NamesMissing i (start_of starts i) past highest runs cells'
   -- it is answered where two cells are lent for each run that the missing numbers make, and else refused 15
   pub list_answered : (letter i : ℕ) → segment_of lent.lists.contracts letter ≡ some i → (cells : List ℕ) (answer : Listed) (cells' : List ℕ)
       → ListedRuns lent letter cells answer cells' → 2 * runs_standing i (start_of starts i) past ≤ length cells
-      → answer ≡ Listed.Runs (highest_in i (start_of starts i) past) (runs_standing i (start_of starts i) past)
+      → answer ≡ runs_told (highest_in i (start_of starts i) past) (runs_standing i (start_of starts i) past)
   pub list_refused : (letter i : ℕ) → segment_of lent.lists.contracts letter ≡ some i → (cells : List ℕ) (answer : Listed) (cells' : List ℕ)
       → ListedRuns lent letter cells answer cells' → length cells < 2 * runs_standing i (start_of starts i) past
-      → answer ≡ Listed.Refused (Memory (2 * runs_standing i (start_of starts i) past))
+      → answer ≡ Err (Memory (2 * runs_standing i (start_of starts i) past))
   -- "A write-off removes the lowest run": it answers the lowest run of the missing numbers
   pub off_lowest : (letter i : ℕ) → segment_of lent.lists.contracts letter ≡ some i → (first last : ℕ) (lent' : Lent)
-      → WroteOffRun lent letter (WrittenOff.Removed first last) lent' → LowestRun (missing_in i (start_of starts i) past) first last
+      → WroteOffRun lent letter (run_told first last) lent' → LowestRun (missing_in i (start_of starts i) past) first last
   -- 17 exactly when none is missing
   pub off_none : (letter i : ℕ) → segment_of lent.lists.contracts letter ≡ some i → (answer : WrittenOff) (lent' : Lent) → WroteOffRun lent letter answer lent'
-      → answer ≡ WrittenOff.Refused NoGap ↔ ((n : ℕ) → missing_in i (start_of starts i) past n ≡ false)
+      → answer ≡ Err NoGap ↔ ((n : ℕ) → missing_in i (start_of starts i) past n ≡ false)
   -- afterwards exactly its numbers are written off, beside those that were
   pub off_after : (letter i : ℕ) → segment_of lent.lists.contracts letter ≡ some i → (first last j n : ℕ)
-      → wrote_off_in j (after_write_off lent.lists letter (WrittenOff.Removed first last) past) n ≡ eqb i j && names (first to last) n || wrote_off_in j past n
+      → wrote_off_in j (after_write_off lent.lists letter (run_told first last) past) n ≡ eqb i j && names (first to last) n || wrote_off_in j past n
   -- "and each record is its contract's highest-numbered update taken"
   pub reads_newest : (slot : Slot) → SlotListed lent.lists slot → (answer : Recorded) (quote : QuoteFor (item_in slot))
       → ReadsItem (item_in slot) lent (letter_in lent.lists slot) (key_in lent.lists slot) (level_in slot) answer quote
@@ -98,8 +97,8 @@ pub record RefusalsKeep (lent : Lent) : Type 0 where
   pub start_keeps : (starts : List ℕ) (refusal : Refusal) (lent' : Lent) → StartedBox lent starts (Err refusal) lent' → lent' ≡ lent
   pub take_keeps : (batch : List ℕ) (refusal : Refusal) (compared : ℕ) (lent' : Lent) → TookBatch lent batch (Judged.Refused refusal compared) lent' → lent' ≡ lent
   pub list_keeps : (letter : ℕ) (cells : List ℕ) (refusal : Refusal) (cells' : List ℕ)
-      → ListedRuns lent letter cells (Listed.Refused refusal) cells' → cells' ≡ cells
-  pub write_off_keeps : (letter : ℕ) (refusal : Refusal) (lent' : Lent) → WroteOffRun lent letter (WrittenOff.Refused refusal) lent' → lent' ≡ lent
+      → ListedRuns lent letter cells (Err refusal) cells' → cells' ≡ cells
+  pub write_off_keeps : (letter : ℕ) (refusal : Refusal) (lent' : Lent) → WroteOffRun lent letter (Err refusal) lent' → lent' ≡ lent
   pub write_keeps : (item : Item) (code : Code) (level : Level) (number : ℕ) (key : List ℕ) (cells : Form → List ℕ) (out : List ℕ) (refusal : Refusal) (out' : List ℕ)
       → WroteValues item code level number key cells out (Err refusal) out' → out' ≡ out
   pub no_spreads_keeps : (list out : List ℕ) (refusal : Refusal) (out' : List ℕ) → PutNoSpreads list out (Err refusal) out' → out' ≡ out
@@ -110,4 +109,4 @@ pub record AcceptedLeave (lent : Lent) : Type 0 where
   pub start_leaves : (starts : List ℕ) (lent' : Lent) → StartedBox lent starts (Ok tt) lent' → GoodState lent'
   pub take_leaves : (batch : List ℕ) (taken old heartbeats compared : ℕ) (lent' : Lent)
       → TookBatch lent batch (Judged.Accepted taken old heartbeats compared) lent' → GoodState lent'
-  pub write_off_leaves : (letter first last : ℕ) (lent' : Lent) → WroteOffRun lent letter (WrittenOff.Removed first last) lent' → GoodState lent'
+  pub write_off_leaves : (letter first last : ℕ) (lent' : Lent) → WroteOffRun lent letter (run_told first last) lent' → GoodState lent'

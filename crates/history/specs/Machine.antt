@@ -24,11 +24,10 @@ use Rattle.message.specs.Message.{Message}
 use Rattle.message.specs.Reads.{message_of}
 use Rattle.message.specs.Numbers.{number_in}
 use Rattle.message.specs.Order.{message_rules}
+use Rattle.state.specs.Answers.{Listed, WrittenOff, run_told, runs_told}
 use Rattle.state.specs.declared.refusal.Refusal.{Refusal}
 use Rattle.state.specs.declared.refusal.Refusal.TheVariants as refusal
 use Rattle.state.specs.declared.answers.Judged.{Judged}
-use Rattle.state.specs.declared.answers.Listed.{Listed}
-use Rattle.state.specs.declared.answers.WrittenOff.{WrittenOff}
 use Rattle.state.specs.declared.answers.Recorded.{Recorded}
 use Rattle.state.specs.Refusals.{of_fault}
 use Rattle.slots.specs.Slots.{Slot, SlotListed}
@@ -277,19 +276,19 @@ took_batch m batch (Judged.Refused r compared) = m
 
 -- 01 "What may be asked": "List gaps answers highest and the number of runs, and puts the runs in lent cells"; 6, then 15
 pub data ListsGaps (m : Machine) (letter : ℕ) (cells : List ℕ) : Listed → List ℕ → Type 0 where
-  no_letter : (LetterListed m.lists.contracts letter → ⊥) → ListsGaps m letter cells (Listed.Refused (refusal.Code 0)) cells
+  no_letter : (LetterListed m.lists.contracts letter → ⊥) → ListsGaps m letter cells (Err (refusal.Code 0)) cells
   too_few : (i : ℕ) → segment_of m.lists.contracts letter ≡ some i → length cells < 2 * standing m i
-      → ListsGaps m letter cells (Listed.Refused (refusal.Memory (2 * standing m i))) cells
+      → ListsGaps m letter cells (Err (refusal.Memory (2 * standing m i))) cells
   all_runs : (i : ℕ) → segment_of m.lists.contracts letter ≡ some i → (top runs : ℕ) (cells' : List ℕ) → 2 * runs ≤ length cells
       → NamesExactly (m.start i) (highest m i) (is_missing m i) top runs cells' → drop (2 * runs) cells' ≡ drop (2 * runs) cells
-      → ListsGaps m letter cells (Listed.Runs top runs) cells'
+      → ListsGaps m letter cells (runs_told top runs) cells'
 
 -- 01 "What may be asked": "a write-off answers the run it removed", the lowest; 6, then 17
 pub data WritesOff (m : Machine) (letter : ℕ) : WrittenOff → Machine → Type 0 where
-  no_letter : (LetterListed m.lists.contracts letter → ⊥) → WritesOff m letter (WrittenOff.Refused (refusal.Code 0)) m
-  no_gap : (i : ℕ) → segment_of m.lists.contracts letter ≡ some i → ((n : ℕ) → is_missing m i n ≡ false) → WritesOff m letter (WrittenOff.Refused refusal.NoGap) m
+  no_letter : (LetterListed m.lists.contracts letter → ⊥) → WritesOff m letter (Err (refusal.Code 0)) m
+  no_gap : (i : ℕ) → segment_of m.lists.contracts letter ≡ some i → ((n : ℕ) → is_missing m i n ≡ false) → WritesOff m letter (Err refusal.NoGap) m
   the_lowest : (i : ℕ) → segment_of m.lists.contracts letter ≡ some i → (first last : ℕ) → LowestRun (is_missing m i) first last
-      → WritesOff m letter (WrittenOff.Removed first last) (written_off i (first to last) m)
+      → WritesOff m letter (run_told first last) (written_off i (first to last) m)
 
 -- 01 "What may be asked", M-100: the slot that is asked for, a contract's or a pair's, by a letter, a key and a level
 pub record AsksFor (lists : Lists) (item : Item) (letter : ℕ) (key : List ℕ) (level : Level) (slot : Slot) : Type 0 where

@@ -1,6 +1,6 @@
 -- What has come in a history, told by the calls' inputs and answers alone, and what by it was taken, written off and is
 -- missing: 01 "Sequence and gaps".
-use Rattle.std.specs.Prelude.{ℕ, zero, suc, ◌+◌, Bool, false, not, cond, ◌&&◌, ◌||◌, List, [], ◌∷◌, eqb, drop}
+use Rattle.std.specs.Prelude.{ℕ, zero, suc, ◌+◌, Bool, false, not, cond, ◌&&◌, ◌||◌, List, [], ◌∷◌, eqb, drop, Ok, Err}
 use Rattle.std.proofs.Math.Option.{Option, none, some}
 use Rattle.lookup.specs.Lookup.{segment_of}
 use Rattle.pairs.specs.Lists.{Lists}
@@ -8,10 +8,9 @@ use Rattle.sequence.specs.Runs.{Run, ◌to◌, names}
 use Rattle.head.specs.Fields.{length_of}
 use Rattle.message.specs.Message.{Message}
 use Rattle.message.specs.Reads.{message_of}
+use Rattle.state.specs.Answers.{WrittenOff}
 use Rattle.state.specs.declared.answers.Judged.{Judged}
 use Rattle.state.specs.declared.answers.Judged.TheVariants as judged
-use Rattle.state.specs.declared.answers.WrittenOff.{WrittenOff}
-use Rattle.state.specs.declared.answers.WrittenOff.TheVariants as answer
 use Rattle.batch.specs.Batch.{batch_letter, count_of, batch_data}
 use Rattle.slots.specs.Slots.{Slot}
 use Rattle.starting.specs.Start.{start_of}
@@ -58,8 +57,8 @@ off_in (some i) run past = off i run ∷ past
 
 -- 01 "What may be asked": a write-off adds the run it removed; a refused one nothing
 abbrev pub after_write_off : Lists → ℕ → WrittenOff → List Event → List Event
-after_write_off lists letter (answer.Removed first last) past = off_in (segment_of lists.contracts letter) (first to last) past
-after_write_off lists letter (answer.Refused refusal) past = past
+after_write_off lists letter (Ok run) past = off_in (segment_of lists.contracts letter) (run.first to run.last) past
+after_write_off lists letter (Err refusal) past = past
 
 -- ---- what was written off, and what was taken
 

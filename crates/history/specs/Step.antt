@@ -17,10 +17,8 @@ use Rattle.sequence.specs.Gaps.{Gaps}
 use Rattle.sequence.specs.Runs.{Run}
 use Rattle.state.specs.declared.refusal.Refusal.{Refusal}
 use Rattle.state.specs.declared.answers.Judged.{Judged}
-use Rattle.state.specs.declared.answers.Listed.{Listed}
-use Rattle.state.specs.declared.answers.WrittenOff.{WrittenOff}
 use Rattle.state.specs.declared.answers.Recorded.{Recorded}
-use Rattle.state.specs.Answers.{started_numbers, judged_numbers, listed_numbers, written_off_numbers, recorded_numbers, written_numbers, left_by}
+use Rattle.state.specs.Answers.{started_numbers, judged_numbers, listed_numbers, written_off_numbers, recorded_numbers, written_numbers, left_by, Listed, WrittenOff, run_told, runs_told}
 use Rattle.state.specs.Memory.{Lent}
 use Rattle.batch.specs.Batch.{batch_letter}
 use Rattle.batch.specs.Acts.{batch_acts, batch_compared, answer_of, lent_after}
@@ -61,8 +59,8 @@ list_refusal lent letter cells = first_broken (list_rules lent letter (length ce
 
 -- 01 "What may be asked": "List gaps answers highest and the number of runs"
 abbrev pub list_answer : Option Refusal → Gaps → Listed
-list_answer (some refusal) gaps = Listed.Refused refusal
-list_answer none gaps = Listed.Runs gaps.highest (length gaps.runs)
+list_answer (some refusal) gaps = Err refusal
+list_answer none gaps = runs_told gaps.highest (length gaps.runs)
 
 -- 01, the order of checks: the first broken rule of a write-off
 abbrev pub off_refusal : Lent → ℕ → Option Refusal
@@ -70,8 +68,8 @@ off_refusal lent letter = first_broken (write_off_rules lent letter)
 
 -- 01 "What may be asked": the run that was removed, or the refusal
 abbrev pub removed : Option Refusal → Run → WrittenOff
-removed (some refusal) run = WrittenOff.Refused refusal
-removed none run = WrittenOff.Removed run.first run.last
+removed (some refusal) run = Err refusal
+removed none run = run_told run.first run.last
 
 -- 01 "What may be asked": a write-off answers the run it removed, which is the lowest
 abbrev pub off_answer : Lent → ℕ → WrittenOff

@@ -8,11 +8,9 @@ use Rattle.quote.specs.Quote.{quote_of, values_of}
 use Rattle.spread.specs.Spread.{spread_quote_of, spread_values_of}
 use Rattle.state.specs.declared.refusal.Refusal.{Refusal}
 use Rattle.state.specs.declared.answers.Judged.{Judged}
-use Rattle.state.specs.declared.answers.Listed.{Listed}
-use Rattle.state.specs.declared.answers.WrittenOff.{WrittenOff}
 use Rattle.state.specs.declared.answers.Recorded.{Recorded}
 use Rattle.writer.specs.declared.writing.Code.{Code}
-use Rattle.state.specs.Answers.{started_numbers, judged_numbers, listed_numbers, written_off_numbers, written_numbers}
+use Rattle.state.specs.Answers.{started_numbers, judged_numbers, listed_numbers, written_off_numbers, written_numbers, Listed, WrittenOff}
 use Rattle.state.specs.Memory.{Lent}
 use Rattle.batch.specs.Promises.{JudgedBatch, TookBatch}
 use Rattle.reading.specs.Record.{blank, blank_spread}

@@ -10,9 +10,8 @@ use Rattle.sequence.specs.Gaps.{Gaps}
 use Rattle.state.specs.declared.refusal.Refusal.{Refusal}
 use Rattle.state.specs.declared.refusal.Refusal.TheVariants.{NoGap}
 use Rattle.state.specs.declared.answers.Judged.{Judged}
-use Rattle.state.specs.declared.answers.WrittenOff.{WrittenOff}
 use Rattle.state.specs.declared.answers.Recorded.{Recorded}
-use Rattle.state.specs.Answers.{judged_numbers, listed_numbers, written_off_numbers, answered}
+use Rattle.state.specs.Answers.{judged_numbers, listed_numbers, written_off_numbers, answered, WrittenOff}
 use Rattle.state.specs.AnswersLaws.{judged_told, written_off_told}
 use Rattle.state.specs.Memory.{Lent, lends}
 use Rattle.state.specs.State.{segment_rules}

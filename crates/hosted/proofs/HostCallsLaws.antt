@@ -6,7 +6,7 @@ use Rattle.pairs.specs.NoSpreads as none
 use Rattle.forms.specs.declared.forms.Item.{Item}
 use Rattle.forms.specs.declared.forms.Item.TheVariants.{Contract, Pair}
 use Rattle.forms.specs.declared.rows.Level.{Level}
-use Rattle.state.specs.declared.answers.Listed.{Listed}
+use Rattle.state.specs.Answers.{Listed}
 use Rattle.state.specs.declared.refusal.Refusal.{Refusal}
 use Rattle.state.specs.Memory.{Lent}
 use Rattle.listing.specs.ListRules.{gaps_of_letter}

@@ -10,10 +10,8 @@ use Rattle.forms.specs.declared.rows.Level.{Level}
 use Rattle.state.specs.declared.refusal.Refusal.{Refusal}
 use Rattle.state.specs.declared.refusal.Refusal.TheVariants.{Gaps, Memory, NoGap}
 use Rattle.state.specs.declared.answers.Judged.{Judged}
-use Rattle.state.specs.declared.answers.Listed.{Listed}
-use Rattle.state.specs.declared.answers.WrittenOff.{WrittenOff}
 use Rattle.state.specs.declared.answers.Recorded.{Recorded}
-use Rattle.state.specs.Answers.{started_numbers, judged_numbers, listed_numbers, written_off_numbers, answered, left_by}
+use Rattle.state.specs.Answers.{started_numbers, judged_numbers, listed_numbers, written_off_numbers, answered, left_by, WrittenOff, runs_told}
 use Rattle.state.specs.GoodState.{GoodState}
 use Rattle.state.specs.Memory.{Lent}
 use Rattle.state.specs.Refusals.{refusal_numbers}
@@ -77,9 +75,9 @@ module _ {starts : List ℕ} {lent : Lent} {past : List Event} (reached : HostRe
     lists : (cells : List ℕ) (returned : ℕ) (cells' answer' : List ℕ) → HostListed lent letter cells returned cells' answer'
         → 2 * runs ≤ length cells → ListsMissing i (start_of starts i) past cells returned cells' answer'
     lists cells returned cells' answer' p room =
-        let e : p.listed ≡ Listed.Runs highest runs = after.list_answered letter i s cells p.listed cells' p.promised room in
-        let said : ListedRuns lent letter cells (Listed.Runs highest runs) cells' = rw e at p.promised in
-        let told : Tells (listed_numbers (Listed.Runs highest runs)) returned answer' = rw e at p.tells in
+        let e : p.listed ≡ runs_told highest runs = after.list_answered letter i s cells p.listed cells' p.promised room in
+        let said : ListedRuns lent letter cells (runs_told highest runs) cells' = rw e at p.promised in
+        let told : Tells (listed_numbers (runs_told highest runs)) returned answer' = rw e at p.tells in
         record {
           gives = record { returns = told.number; answers = told.values };
           names = after.names_missing letter i s cells highest runs cells' said;
@@ -89,9 +87,9 @@ module _ {starts : List ℕ} {lent : Lent} {past : List Event} (reached : HostRe
     lists_short : (cells : List ℕ) (returned : ℕ) (cells' answer' : List ℕ) → HostListed lent letter cells returned cells' answer'
         → length cells < 2 * runs → Gives returned answer' 15 0 0 (2 * runs) × (cells' ≡ cells)
     lists_short cells returned cells' answer' p short =
-        let e : p.listed ≡ Listed.Refused (Memory (2 * runs)) = after.list_refused letter i s cells p.listed cells' p.promised short in
-        let said : ListedRuns lent letter cells (Listed.Refused (Memory (2 * runs))) cells' = rw e at p.promised in
-        let told : Tells (listed_numbers (Listed.Refused (Memory (2 * runs)))) returned answer' = rw e at p.tells in
+        let e : p.listed ≡ Err (Memory (2 * runs)) = after.list_refused letter i s cells p.listed cells' p.promised short in
+        let said : ListedRuns lent letter cells (Err (Memory (2 * runs))) cells' = rw e at p.promised in
+        let told : Tells (listed_numbers (Err (Memory (2 * runs)))) returned answer' = rw e at p.tells in
         (record { returns = told.number; answers = told.values }, (refusals_keep lent).list_keeps letter cells (Memory (2 * runs)) cells' said)
 
     writes_off : (returned : ℕ) (lent' : Lent) (answer' : List ℕ) → HostWroteOff lent letter returned lent' answer'
@@ -100,12 +98,12 @@ module _ {starts : List ℕ} {lent : Lent} {past : List Event} (reached : HostRe
       where
         go : (a : WrittenOff) → WroteOffRun lent letter a lent' → Tells (written_off_numbers a) returned answer'
             → TellsLowest (missing_in i (start_of starts i) past) lent returned lent' answer'
-        go (WrittenOff.Removed first last) w t = a_run first last (after.off_lowest letter i s first last lent' w) (record { returns = t.number; answers = t.values })
-        go (WrittenOff.Refused refusal) w t =
+        go (Ok run) w t = a_run run.first run.last (after.off_lowest letter i s run.first run.last lent' w) (record { returns = t.number; answers = t.values })
+        go (Err refusal) w t =
             let refused = off_refusal_lem refusal w in
             let e : refusal ≡ NoGap = only_none r letter i s refusal lent' w in
             let told : Tells (refusal_numbers NoGap) returned answer' = rw e at t in
-            no_run ((after.off_none letter i s (WrittenOff.Refused refusal) lent' w).0 (ap WrittenOff.Refused e)) (record { returns = told.number; answers = told.values }) refused.1
+            no_run ((after.off_none letter i s (Err refusal) lent' w).0 (ap Err e)) (record { returns = told.number; answers = told.values }) refused.1
 
   reads : (slot : Slot) → SlotListed lent.lists slot → (values : List ℕ) → length values ≡ most → (returned : ℕ) (values' answer' : List ℕ)
       → HostReadItem (item_in slot) lent (letter_in lent.lists slot) (key_in lent.lists slot) (level_in slot) values returned values' answer'
@@ -235,5 +233,5 @@ host_accepted_leave lent =
     took batch lent' (Judged.Refused refusal compared) p t = absurd (batch_refused refusal compared t refl)
 
     wrote_off_lem : (letter : ℕ) (lent' : Lent) {answer' : List ℕ} (a : WrittenOff) → WroteOffRun lent letter a lent' → Tells (written_off_numbers a) 0 answer' → GoodState lent'
-    wrote_off_lem letter lent' (WrittenOff.Removed first last) p t = (accepted_leave lent).write_off_leaves letter first last lent' p
-    wrote_off_lem letter lent' (WrittenOff.Refused refusal) p t = absurd (is_refused refusal t refl)
+    wrote_off_lem letter lent' (Ok run) p t = (accepted_leave lent).write_off_leaves letter run.first run.last lent' p
+    wrote_off_lem letter lent' (Err refusal) p t = absurd (is_refused refusal t refl)

@@ -4,7 +4,7 @@
 ghost use Rattle.pairs.specs.Lists.{lists};
 ghost use Rattle.runs.specs.Promises.{StartedRuns, TookRuns, ListedGaps};
 
-use quotebox::{Judged, Listed, Refusal};
+use quotebox::{GapsListed, Judged, Refusal};
 use runs::Run;
 
 // The runs of the gap rows of as many segments as a list may have.
@@ -57,7 +57,7 @@ pub fn list_gaps(
     records: &[u64],
     letter: u8,
     cells: &mut [u32],
-) -> Listed
+) -> Result<GapsListed, Refusal>
     ensures { ListedGaps (lists list.now spreads.now) rows records.now letter cells.old result cells.new }
 {
     let lent = rows;

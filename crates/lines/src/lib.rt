@@ -9,7 +9,7 @@ ghost use Rattle.std.specs.Prelude.{◌≤◌, IfOk, length, OnErr, ◌≡◌};
 use console::{put, put_line};
 pub use message::put_written;
 pub use record::put_recorded;
-use state::{Judged, Listed, Refusal, WrittenOff};
+use state::{GapsListed, Judged, Refusal, Run};
 use std::io::Result;
 use std::result;
 
@@ -91,7 +91,7 @@ pub fn put_listed(
     rt: &impl Print,
     page: &mut [u8],
     used: usize,
-    answer: Listed,
+    answer: result::Result<GapsListed, Refusal>,
     cells: &[u32],
 ) -> Result<usize>
     requires { used ≤ length page.old }
@@ -99,23 +99,28 @@ pub fn put_listed(
     ensures failed { OnErr result (length page.new ≡ length page.old) }
 {
     match answer {
-        Listed::Runs(highest, runs) => {
+        Ok(GapsListed { highest, runs }) => {
             put_runs(rt, page, used, highest, console::runs_in(cells, runs))
         }
-        Listed::Refused(refusal) => put_refused(rt, page, used, b"gaps", refusal),
+        Err(refusal) => put_refused(rt, page, used, b"gaps", refusal),
     }
 }
 
-pub fn put_off(rt: &impl Print, page: &mut [u8], used: usize, answer: WrittenOff) -> Result<usize>
+pub fn put_off(
+    rt: &impl Print,
+    page: &mut [u8],
+    used: usize,
+    answer: result::Result<Run, Refusal>,
+) -> Result<usize>
     requires { used ≤ length page.old }
     ensures puts { IfOk result (λ answer. answer ≤ length page.old) }
     ensures failed { OnErr result (length page.new ≡ length page.old) }
 {
     match answer {
-        WrittenOff::Removed(first, last) => {
+        Ok(Run { first, last }) => {
             let numbers = [first as u64, last as u64];
             put_line(rt, page, used, b"off", b" ok", &numbers)
         }
-        WrittenOff::Refused(refusal) => put_refused(rt, page, used, b"off", refusal),
+        Err(refusal) => put_refused(rt, page, used, b"off", refusal),
     }
 }

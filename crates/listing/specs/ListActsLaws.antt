@@ -22,9 +22,7 @@ use Rattle.sequence.specs.declared.GapsListed.{GapsListed as RowListed}
 use Rattle.sequence.specs.declared.Short.{Short}
 use Rattle.state.specs.declared.refusal.Refusal.{Refusal}
 use Rattle.state.specs.declared.refusal.Refusal.TheVariants.{Memory, NoGap}
-use Rattle.state.specs.declared.answers.Listed.{Listed}
-use Rattle.state.specs.declared.answers.WrittenOff.{WrittenOff}
-use Rattle.state.specs.Answers.{listed_numbers, answered, left_by}
+use Rattle.state.specs.Answers.{listed_numbers, answered, left_by, Listed}
 use Rattle.state.specs.Refusals.{Rule, refusal_numbers}
 use Rattle.state.specs.Memory.{Lent, lends, gap_row_of, gap_row_in}
 use Rattle.state.specs.MemoryRows.{with_gap_row, with_gap_row_in}
@@ -40,7 +38,7 @@ module _ (lent : Lent) (letter : ℕ) where
   -- ---- refused before the call's own rule
 
   module _ (r : Refusal) (e : first_broken (segment_rules lent letter) ≡ some r) where
-    pub list_refused : (cells : List ℕ) → ListedRuns lent letter cells (Listed.Refused r) cells
+    pub list_refused : (cells : List ℕ) → ListedRuns lent letter cells (Err r) cells
     unfolding list_rules
     list_refused cells =
         let room : Rule = record { holds = leb (wanted gaps.runs) (length cells); refusal = Memory (wanted gaps.runs) } in
@@ -50,7 +48,7 @@ module _ (lent : Lent) (letter : ℕ) where
           cells_left = sym (ap (λ (o : Option Refusal). left_by o cells (runs_put gaps cells)) broken);
         }
 
-    pub off_refused : WroteOffRun lent letter (WrittenOff.Refused r) lent
+    pub off_refused : WroteOffRun lent letter (Err r) lent
     unfolding write_off_rules
     off_refused =
         let some_run : Rule = record { holds = ltb 0 (length gaps.runs); refusal = NoGap } in
@@ -123,26 +121,26 @@ module _ (lent : Lent) (letter : ℕ) where
             (rw test at told, rw test at left)
 
       pub listed_runs : (listed : RowListed) (cells' : List ℕ) → ListedGaps (gap_row_of lent.rows i) cells (Ok listed) cells'
-          → promised (Listed.Runs listed.highest listed.runs) cells'
+          → promised (Ok listed) cells'
       listed_runs listed cells' own =
           ⊎_elim (λ (h : wanted gaps.runs ≤ length cells).
           let t = told_in (Ok listed) cells' own h in
-          listed_in (Listed.Runs listed.highest listed.runs) cells' h t.0 t.1)
+          listed_in (Ok listed) cells' h t.0 t.1)
           (λ (h : length cells < wanted gaps.runs).
           let t = told_out (Ok listed) cells' own h in
-          listed_out (Listed.Runs listed.highest listed.runs) cells' h (cc) t.1)
+          listed_out (Ok listed) cells' h (cc) t.1)
           (order (wanted gaps.runs) (length cells))
 
       pub listed_short : (short : Short) (cells' : List ℕ) → ListedGaps (gap_row_of lent.rows i) cells (Err short) cells'
-          → promised (Listed.Refused (Memory short.wanted)) cells'
+          → promised (Err (Memory short.wanted)) cells'
       listed_short short cells' own =
           ⊎_elim (λ (h : wanted gaps.runs ≤ length cells).
           let t = told_in (Err short) cells' own h in
-          listed_in (Listed.Refused (Memory short.wanted)) cells' h (cc) t.1)
+          listed_in (Err (Memory short.wanted)) cells' h (cc) t.1)
           (λ (h : length cells < wanted gaps.runs).
           let t = told_out (Err short) cells' own h in
           let same : short.wanted ≡ wanted gaps.runs = cc in
-          listed_out (Listed.Refused (Memory short.wanted)) cells' h (ap (λ (n : ℕ). refusal_numbers (Memory n)) same) t.1)
+          listed_out (Err (Memory short.wanted)) cells' h (ap (λ (n : ℕ). refusal_numbers (Memory n)) same) t.1)
           (order (wanted gaps.runs) (length cells))
 
     -- ---- writing off
@@ -164,12 +162,12 @@ module _ (lent : Lent) (letter : ℕ) where
         last_broken (segment_rules lent letter) (record { holds = ltb 0 (length gaps.runs); refusal = NoGap }) e (rw g)
 
     pub off_removed : (run : Removed) (row' : List ℕ) → WroteOff (gap_row_of lent.rows i) (Some run) row'
-        → WroteOffRun lent letter (WrittenOff.Removed run.first run.last) (lends lent.lists (with_gap_row lent.rows i row') lent.records)
+        → WroteOffRun lent letter (Ok run) (lends lent.lists (with_gap_row lent.rows i row') lent.records)
     unfolding write_off_answer
     off_removed run row' own = go gaps.runs refl (own.says ∙ ap (λ (g : Gaps). lowest g.runs) (sym gaps_are))
       where
         go : (runs : List Run) → gaps.runs ≡ runs → 0 ∷ run.first ∷ run.last ∷ [] ≡ lowest gaps.runs
-            → WroteOffRun lent letter (WrittenOff.Removed run.first run.last) (lends lent.lists (with_gap_row lent.rows i row') lent.records)
+            → WroteOffRun lent letter (Ok run) (lends lent.lists (with_gap_row lent.rows i row') lent.records)
         go [] g says = let no : 0 ∷ run.first ∷ run.last ∷ [] ≡ 17 ∷ [] = rw g at says in let z : ◌≡◌ {A = ℕ} 0 1 = cc in absurd (omega arith)
         go (r ∷ rs) g says =
             let holds = off_holds r rs g in
@@ -184,11 +182,11 @@ module _ (lent : Lent) (letter : ℕ) where
                   ∙ sym (ap (λ (o : Option Refusal). left_by o lent (lent_written_off lent letter)) holds);
             }
 
-    pub off_none : (row' : List ℕ) → WroteOff (gap_row_of lent.rows i) None row' → WroteOffRun lent letter (WrittenOff.Refused NoGap) lent
+    pub off_none : (row' : List ℕ) → WroteOff (gap_row_of lent.rows i) None row' → WroteOffRun lent letter (Err NoGap) lent
     unfolding write_off_answer
     off_none row' own = go gaps.runs refl (own.says ∙ ap (λ (g : Gaps). lowest g.runs) (sym gaps_are))
       where
-        go : (runs : List Run) → gaps.runs ≡ runs → 17 ∷ [] ≡ lowest gaps.runs → WroteOffRun lent letter (WrittenOff.Refused NoGap) lent
+        go : (runs : List Run) → gaps.runs ≡ runs → 17 ∷ [] ≡ lowest gaps.runs → WroteOffRun lent letter (Err NoGap) lent
         go [] g says =
             let broken = off_broken g in
             record {

@@ -1,9 +1,7 @@
 -- What listing gaps and writing off promise: the answer, and every lent cell afterwards.
 use Rattle.std.specs.Prelude.{ℕ, ◌≡◌, List, length}
 use Rattle.laws.specs.Rules.{first_broken}
-use Rattle.state.specs.declared.answers.Listed.{Listed}
-use Rattle.state.specs.declared.answers.WrittenOff.{WrittenOff}
-use Rattle.state.specs.Answers.{listed_numbers, written_off_numbers, answered, left_by}
+use Rattle.state.specs.Answers.{listed_numbers, written_off_numbers, answered, left_by, Listed, WrittenOff}
 use Rattle.state.specs.Memory.{Lent}
 use Rattle.listing.specs.ListRules.{gaps_of_letter, list_rules, write_off_rules}
 use Rattle.listing.specs.ListActs.{list_values, runs_put, run_values, lowest_run, lent_written_off}

@@ -1,5 +1,5 @@
 -- What the promises settle: one outcome, a refusal that leaves everything, and what an accepted call leaves.
-use Rattle.std.specs.Prelude.{ℕ, ◌+◌, ◌*◌, ◌≤◌, ◌≡◌, refl, true, List, [], ◌∷◌, ◌++◌, take}
+use Rattle.std.specs.Prelude.{ℕ, ◌+◌, ◌*◌, ◌≤◌, ◌≡◌, refl, true, List, [], ◌∷◌, ◌++◌, take, Err, Ok}
 use Rattle.std.proofs.Common.{sym, ◌∙◌}
 use Rattle.std.proofs.Math.Path.{ap}
 use Rattle.std.proofs.Math.Option.{none, some}
@@ -17,9 +17,8 @@ use Rattle.sequence.specs.GapsLaws.{wrote_off_sound}
 use Rattle.sequence.specs.Row.{gaps_of}
 use Rattle.sequence.specs.RowLaid.{flat, laid, sound_gap_row}
 use Rattle.sequence.specs.RowLaws.{laid_gaps, laid_sound, length_flat, sound_row_exactly}
+use Rattle.state.specs.Answers.{Listed, WrittenOff, run_told, runs_told}
 use Rattle.state.specs.declared.refusal.Refusal.{Refusal}
-use Rattle.state.specs.declared.answers.Listed.{Listed}
-use Rattle.state.specs.declared.answers.WrittenOff.{WrittenOff}
 use Rattle.state.specs.Memory.{Lent, lends, gap_row_cells, gap_rows_wanted, gap_row_of, SameBehind}
 use Rattle.state.specs.MemoryRows.{with_gap_row}
 use Rattle.state.specs.RowsLaws.{length_with, row_put, behind_kept, row_kept, sound_with}
@@ -43,14 +42,14 @@ one_written_off a b p q = (written_off_told a b (p.answers ∙ sym q.answers), p
 
 -- ---- a refused call: the first broken rule's refusal, and nothing changes
 
-pub list_refusal_lem : {lent : Lent} {cells cells' : List ℕ} {letter : ℕ} (r : Refusal) → ListedRuns lent letter cells (Listed.Refused r) cells'
+pub list_refusal_lem : {lent : Lent} {cells cells' : List ℕ} {letter : ℕ} (r : Refusal) → ListedRuns lent letter cells (Err r) cells'
     → (first_broken (list_rules lent letter (length cells)) ≡ some r) × (cells' ≡ cells)
 list_refusal_lem {lent} {cells} {letter = letter} r p =
     let gaps : Gaps = gaps_of_letter lent letter in
     let broken = refused_by_lem (first_broken (list_rules lent letter (length cells))) (list_values gaps) r p.answers in
     (broken, p.cells_left ∙ left_as _ r cells (runs_put gaps cells) broken)
 
-pub off_refusal_lem : {lent lent' : Lent} {letter : ℕ} (r : Refusal) → WroteOffRun lent letter (WrittenOff.Refused r) lent'
+pub off_refusal_lem : {lent lent' : Lent} {letter : ℕ} (r : Refusal) → WroteOffRun lent letter (Err r) lent'
     → (first_broken (write_off_rules lent letter) ≡ some r) × (lent' ≡ lent)
 off_refusal_lem {lent} {letter = letter} r p =
     let broken = refused_by_lem (first_broken (write_off_rules lent letter)) (run_values (lowest_run (gaps_of_letter lent letter))) r p.answers in
@@ -58,7 +57,7 @@ off_refusal_lem {lent} {letter = letter} r p =
 
 -- ---- an accepted listing
 
-module _ {lent : Lent} {cells cells' : List ℕ} {letter : ℕ} (highest runs : ℕ) (p : ListedRuns lent letter cells (Listed.Runs highest runs) cells') where
+module _ {lent : Lent} {cells cells' : List ℕ} {letter : ℕ} (highest runs : ℕ) (p : ListedRuns lent letter cells (runs_told highest runs) cells') where
   abbrev gaps : Gaps
   gaps = gaps_of_letter lent letter
 
@@ -83,7 +82,7 @@ module _ {lent : Lent} {cells cells' : List ℕ} {letter : ℕ} (highest runs : 
 
 -- ---- an accepted write-off
 
-module _ {lent lent' : Lent} {letter : ℕ} (first last : ℕ) (p : WroteOffRun lent letter (WrittenOff.Removed first last) lent') where
+module _ {lent lent' : Lent} {letter : ℕ} (first last : ℕ) (p : WroteOffRun lent letter (run_told first last) lent') where
   off_held : (first_broken (write_off_rules lent letter) ≡ none) × (first ∷ last ∷ [] ≡ run_values (lowest_run (gaps_of_letter lent letter)))
   off_held =
       accepted_by (first_broken (write_off_rules lent letter)) (run_values (lowest_run (gaps_of_letter lent letter))) (first ∷ last ∷ []) p.answers
@@ -147,13 +146,13 @@ module _ {lent lent' : Lent} {letter : ℕ} (first last : ℕ) (p : WroteOffRun 
 
 -- a write-off, whose records are not lent to be written
 pub off_nothing_behind : {lent lent' : Lent} {letter : ℕ} (answer : WrittenOff) → WroteOffRun lent letter answer lent' → SameBehind lent lent'
-off_nothing_behind (WrittenOff.Refused r) p = rw (off_refusal_lem r p).1 (record { rows_behind = refl; records_behind = refl })
-off_nothing_behind {lent} {letter = letter} (WrittenOff.Removed first last) p =
-    let segment = is_some_lem (segment_of lent.lists.contracts letter) (letter_listed lent letter (segment_held first last p)) in
+off_nothing_behind (Err r) p = rw (off_refusal_lem r p).1 (record { rows_behind = refl; records_behind = refl })
+off_nothing_behind {lent} {letter = letter} (Ok run) p =
+    let segment = is_some_lem (segment_of lent.lists.contracts letter) (letter_listed lent letter (segment_held run.first run.last p)) in
     let i : ℕ = segment.0 in
     let s = segment.1 in
-    rw (off_all first last p i s)
+    rw (off_all run.first run.last p i s)
     (record {
-      rows_behind = behind_kept lent.rows i (off first last p i s) (room first last p i s) (off_wide first last p i s) (gap_rows_wanted lent.lists) (omega (arith, (segment_has lent.lists.contracts letter i s).0));
+      rows_behind = behind_kept lent.rows i (off run.first run.last p i s) (room run.first run.last p i s) (off_wide run.first run.last p i s) (gap_rows_wanted lent.lists) (omega (arith, (segment_has lent.lists.contracts letter i s).0));
       records_behind = refl;
     })

@@ -3,7 +3,8 @@ ghost use Rattle.pairs.specs.Lists.{lists};
 ghost use Rattle.state.specs.Memory.{lends};
 ghost use Rattle.listing.specs.ListPromises.{ListedRuns, WroteOffRun};
 
-use state::{Listed, Refusal, WrittenOff};
+use sequence::{GapsListed, Run};
+use state::Refusal;
 
 pub fn list_gaps(
     list: &[u8],
@@ -12,19 +13,13 @@ pub fn list_gaps(
     records: &[u64],
     letter: u8,
     cells: &mut [u32],
-) -> Listed
+) -> Result<GapsListed, Refusal>
     ensures { ListedRuns (lends (lists list.now spreads.now) rows.now records.now) letter cells.old result cells.new }
 {
-    match state::check_segment(list, spreads, rows, records, letter) {
-        Ok(segment) => {
-            let row = state::row_of(rows, segment);
-            match sequence::list(&row, cells) {
-                Ok(gaps) => Listed::Runs(gaps.highest, gaps.runs),
-                Err(short) => Listed::Refused(Refusal::Memory(short.wanted)),
-            }
-        }
-        Err(refusal) => Listed::Refused(refusal),
-    }
+    let segment = state::check_segment(list, spreads, rows, records, letter)?;
+    let row = state::row_of(rows, segment);
+    let gaps = sequence::list(&row, cells)?;
+    Ok(gaps)
 }
 
 pub fn write_off(
@@ -33,20 +28,12 @@ pub fn write_off(
     rows: &mut [u32],
     records: &[u64],
     letter: u8,
-) -> WrittenOff
+) -> Result<Run, Refusal>
     ensures { WroteOffRun (lends (lists list.now spreads.now) rows.old records.now) letter result (lends (lists list.now spreads.now) rows.new records.now) }
 {
-    match state::check_segment(list, spreads, rows, records, letter) {
-        Ok(segment) => {
-            let mut row = state::row_of(rows, segment);
-            match sequence::write_off(&mut row) {
-                Some(run) => {
-                    state::put_row(rows, segment, &row);
-                    WrittenOff::Removed(run.first, run.last)
-                }
-                None => WrittenOff::Refused(Refusal::NoGap),
-            }
-        }
-        Err(refusal) => WrittenOff::Refused(refusal),
-    }
+    let segment = state::check_segment(list, spreads, rows, records, letter)?;
+    let mut row = state::row_of(rows, segment);
+    let run = sequence::write_off(&mut row).ok_or(Refusal::NoGap)?;
+    state::put_row(rows, segment, &row);
+    Ok(run)
 }

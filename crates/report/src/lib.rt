@@ -4,7 +4,7 @@
 ghost use Rattle.std.specs.Prelude.{◌≤◌, IfOk, length, OnErr, ◌≡◌};
 
 use console::{put, put_with};
-use quotebox::{Listed, Refusal};
+use quotebox::{GapsListed, Refusal};
 use runs::Run;
 use std::io::Result;
 
@@ -100,7 +100,7 @@ fn put_listed(
     ensures { IfOk result (λ answer. answer ≤ length page.old) }
 {
     match lent::list_gaps(list, spreads, rows, records, letter, cells) {
-        Listed::Runs(highest, runs) => {
+        Ok(GapsListed { highest, runs }) => {
             put_segment(
                 rt,
                 page,
@@ -110,7 +110,7 @@ fn put_listed(
                 console::runs_in(cells, runs),
             )
         }
-        Listed::Refused(_) => Ok(used),
+        Err(_) => Ok(used),
     }
 }
 

@@ -6,14 +6,12 @@ use Rattle.std.proofs.Math.Option.{none, some}
 use Rattle.laws.specs.RulesLaws.{unlike}
 use Rattle.forms.specs.declared.rows.Level.{Level}
 use Rattle.state.specs.declared.answers.Judged.{Judged}
-use Rattle.state.specs.declared.answers.Listed.{Listed}
-use Rattle.state.specs.declared.answers.WrittenOff.{WrittenOff}
 use Rattle.state.specs.declared.answers.Recorded.{Recorded}
 use Rattle.forms.specs.declared.forms.Form.{Form}
 use Rattle.forms.specs.declared.forms.Item.{Item}
 use Rattle.pairs.specs.Lists.{Lists}
 use Rattle.state.specs.declared.refusal.Refusal.{Refusal}
-use Rattle.state.specs.Answers.{started_numbers, judged_numbers, listed_numbers, written_off_numbers, recorded_numbers}
+use Rattle.state.specs.Answers.{started_numbers, judged_numbers, listed_numbers, written_off_numbers, recorded_numbers, Listed, WrittenOff}
 use Rattle.state.specs.AnswersLaws.{started_told, judged_told, listed_told, written_off_told, recorded_told, refused_by_lem}
 use Rattle.starting.specs.StartPromises.{StartedBox}
 use Rattle.listing.specs.ListPromises.{ListedRuns, WroteOffRun}
@@ -136,16 +134,16 @@ took_refused {lists} {records} {batch} {records'} {rows} {rows'} r {compared} p 
         absurd (never_behind r (compared ∷ []) _ (e ∙ in_runs_other lists.contracts (length rows) (judged_numbers (Judged.Accepted taken old heartbeats keys)) refl))
     go (Judged.Refused s keys) q e = left_told rows' rows (refused_keeps (lends lists (flat rows) records) batch s (lends lists (flat rows') records') q)
 
-pub listed_refused : {lists : Lists} {records cells cells' : List ℕ} {rows : List Run} {letter : ℕ} (r : Refusal) → ListedGaps lists rows records letter cells (Listed.Refused r) cells' → cells' ≡ cells
+pub listed_refused : {lists : Lists} {records cells cells' : List ℕ} {rows : List Run} {letter : ℕ} (r : Refusal) → ListedGaps lists rows records letter cells (Err r) cells' → cells' ≡ cells
 listed_refused {lists} {records} {cells} {cells'} {rows} {letter} r p = go p.core p.promised p.answers
   where
     go : (core : Listed) → ListedRuns (lends lists (flat rows) records) letter cells core cells' → refusal_numbers r ≡ in_runs lists.contracts (length rows) (listed_numbers core) → cells' ≡ cells
-    go (Listed.Runs highest runs) q e = absurd (unlike (sym (accepted_never lists (length rows) r (highest ∷ runs ∷ []) e)))
-    go (Listed.Refused s) q e = (list_refusal_lem s q).1
+    go (Ok listed) q e = absurd (unlike (sym (accepted_never lists (length rows) r (listed.highest ∷ listed.runs ∷ []) e)))
+    go (Err s) q e = (list_refusal_lem s q).1
 
-pub wrote_off_refused : {lists : Lists} {records : List ℕ} {rows rows' : List Run} {letter : ℕ} (r : Refusal) → WroteOffRuns lists rows records letter (WrittenOff.Refused r) rows' → rows' ≡ rows
+pub wrote_off_refused : {lists : Lists} {records : List ℕ} {rows rows' : List Run} {letter : ℕ} (r : Refusal) → WroteOffRuns lists rows records letter (Err r) rows' → rows' ≡ rows
 wrote_off_refused {lists} {records} {rows} {rows'} {letter} r p = go p.core p.promised p.answers
   where
     go : (core : WrittenOff) → WroteOffRun (lends lists (flat rows) records) letter core (lends lists (flat rows') records) → refusal_numbers r ≡ in_runs lists.contracts (length rows) (written_off_numbers core) → rows' ≡ rows
-    go (WrittenOff.Removed first last) q e = absurd (unlike (sym (accepted_never lists (length rows) r (first ∷ last ∷ []) e)))
-    go (WrittenOff.Refused s) q e = (left_told rows' rows (off_refusal_lem s q).1).0
+    go (Ok run) q e = absurd (unlike (sym (accepted_never lists (length rows) r (run.first ∷ run.last ∷ []) e)))
+    go (Err s) q e = (left_told rows' rows (off_refusal_lem s q).1).0

@@ -25,15 +25,13 @@ use Rattle.sequence.specs.RowLaid.{laid}
 use Rattle.head.specs.Tests.{is_some}
 use Rattle.message.specs.Message.{key_place}
 use Rattle.state.specs.declared.answers.Judged.{Judged}
-use Rattle.state.specs.declared.answers.Listed.{Listed}
-use Rattle.state.specs.declared.answers.WrittenOff.{WrittenOff}
 use Rattle.state.specs.declared.answers.Recorded.{Recorded}
 use Rattle.forms.specs.declared.forms.Form.{Form}
 use Rattle.forms.specs.declared.forms.Item.{Item}
 use Rattle.pairs.specs.Lists.{Lists}
 use Rattle.state.specs.declared.refusal.Refusal.{Refusal}
 use Rattle.state.specs.declared.refusal.Refusal.TheVariants.{Code, Contract, Memory, NoGap, List as ListOf}
-use Rattle.state.specs.Answers.{started_numbers, judged_numbers, listed_numbers, written_off_numbers, recorded_numbers, answered, left_by}
+use Rattle.state.specs.Answers.{started_numbers, judged_numbers, listed_numbers, written_off_numbers, recorded_numbers, answered, left_by, Listed, WrittenOff}
 use Rattle.turns.specs.Compared.{counted_numbers}
 use Rattle.turns.specs.Turns.{Acted, acted, refused, messages_act}
 use Rattle.batch.specs.Batch.{batch_rules, batch_letter, count_of, batch_data}

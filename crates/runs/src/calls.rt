@@ -5,7 +5,7 @@ ghost use Rattle.runs.specs.Promises.{StartedRuns, JudgedRuns, TookRuns, ListedG
 use crate::front;
 use copies::Run;
 use layout::Level;
-use quotebox::{Judged, Listed, Reading, Refusal, SpreadReading, WrittenOff};
+use quotebox::{GapsListed, Judged, Reading, Refusal, SpreadReading};
 
 pub fn start(
     list: &[u8],
@@ -50,7 +50,7 @@ pub fn list_gaps(
     records: &[u64],
     letter: u8,
     cells: &mut [u32],
-) -> Listed
+) -> Result<GapsListed, Refusal>
     ensures { ListedGaps (lists list.now spreads.now) rows.now records.now letter cells.old result cells.new }
 {
     front::list_gaps(
@@ -70,7 +70,7 @@ pub fn write_off(
     rows: &mut [Run],
     records: &[u64],
     letter: u8,
-) -> WrittenOff
+) -> Result<quotebox::Run, Refusal>
     ensures { WroteOffRuns (lists list.now spreads.now) rows.old records.now letter result rows.new }
 {
     let runs = copies::out(rows);

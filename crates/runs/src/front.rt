@@ -11,7 +11,7 @@ ghost use Rattle.runs.specs.Promises.{StartedRuns, JudgedRuns, TookRuns, ListedG
 use crate::refusal;
 use copies::Run;
 use layout::Level;
-use quotebox::{Judged, Listed, Reading, Refusal, SpreadReading, WrittenOff};
+use quotebox::{GapsListed, Judged, Reading, Refusal, SpreadReading};
 
 #[derive(Clone, Copy)]
 pub(crate) struct Began {
@@ -27,7 +27,7 @@ pub(crate) struct Took {
 
 #[derive(Clone, Copy)]
 pub(crate) struct WroteOff {
-    pub answer: WrittenOff,
+    pub answer: Result<quotebox::Run, Refusal>,
     pub runs: [Run; copies::MOST],
 }
 
@@ -135,7 +135,7 @@ fn list_numbers(
     records: &[u64],
     letter: u8,
     cells: &mut [u32],
-) -> Listed
+) -> Result<GapsListed, Refusal>
     requires { lent ≤ length numbers.now }
     ensures { ListedRuns (lends (lists list.now spreads.now) (take lent numbers.now) records.now) letter cells.old result cells.new }
 {
@@ -150,7 +150,7 @@ pub(crate) fn list_gaps(
     records: &[u64],
     letter: u8,
     cells: &mut [u32],
-) -> Listed
+) -> Result<GapsListed, Refusal>
     ensures { ListedGaps (lists list.now spreads.now) (take lent runs) records.now letter cells.old result cells.new }
 {
     let count = lent.min(copies::MOST);
@@ -166,7 +166,7 @@ fn write_off_numbers(
     lent: usize,
     records: &[u64],
     letter: u8,
-) -> WrittenOff
+) -> Result<quotebox::Run, Refusal>
     requires { lent ≤ length numbers.old }
     ensures { WroteOffRun (lends (lists list.now spreads.now) (take lent numbers.old) records.now) letter result (lends (lists list.now spreads.now) (take lent numbers.new) records.now) }
 {

@@ -4,7 +4,7 @@ ghost use Rattle.state.specs.Refusals.{refusal_numbers};
 ghost use Rattle.state.specs.Answers.{started_numbers, judged_numbers, listed_numbers, written_off_numbers, recorded_numbers};
 ghost use Rattle.runs.specs.Wanted.{in_runs};
 
-use quotebox::{Judged, Listed, Recorded, Refusal, WrittenOff};
+use quotebox::{GapsListed, Judged, Recorded, Refusal, Run};
 
 fn in_runs(list: &[u8], lent: usize, refusal: Refusal) -> Refusal
     ensures { refusal_numbers result ≡ in_runs list.now lent (refusal_numbers refusal) }
@@ -40,23 +40,25 @@ pub(crate) fn judged(list: &[u8], lent: usize, answer: Judged) -> Judged
 }
 
 #[tactic(auto, unfolding(crate::specs::Wanted::in_runs))]
-pub(crate) fn listed(list: &[u8], lent: usize, answer: Listed) -> Listed
+pub(crate) fn listed(
+    list: &[u8],
+    lent: usize,
+    answer: Result<GapsListed, Refusal>,
+) -> Result<GapsListed, Refusal>
     ensures { listed_numbers result ≡ in_runs list.now lent (listed_numbers answer) }
 {
-    match answer {
-        Listed::Runs(highest, runs) => Listed::Runs(highest, runs),
-        Listed::Refused(refusal) => Listed::Refused(in_runs(list, lent, refusal)),
-    }
+    answer.map_err(|refusal| in_runs(list, lent, refusal))
 }
 
 #[tactic(auto, unfolding(crate::specs::Wanted::in_runs))]
-pub(crate) fn written_off(list: &[u8], lent: usize, answer: WrittenOff) -> WrittenOff
+pub(crate) fn written_off(
+    list: &[u8],
+    lent: usize,
+    answer: Result<Run, Refusal>,
+) -> Result<Run, Refusal>
     ensures { written_off_numbers result ≡ in_runs list.now lent (written_off_numbers answer) }
 {
-    match answer {
-        WrittenOff::Removed(first, last) => WrittenOff::Removed(first, last),
-        WrittenOff::Refused(refusal) => WrittenOff::Refused(in_runs(list, lent, refusal)),
-    }
+    answer.map_err(|refusal| in_runs(list, lent, refusal))
 }
 
 #[tactic(auto, unfolding(crate::specs::Wanted::in_runs))]

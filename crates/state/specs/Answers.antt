@@ -5,8 +5,8 @@ use Rattle.std.proofs.Math.Option.{Option, none, some}
 use Rattle.layout.specs.Cells.{session_cell}
 use Rattle.state.specs.declared.refusal.Refusal.{Refusal}
 use Rattle.state.specs.declared.answers.Judged.{Judged}
-use Rattle.state.specs.declared.answers.Listed.{Listed}
-use Rattle.state.specs.declared.answers.WrittenOff.{WrittenOff}
+use Rattle.sequence.specs.declared.GapsListed.{GapsListed}
+use Rattle.sequence.specs.declared.Run.{Run}
 use Rattle.state.specs.declared.answers.Recorded.{Recorded}
 use Rattle.state.specs.Refusals.{refusal_numbers}
 
@@ -22,14 +22,26 @@ judged_numbers (Judged.Accepted taken old heartbeats compared) = 0 ∷ taken ∷
 judged_numbers (Judged.Refused refusal compared) = refusal_numbers refusal ++ (compared ∷ [])
 
 -- 01 "What may be asked": list gaps answers highest and the number of runs
+abbrev pub Listed : Type 0
+Listed = Result GapsListed Refusal
+
+abbrev pub runs_told : ℕ → ℕ → Listed
+runs_told highest runs = Ok (record { highest = highest; runs = runs })
+
 abbrev pub listed_numbers : Listed → List ℕ
-listed_numbers (Listed.Runs highest runs) = 0 ∷ highest ∷ runs ∷ []
-listed_numbers (Listed.Refused refusal) = refusal_numbers refusal
+listed_numbers (Ok gaps) = 0 ∷ gaps.highest ∷ gaps.runs ∷ []
+listed_numbers (Err refusal) = refusal_numbers refusal
 
 -- 01 "What may be asked": a write-off answers the run it removed, by its first and last number
+abbrev pub WrittenOff : Type 0
+WrittenOff = Result Run Refusal
+
+abbrev pub run_told : ℕ → ℕ → WrittenOff
+run_told first last = Ok (record { first = first; last = last })
+
 abbrev pub written_off_numbers : WrittenOff → List ℕ
-written_off_numbers (WrittenOff.Removed first last) = 0 ∷ first ∷ last ∷ []
-written_off_numbers (WrittenOff.Refused refusal) = refusal_numbers refusal
+written_off_numbers (Ok run) = 0 ∷ run.first ∷ run.last ∷ []
+written_off_numbers (Err refusal) = refusal_numbers refusal
 
 -- 01 "What may be asked": a record, or "no record": 1 and its number for a record, 0 where there is none; M-104: and its session
 abbrev pub recorded_numbers : Recorded → List ℕ

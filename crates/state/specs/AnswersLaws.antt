@@ -7,12 +7,10 @@ use Rattle.forms.specs.declared.forms.Session.TheVariants as session
 use Rattle.layout.specs.Cells.{session_in}
 use Rattle.state.specs.declared.refusal.Refusal.{Refusal}
 use Rattle.state.specs.declared.answers.Judged.{Judged}
-use Rattle.state.specs.declared.answers.Listed.{Listed}
-use Rattle.state.specs.declared.answers.WrittenOff.{WrittenOff}
 use Rattle.state.specs.declared.answers.Recorded.{Recorded}
 use Rattle.state.specs.Refusals.{refusal_numbers}
 use Rattle.state.specs.RefusalsLaws.{refusal_of, accepts, refusal_behind, refusal_back, refusal_told, never}
-use Rattle.state.specs.Answers.{judged_numbers, started_numbers, listed_numbers, written_off_numbers, recorded_numbers, written_numbers, checked_numbers, answered, left_by, checked_by}
+use Rattle.state.specs.Answers.{Listed, WrittenOff, runs_told, run_told, judged_numbers, started_numbers, listed_numbers, written_off_numbers, recorded_numbers, written_numbers, checked_numbers, answered, left_by, checked_by}
 
 -- ---- which rule was broken
 
@@ -80,24 +78,24 @@ pub judged_told : (a b : Judged) → judged_numbers a ≡ judged_numbers b → a
 judged_told = told judged_numbers judged_of judged_back
 
 abbrev runs_answered : List ℕ → Listed
-runs_answered ns = Listed.Runs (get_or ns 1 0) (get_or ns 2 0)
+runs_answered ns = runs_told (get_or ns 1 0) (get_or ns 2 0)
 
-listed_back : (a : Listed) → answer_of runs_answered Listed.Refused (listed_numbers a) ≡ a
-listed_back (Listed.Runs highest runs) = refl
-listed_back (Listed.Refused r) = refused_back runs_answered Listed.Refused r
+listed_back : (a : Listed) → answer_of runs_answered Err (listed_numbers a) ≡ a
+listed_back (Ok gaps) = refl
+listed_back (Err r) = refused_back runs_answered Err r
 
 pub listed_told : (a b : Listed) → listed_numbers a ≡ listed_numbers b → a ≡ b
-listed_told = told listed_numbers (answer_of runs_answered Listed.Refused) listed_back
+listed_told = told listed_numbers (answer_of runs_answered Err) listed_back
 
 abbrev run_answered : List ℕ → WrittenOff
-run_answered ns = WrittenOff.Removed (get_or ns 1 0) (get_or ns 2 0)
+run_answered ns = run_told (get_or ns 1 0) (get_or ns 2 0)
 
-written_off_back : (a : WrittenOff) → answer_of run_answered WrittenOff.Refused (written_off_numbers a) ≡ a
-written_off_back (WrittenOff.Removed first last) = refl
-written_off_back (WrittenOff.Refused r) = refused_back run_answered WrittenOff.Refused r
+written_off_back : (a : WrittenOff) → answer_of run_answered Err (written_off_numbers a) ≡ a
+written_off_back (Ok run) = refl
+written_off_back (Err r) = refused_back run_answered Err r
 
 pub written_off_told : (a b : WrittenOff) → written_off_numbers a ≡ written_off_numbers b → a ≡ b
-written_off_told = told written_off_numbers (answer_of run_answered WrittenOff.Refused) written_off_back
+written_off_told = told written_off_numbers (answer_of run_answered Err) written_off_back
 
 abbrev record_answered : List ℕ → Recorded
 record_answered ns = cond (eqb (get_or ns 1 0) 0) Recorded.NoRecord (Recorded.Record (get_or ns 2 0) (session_in (get_or ns 3 0)))

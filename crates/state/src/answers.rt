@@ -9,20 +9,6 @@ pub enum Judged {
     Refused(Refusal, usize),
 }
 
-// Highest, and the number of runs put into the lent cells.
-#[derive(Clone, Copy)]
-pub enum Listed {
-    Runs(u32, usize),
-    Refused(Refusal),
-}
-
-// The run that was removed.
-#[derive(Clone, Copy)]
-pub enum WrittenOff {
-    Removed(u32, u32),
-    Refused(Refusal),
-}
-
 // A record's number, which is its update's, and the session of the update that wrote it.
 #[derive(Clone, Copy)]
 pub enum Recorded {

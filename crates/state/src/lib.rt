@@ -7,7 +7,8 @@ mod gap_rows;
 mod refusal;
 mod state;
 
-pub use answers::{Judged, Listed, Recorded, WrittenOff};
+pub use answers::{Judged, Recorded};
 pub use gap_rows::{copy_row, put_row, row_of};
 pub use refusal::{Refusal, of_fault, refusal_numbers};
+pub use sequence::{GapsListed, Run};
 pub use state::{check_memory, check_segment, check_state};

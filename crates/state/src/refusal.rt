@@ -2,8 +2,10 @@
 ghost use Rattle.std.specs.Prelude.{◌≡◌};
 ghost use Rattle.head.specs.Faults.{fault_numbers};
 ghost use Rattle.state.specs.Refusals.{in_message, refusal_numbers};
+ghost use Rattle.state.specs.declared.refusal.Refusal.TheVariants.{Memory};
 
 use head::Fault;
+use sequence::Short;
 
 #[derive(Clone, Copy)]
 pub enum Refusal {
@@ -28,6 +30,15 @@ pub enum Refusal {
     List,
     NoGap,
     State,
+}
+
+// Fewer cells are lent than the runs of a row want.
+impl From<Short> for Refusal {
+    ghost from_gives = { λ short refusal. refusal ≡ Memory short.wanted };
+
+    fn from(short: Short) -> Refusal {
+        Refusal::Memory(short.wanted)
+    }
 }
 
 // What is wrong with message i.

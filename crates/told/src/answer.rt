@@ -4,7 +4,7 @@ ghost use Rattle.told.specs.Told.{told_of, record_numbers, with_fourth};
 ghost use Rattle.state.specs.Refusals.{refusal_numbers};
 ghost use Rattle.state.specs.Answers.{started_numbers, judged_numbers, listed_numbers, written_off_numbers, written_numbers};
 
-use quotebox::{Judged, Listed, Recorded, Refusal, WrittenOff};
+use quotebox::{GapsListed, Judged, Recorded, Refusal, Run};
 
 #[derive(Clone, Copy)]
 pub struct Told {
@@ -63,21 +63,21 @@ pub fn of_judged(judged: Judged) -> Told
     }
 }
 
-pub fn of_listed(listed: Listed) -> Told
+pub fn of_listed(listed: Result<GapsListed, Refusal>) -> Told
     ensures { result ≡ told_of (listed_numbers listed) }
 {
     match listed {
-        Listed::Runs(highest, runs) => of_numbers(0, highest as usize, runs, 0),
-        Listed::Refused(refusal) => of_refusal(refusal),
+        Ok(gaps) => of_numbers(0, gaps.highest as usize, gaps.runs, 0),
+        Err(refusal) => of_refusal(refusal),
     }
 }
 
-pub fn of_written_off(written_off: WrittenOff) -> Told
+pub fn of_written_off(written_off: Result<Run, Refusal>) -> Told
     ensures { result ≡ told_of (written_off_numbers written_off) }
 {
     match written_off {
-        WrittenOff::Removed(first, last) => of_numbers(0, first as usize, last as usize, 0),
-        WrittenOff::Refused(refusal) => of_refusal(refusal),
+        Ok(run) => of_numbers(0, run.first as usize, run.last as usize, 0),
+        Err(refusal) => of_refusal(refusal),
     }
 }
 

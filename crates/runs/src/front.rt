@@ -13,21 +13,10 @@ use copies::Run;
 use layout::Level;
 use quotebox::{GapsListed, Judged, Reading, Refusal, SpreadReading};
 
+// A call's answer, and the runs that it leaves.
 #[derive(Clone, Copy)]
-pub(crate) struct Began {
-    pub answer: Result<(), Refusal>,
-    pub runs: [Run; copies::MOST],
-}
-
-#[derive(Clone, Copy)]
-pub(crate) struct Took {
-    pub answer: Judged,
-    pub runs: [Run; copies::MOST],
-}
-
-#[derive(Clone, Copy)]
-pub(crate) struct WroteOff {
-    pub answer: Result<quotebox::Run, Refusal>,
+pub(crate) struct With<A> {
+    pub answer: A,
     pub runs: [Run; copies::MOST],
 }
 
@@ -52,13 +41,13 @@ pub(crate) fn start(
     runs: [Run; copies::MOST],
     lent: usize,
     records: &mut [u64],
-) -> Began
+) -> With<Result<(), Refusal>>
     ensures { StartedRuns (lists list.now spreads.now) starts.now (take lent runs) records.old result.answer (take lent result.runs) records.new }
 {
     let count = lent.min(copies::MOST);
     let mut numbers = copies::flat(runs);
     let answer = start_numbers(list, spreads, starts, &mut numbers, 2 * count, records);
-    Began {
+    With {
         answer: refusal::started(list, count, answer),
         runs: copies::paired(numbers),
     }
@@ -115,13 +104,13 @@ pub(crate) fn take(
     lent: usize,
     records: &mut [u64],
     batch: &[u8],
-) -> Took
+) -> With<Judged>
     ensures { TookRuns (lists list.now spreads.now) (take lent runs) records.old batch.now result.answer (take lent result.runs) records.new }
 {
     let count = lent.min(copies::MOST);
     let mut numbers = copies::flat(runs);
     let answer = take_numbers(list, spreads, &mut numbers, 2 * count, records, batch);
-    Took {
+    With {
         answer: refusal::judged(list, count, answer),
         runs: copies::paired(numbers),
     }
@@ -180,13 +169,13 @@ pub(crate) fn write_off(
     lent: usize,
     records: &[u64],
     letter: u8,
-) -> WroteOff
+) -> With<Result<quotebox::Run, Refusal>>
     ensures { WroteOffRuns (lists list.now spreads.now) (take lent runs) records.now letter result.answer (take lent result.runs) }
 {
     let count = lent.min(copies::MOST);
     let mut numbers = copies::flat(runs);
     let answer = write_off_numbers(list, spreads, &mut numbers, 2 * count, records, letter);
-    WroteOff {
+    With {
         answer: refusal::written_off(list, count, answer),
         runs: copies::paired(numbers),
     }

@@ -1,94 +1,62 @@
-// A command's call, made with what is lent, and the line that answers it, on the page behind what is used of that.
+// A command's call, made with what is lent, and the line that answers it.
 #![tactic(auto)]
 
 mod gaps;
-mod quotes;
-mod spreads;
+mod messages;
+mod records;
 
-ghost use Rattle.std.specs.Prelude.{◌≤◌, IfOk, length, OnErr, ◌≡◌};
+use commands::Command;
+pub use messages::beside;
+use std::io::{Result, Write};
 
-use layout::Item;
-pub use spreads::beside;
-use std::io::Result;
+// What is lent to a call: the two lists, the gap rows and the records.
+#[derive(Drop)]
+pub struct Lent<'a> {
+    pub list: &'a [u8],
+    pub spreads: &'a [u8],
+    pub rows: &'a mut [u32],
+    pub records: &'a mut [u64],
+}
 
-fn start(
-    rt: &impl Print,
-    bytes: &[u8],
-    list: &[u8],
-    spreads: &[u8],
-    rows: &mut [u32],
-    records: &mut [u64],
-    page: &mut [u8],
-    used: usize,
-) -> Result<usize>
-    requires { used ≤ length page.old }
-    ensures { IfOk result (λ answer. answer ≤ length page.old) }
-{
+fn start(page: &mut impl Write, bytes: &[u8], lent: &mut Lent) -> Result<()> {
     let starts = commands::starts_in(bytes);
     let count = wire::u8_at(bytes, 1) as usize;
-    let started = quotebox::start(list, spreads, &starts[0..count], rows, records);
-    lines::put_started(rt, page, used, started)
+    let starts = &starts[..count];
+    let list = lent.list;
+    let spreads = lent.spreads;
+    let started = quotebox::start(list, spreads, starts, lent.rows, lent.records);
+    lines::put_started(page, started)
 }
 
-fn judge(
-    rt: &impl Print,
-    bytes: &[u8],
-    list: &[u8],
-    spreads: &[u8],
-    rows: &[u32],
-    records: &[u64],
-    page: &mut [u8],
-    used: usize,
-) -> Result<usize>
-    requires { used ≤ length page.old }
-    ensures { IfOk result (λ answer. answer ≤ length page.old) }
-{
-    let judged = quotebox::judge(list, spreads, rows, records, commands::batch_in(bytes));
-    lines::put_judged(rt, page, used, b"judge", judged)
+fn judge(page: &mut impl Write, bytes: &[u8], lent: &Lent) -> Result<()> {
+    let batch = commands::batch_in(bytes);
+    let judged = quotebox::judge(lent.list, lent.spreads, lent.rows, lent.records, batch);
+    lines::put_judged(page, "judge", judged)
 }
 
-fn take(
-    rt: &impl Print,
-    bytes: &[u8],
-    list: &[u8],
-    spreads: &[u8],
-    rows: &mut [u32],
-    records: &mut [u64],
-    page: &mut [u8],
-    used: usize,
-) -> Result<usize>
-    requires { used ≤ length page.old }
-    ensures { IfOk result (λ answer. answer ≤ length page.old) }
-{
-    let judged = quotebox::take(list, spreads, rows, records, commands::batch_in(bytes));
-    lines::put_judged(rt, page, used, b"take", judged)
+fn take(page: &mut impl Write, bytes: &[u8], lent: &mut Lent) -> Result<()> {
+    let batch = commands::batch_in(bytes);
+    let list = lent.list;
+    let spreads = lent.spreads;
+    let judged = quotebox::take(list, spreads, lent.rows, lent.records, batch);
+    lines::put_judged(page, "take", judged)
 }
 
 // A command that makes no call has no line.
 pub fn answer(
-    rt: &impl Print,
+    page: &mut impl Write,
+    command: Command,
     bytes: &[u8],
-    list: &[u8],
-    spreads: &[u8],
-    rows: &mut [u32],
-    records: &mut [u64],
-    page: &mut [u8],
-    used: usize,
-) -> Result<usize>
-    requires { used ≤ length page.old }
-    ensures puts { IfOk result (λ answer. answer ≤ length page.old) }
-    ensures failed { OnErr result ((length rows.new ≡ length rows.old) × (length records.new ≡ length records.old) × (length page.new ≡ length page.old)) }
-{
-    match wire::u8_at(bytes, 0) {
-        b'S' => start(rt, bytes, list, spreads, rows, records, page, used),
-        b'J' => judge(rt, bytes, list, spreads, rows, records, page, used),
-        b'K' => take(rt, bytes, list, spreads, rows, records, page, used),
-        b'G' => gaps::list(rt, bytes, list, spreads, rows, records, page, used),
-        b'O' => gaps::off(rt, bytes, list, spreads, rows, records, page, used),
-        b'R' => quotes::read(rt, bytes, list, spreads, rows, records, page, used),
-        b'Q' => spreads::read(rt, bytes, list, spreads, rows, records, page, used),
-        b'W' => quotes::write(rt, bytes, Item::Contract, page, used),
-        b'V' => quotes::write(rt, bytes, Item::Pair, page, used),
-        _ => Ok(used),
+    lent: &mut Lent,
+) -> Result<()> {
+    match command {
+        Command::Start => start(page, bytes, lent),
+        Command::Judge => judge(page, bytes, lent),
+        Command::Take => take(page, bytes, lent),
+        Command::Gaps => gaps::list(page, bytes, lent),
+        Command::Off => gaps::off(page, bytes, lent),
+        Command::Read(item) => records::read(page, bytes, item, lent),
+        Command::Write(item) => messages::write(page, bytes, item),
+        Command::Lend | Command::List | Command::Spreads | Command::Store => Ok(()),
     }
 }

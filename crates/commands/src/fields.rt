@@ -2,7 +2,7 @@
 ghost use Rattle.std.specs.Prelude.{◌≤◌};
 
 use crate::length;
-use layout::{Item, KEY_BYTES, Level, PAIR_BYTES};
+use layout::{Item, Level};
 use quote::Quote;
 use spread::SpreadQuote;
 use writer::Code;
@@ -12,38 +12,27 @@ const MOST_STARTS: usize = 255;
 
 pub fn starts_in(bytes: &[u8]) -> [u32; MOST_STARTS] {
     let mut starts = [0u32; MOST_STARTS];
-    console::u32s_at(bytes, 2, &mut starts);
+    console::cells_at(bytes, 2, &mut starts);
     starts
 }
 
 // The batch or the list of a command, behind its length.
 pub fn batch_in(bytes: &[u8]) -> &[u8] {
-    if bytes.len() < length::LENGTH_FRONT {
-        return &bytes[0..0];
-    }
-    &bytes[length::LENGTH_FRONT..]
+    bytes.get(length::LENGTH_FRONT..).unwrap_or(&[])
 }
 
 // A level's byte is looked at before the command is read: there are no others.
-pub fn level_of(byte: u8) -> Level {
-    if byte == b'1' { Level::One } else { Level::Two }
+pub fn level_at(bytes: &[u8], at: usize) -> Level {
+    length::level_of(wire::u8_at(bytes, at)).unwrap_or(Level::Two)
 }
 
 // The key that begins at a place.
-pub fn key_at(bytes: &[u8], at: usize) -> [u8; KEY_BYTES]
-    requires { at ≤ 8 }
+pub fn key_at<const KEY: usize>(bytes: &[u8], at: usize) -> [u8; KEY]
+    requires { (at ≤ 8) × (KEY ≤ 65535) }
 {
-    let mut key = [0u8; KEY_BYTES];
-    console::bytes_at(bytes, at, &mut key);
+    let mut key = [0u8; KEY];
+    console::cells_at(bytes, at, &mut key);
     key
-}
-
-pub fn pair_at(bytes: &[u8], at: usize) -> [u8; PAIR_BYTES]
-    requires { at ≤ 8 }
-{
-    let mut pair = [0u8; PAIR_BYTES];
-    console::bytes_at(bytes, at, &mut pair);
-    pair
 }
 
 pub fn code_in(bytes: &[u8]) -> Code {
@@ -60,7 +49,7 @@ fn values_in(bytes: &[u8], item: Item, level: Level) -> [u64; values::MOST] {
     let mut told = [0u64; values::MOST];
     let first = slots::cells_in_front(item);
     let end = first + length::rows_at(item, level);
-    console::u64s_at(bytes, length::write_front(item), &mut told[first..end]);
+    console::cells_at(bytes, length::write_front(item), &mut told[first..end]);
     told
 }
 

@@ -2,6 +2,7 @@
 ghost use Rattle.std.specs.Prelude.{◌+◌, ◌≤◌};
 ghost use Rattle.values.specs.Values.{first, most};
 
+use crate::kind::Command;
 use layout::{Item, KEY_BYTES, Level, PAIR_BYTES};
 
 const MOST_BATCH: usize = 40000;
@@ -15,13 +16,19 @@ pub const READ_KEY: usize = 3;
 // A command to write: its code, level and number stand in front of the key; the room, and then the rows, behind it.
 pub const WRITE_KEY: usize = 8;
 
+const fn key_bytes(item: Item) -> usize
+    ensures { result ≤ 78 }
+{
+    match item {
+        Item::Contract => KEY_BYTES,
+        Item::Pair => PAIR_BYTES,
+    }
+}
+
 pub fn write_room(item: Item) -> usize
     ensures { result ≤ 86 }
 {
-    match item {
-        Item::Contract => WRITE_KEY + KEY_BYTES,
-        Item::Pair => WRITE_KEY + PAIR_BYTES,
-    }
+    WRITE_KEY + key_bytes(item)
 }
 
 pub fn write_front(item: Item) -> usize
@@ -30,18 +37,15 @@ pub fn write_front(item: Item) -> usize
     write_room(item) + 2
 }
 
-// The bytes by which a command tells its length; 0 where there is no such command.
-pub fn front_of(command: u8) -> usize {
+// The bytes by which a command tells its length.
+pub fn front_of(command: Command) -> usize {
     match command {
-        b'S' | b'O' => 2,
-        b'G' => 4,
-        b'J' | b'K' | b'L' | b'X' => LENGTH_FRONT,
-        b'M' | b'P' => 9,
-        b'R' => READ_KEY + KEY_BYTES,
-        b'Q' => READ_KEY + PAIR_BYTES,
-        b'W' => write_front(Item::Contract),
-        b'V' => write_front(Item::Pair),
-        _ => 0,
+        Command::Start | Command::Off => 2,
+        Command::Gaps => 4,
+        Command::Judge | Command::Take | Command::List | Command::Spreads => LENGTH_FRONT,
+        Command::Lend | Command::Store => 9,
+        Command::Read(item) => READ_KEY + key_bytes(item),
+        Command::Write(item) => write_front(item),
     }
 }
 
@@ -52,53 +56,38 @@ pub fn rows_at(item: Item, level: Level) -> usize
     slots::record_rows(item, level)
 }
 
-// The same by a level's byte; 0 where there is no such level.
-fn rows_of(item: Item, level: u8) -> usize
-    ensures { result ≤ most }
-{
-    match level {
-        b'1' => rows_at(item, Level::One),
-        b'2' => rows_at(item, Level::Two),
-        _ => 0,
+pub fn level_of(byte: u8) -> Option<Level> {
+    match byte {
+        b'1' => Some(Level::One),
+        b'2' => Some(Level::Two),
+        _ => None,
     }
 }
 
 // With so many bytes behind its length.
-fn with_length(bytes: &[u8], most: usize) -> usize {
+fn with_length(bytes: &[u8], most: usize) -> Option<usize> {
     let length = wire::u32_at(bytes, 1) as usize;
     if most < length {
-        return 0;
+        return None;
     }
-    LENGTH_FRONT + length
+    Some(LENGTH_FRONT + length)
 }
 
-fn read_length(level: u8, front: usize) -> usize {
-    match level {
-        b'1' | b'2' => front,
-        _ => 0,
-    }
-}
-
-fn write_length(item: Item, level: u8) -> usize {
-    let rows = rows_of(item, level);
-    if rows == 0 {
-        return 0;
-    }
-    write_front(item) + 8 * rows
-}
-
-// The bytes of the command that begins here, of which `front` tell its length; 0 where the reading ends with it.
-pub fn length_of(bytes: &[u8], front: usize) -> usize {
+// The bytes of the command that begins here; none where the reading ends with it.
+pub fn length_of(command: Command, bytes: &[u8]) -> Option<usize> {
+    let front = front_of(command);
     if bytes.len() < front {
-        return 0;
+        return None;
     }
-    match wire::u8_at(bytes, 0) {
-        b'S' => 2 + 4 * (wire::u8_at(bytes, 1) as usize),
-        b'J' | b'K' => with_length(bytes, MOST_BATCH),
-        b'L' | b'X' => with_length(bytes, console::MOST_LIST),
-        b'R' | b'Q' => read_length(wire::u8_at(bytes, 2), front),
-        b'W' => write_length(Item::Contract, wire::u8_at(bytes, 3)),
-        b'V' => write_length(Item::Pair, wire::u8_at(bytes, 3)),
-        _ => front,
+    match command {
+        Command::Start => Some(2 + 4 * (wire::u8_at(bytes, 1) as usize)),
+        Command::Judge | Command::Take => with_length(bytes, MOST_BATCH),
+        Command::List | Command::Spreads => with_length(bytes, console::MOST_LIST),
+        Command::Read(_) => level_of(wire::u8_at(bytes, 2)).map(|_| front),
+        Command::Write(item) => {
+            let level = level_of(wire::u8_at(bytes, 3))?;
+            Some(front + 8 * rows_at(item, level))
+        }
+        _ => Some(front),
     }
 }

@@ -3,10 +3,10 @@
 
 mod fields;
 mod input;
+mod kind;
 mod length;
 
-pub use fields::{
-    batch_in, code_in, key_at, level_of, pair_at, quote_in, room_in, spread_in, starts_in,
-};
-pub use input::{Command, next};
+pub use fields::{batch_in, code_in, key_at, level_at, quote_in, room_in, spread_in, starts_in};
+pub use input::next;
+pub use kind::Command;
 pub use length::{LENGTH_FRONT, READ_KEY, WRITE_KEY};

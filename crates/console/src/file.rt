@@ -1,7 +1,7 @@
 // The file `contracts`.
 ghost use Rattle.io.specs.Counts.{IsPrefixLen};
 
-use crate::input;
+use crate::room;
 use std::fs;
 use std::rt::Files;
 
@@ -16,10 +16,7 @@ pub fn read_contracts(rt: &impl Files, room: &mut [u8]) -> usize
     ensures { IsPrefixLen result room.new }
 {
     match fs::open(rt, "contracts") {
-        Ok(mut file) => match input::read_all(&mut file, room) {
-            Ok(size) => size,
-            Err(_) => 0,
-        },
+        Ok(mut file) => room::read_all(&mut file, room).unwrap_or(0),
         Err(_) => 0,
     }
 }

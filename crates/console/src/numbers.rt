@@ -1,39 +1,43 @@
 // Numbers of what was read, big endian, each as wide as the cells that they go to. Behind the end they are 0.
-ghost use Rattle.std.specs.Prelude.{◌≡◌, ◌≤◌, min, length};
+ghost use Rattle.std.specs.Prelude.{◌≡◌, ◌*◌, ◌+◌, ◌≤◌, length};
 
-// Cells beyond a program's memory count as all of it.
-pub fn least(a: usize, b: usize) -> usize
-    ensures { result ≡ min a b }
-{
-    if a < b { a } else { b }
+// A cell's number, where it is a byte or more wide.
+pub trait Cell {
+    const BYTES: u8;
+
+    fn read(bytes: &[u8], at: usize) -> Self;
 }
 
-pub fn bytes_at(bytes: &[u8], at: usize, cells: &mut [u8])
-    requires { (at ≤ 65535) × (length cells.old ≤ 65535) }
-{
-    let mut i = 0;
-    while i < cells.len() {
-        cells[i] = wire::u8_at(bytes, at + i);
-        i += 1;
+impl Cell for u8 {
+    const BYTES: u8 = 1;
+
+    fn read(bytes: &[u8], at: usize) -> u8 {
+        wire::u8_at(bytes, at)
     }
 }
 
-pub fn u32s_at(bytes: &[u8], at: usize, cells: &mut [u32])
-    requires { (at ≤ 65535) × (length cells.old ≤ 65535) }
-{
-    let mut i = 0;
-    while i < cells.len() {
-        cells[i] = wire::u32_at(bytes, at + 4 * i);
-        i += 1;
+impl Cell for u32 {
+    const BYTES: u8 = 4;
+
+    fn read(bytes: &[u8], at: usize) -> u32 {
+        wire::u32_at(bytes, at)
     }
 }
 
-pub fn u64s_at(bytes: &[u8], at: usize, cells: &mut [u64])
+impl Cell for u64 {
+    const BYTES: u8 = 8;
+
+    fn read(bytes: &[u8], at: usize) -> u64 {
+        wire::u64_at(bytes, at)
+    }
+}
+
+pub fn cells_at<C: Cell + Copy>(bytes: &[u8], at: usize, cells: &mut [C])
     requires { (at ≤ 65535) × (length cells.old ≤ 65535) }
 {
-    let mut i = 0;
-    while i < cells.len() {
-        cells[i] = wire::u64_at(bytes, at + 8 * i);
-        i += 1;
+    let mut place = at;
+    for cell in cells.iter_mut() {
+        *cell = C::read(bytes, place);
+        place += C::BYTES as usize;
     }
 }

@@ -1,4 +1,4 @@
-// The calls over a lent row of runs, with the program's row handed over and given back.
+// What a program lends to the calls over runs, with a row of its own.
 #![tactic(auto)]
 
 ghost use Rattle.pairs.specs.Lists.{lists};
@@ -10,56 +10,41 @@ use runs::Run;
 // The runs of the gap rows of as many segments as a list may have.
 pub const RUNS: usize = runs::MOST;
 
-#[derive(Clone, Copy)]
-pub struct Began {
-    pub answer: Result<(), Refusal>,
+#[derive(Drop)]
+pub struct Lent<'a, const RECORDS: usize> {
+    pub list: &'a [u8],
+    pub spreads: &'a [u8],
     pub rows: [Run; RUNS],
+    pub records: [u64; RECORDS],
 }
 
-#[derive(Clone, Copy)]
-pub struct Took {
-    pub answer: Judged,
-    pub rows: [Run; RUNS],
-}
+impl<'a, const RECORDS: usize> Lent<'a, RECORDS> {
+    pub fn start(&mut self, starts: &[u32]) -> Result<(), Refusal>
+        ensures { StartedRuns (lists self.old.list.now self.old.spreads.now) starts.now self.old.rows self.old.records result self.new.rows self.new.records }
+    {
+        let list = self.list;
+        let spreads = self.spreads;
+        runs::start(list, spreads, starts, &mut self.rows, &mut self.records)
+    }
 
-pub fn start(
-    list: &[u8],
-    spreads: &[u8],
-    starts: &[u32],
-    rows: [Run; RUNS],
-    records: &mut [u64],
-) -> Began
-    ensures { StartedRuns (lists list.now spreads.now) starts.now rows records.old result.answer result.rows records.new }
-{
-    let mut lent = rows;
-    let answer = runs::start(list, spreads, starts, &mut lent, records);
-    Began { answer, rows: lent }
-}
+    pub fn take(&mut self, batch: &[u8]) -> Judged
+        ensures { TookRuns (lists self.old.list.now self.old.spreads.now) self.old.rows self.old.records batch.now result self.new.rows self.new.records }
+    {
+        let list = self.list;
+        let spreads = self.spreads;
+        runs::take(list, spreads, &mut self.rows, &mut self.records, batch)
+    }
 
-pub fn take(
-    list: &[u8],
-    spreads: &[u8],
-    rows: [Run; RUNS],
-    records: &mut [u64],
-    batch: &[u8],
-) -> Took
-    ensures { TookRuns (lists list.now spreads.now) rows records.old batch.now result.answer result.rows records.new }
-{
-    let mut lent = rows;
-    let answer = runs::take(list, spreads, &mut lent, records, batch);
-    Took { answer, rows: lent }
-}
-
-pub fn list_gaps(
-    list: &[u8],
-    spreads: &[u8],
-    rows: [Run; RUNS],
-    records: &[u64],
-    letter: u8,
-    cells: &mut [u32],
-) -> Result<GapsListed, Refusal>
-    ensures { ListedGaps (lists list.now spreads.now) rows records.now letter cells.old result cells.new }
-{
-    let lent = rows;
-    runs::list_gaps(list, spreads, &lent, records, letter, cells)
+    pub fn list_gaps(&self, letter: u8, cells: &mut [u32]) -> Result<GapsListed, Refusal>
+        ensures { ListedGaps (lists self.now.list.now self.now.spreads.now) self.now.rows self.now.records letter cells.old result cells.new }
+    {
+        runs::list_gaps(
+            self.list,
+            self.spreads,
+            &self.rows,
+            &self.records,
+            letter,
+            cells,
+        )
+    }
 }

@@ -1,25 +1,31 @@
 // Checksums, numbers read and numbers written.
-use crate::say::{say, say_bytes, say_with};
 use amount::{Amount, Difference, FieldFault, Held, Price, Quantity, Turnover};
 use std::io;
+use std::io::Write;
 
-pub fn say_sum(rt: &impl Print, text: &[u8]) -> io::Result<()> {
+pub fn put_sum(page: &mut impl Write, text: &[u8]) -> io::Result<()> {
     let sent = checksum::sent(checksum::sum(text));
-    say_with(rt, b"", sent[0] as u64)?;
-    say_with(rt, b" ", sent[1] as u64)
+    write!(page, "{} {}", sent[0], sent[1])
 }
 
-pub fn say_number(rt: &impl Print, number: Result<Held, FieldFault>) -> io::Result<()> {
+pub fn put_number(page: &mut impl Write, number: Result<Held, FieldFault>) -> io::Result<()> {
     match number {
-        Ok(Held::Nothing) => say(rt, b"none"),
-        Ok(Held::Units(units)) => say_with(rt, b"amount ", units),
-        Ok(Held::Below(units)) => say_with(rt, b"below ", units),
-        Err(FieldFault::Malformed) => say(rt, b"malformed"),
-        Err(FieldFault::OutOfRange) => say(rt, b"out of range"),
+        Ok(Held::Nothing) => write!(page, "none"),
+        Ok(Held::Units(units)) => write!(page, "amount {units}"),
+        Ok(Held::Below(units)) => write!(page, "below {units}"),
+        Err(FieldFault::Malformed) => write!(page, "malformed"),
+        Err(FieldFault::OutOfRange) => write!(page, "out of range"),
     }
 }
 
-fn put(kind: u8, below: bool, units: u64, field: &mut [u8]) -> Result<(), FieldFault> {
+// What was written, in brackets.
+pub fn put_bytes(page: &mut impl Write, text: &[u8]) -> io::Result<()> {
+    page.write_all(b"[")?;
+    page.write_all(text)?;
+    page.write_all(b"]")
+}
+
+fn write_number(kind: u8, below: bool, units: u64, field: &mut [u8]) -> Result<(), FieldFault> {
     match kind {
         b'p' => Price::of(units).write(field),
         b'd' => Difference::of(below, units).write(field),
@@ -28,26 +34,15 @@ fn put(kind: u8, below: bool, units: u64, field: &mut [u8]) -> Result<(), FieldF
     }
 }
 
-fn say_field(
-    rt: &impl Print,
-    kind: u8,
-    below: bool,
-    units: u64,
-    field: &mut [u8],
-) -> io::Result<()> {
-    match put(kind, below, units, field) {
-        Ok(()) => say_bytes(rt, field),
-        Err(_) => say(rt, b"refused"),
-    }
-}
-
 // What is asked has eight bytes for the units, one for the width, and of a difference a 1 where it is below zero.
-pub fn say_text(rt: &impl Print, kind: u8, asked: &[u8], room: &mut [u8]) -> io::Result<()> {
+pub fn put_text(page: &mut impl Write, kind: u8, asked: &[u8]) -> io::Result<()> {
     let units = wire::u64_at(asked, 0);
     let width = wire::u8_at(asked, 8) as usize;
     let below = wire::u8_at(asked, 9) == 1;
-    if width <= room.len() {
-        say_field(rt, kind, below, units, &mut room[0..width])?;
+    let mut room = [0; 255];
+    let field = &mut room[..width];
+    match write_number(kind, below, units, field) {
+        Ok(()) => put_bytes(page, field),
+        Err(_) => write!(page, "refused"),
     }
-    Ok(())
 }

@@ -5,75 +5,79 @@
 mod gaps;
 mod leaves;
 mod lists;
-mod say;
 mod updates;
 
+ghost use Rattle.std.specs.Prelude.{◌≤◌, IfOk, IfSome, length};
+
 use amount::{Amount, Difference, Price, Quantity, Turnover};
-use say::say;
+use console::{Page, Room};
 use sequence::CELLS;
-use std::io::Result;
+use std::io::{Read, Result, Write};
 
-fn answer(rt: &impl Print, kind: u8, asked: &[u8], row: &mut [u32; CELLS]) -> Result<()> {
+fn answer(page: &mut impl Write, kind: u8, asked: &[u8], row: &mut [u32; CELLS]) -> Result<()> {
     match kind {
-        b'C' => leaves::say_sum(rt, asked),
-        b'P' => leaves::say_number(rt, Price::read(asked)),
-        b'D' => leaves::say_number(rt, Difference::read(asked)),
-        b'Q' => leaves::say_number(rt, Quantity::read(asked)),
-        b'T' => leaves::say_number(rt, Turnover::read(asked)),
-        b'L' => lists::say_list(rt, asked),
-        b'K' => lists::say_key(rt, asked, files::CONTRACTS),
-        b'V' => lists::say_key(rt, asked, pairs::PAIRS),
-        b'X' => lists::say_spreads(rt, asked),
-        b'Z' => lists::say_no_spreads(rt, asked, &mut io::buffer()),
-        b'S' => gaps::say_start(rt, row, wire::u32_at(asked, 0)),
-        b'N' => gaps::say_taken(rt, row, wire::u32_at(asked, 0)),
-        b'O' => gaps::say_off(rt, row),
-        b'G' => gaps::say_gaps(rt, row),
-        b'B' => gaps::say_back(rt, asked),
-        b'U' => updates::say_read(rt, asked),
-        b'W' => updates::say_written(rt, asked, &mut io::buffer()),
-        _ => leaves::say_text(rt, kind, asked, &mut io::buffer()),
+        b'C' => leaves::put_sum(page, asked),
+        b'P' => leaves::put_number(page, Price::read(asked)),
+        b'D' => leaves::put_number(page, Difference::read(asked)),
+        b'Q' => leaves::put_number(page, Quantity::read(asked)),
+        b'T' => leaves::put_number(page, Turnover::read(asked)),
+        b'L' => lists::put_list(page, asked),
+        b'K' => lists::put_key(page, asked, files::CONTRACTS),
+        b'V' => lists::put_key(page, asked, pairs::PAIRS),
+        b'X' => lists::put_spreads(page, asked),
+        b'Z' => lists::put_no_spreads(page, asked),
+        b'S' => gaps::put_start(page, row, wire::u32_at(asked, 0)),
+        b'N' => gaps::put_taken(page, row, wire::u32_at(asked, 0)),
+        b'O' => gaps::put_off(page, row),
+        b'G' => gaps::put_gaps(page, row),
+        b'B' => gaps::put_back(page, asked),
+        b'U' => updates::put_read(page, asked),
+        b'W' => updates::put_written(page, asked),
+        _ => leaves::put_text(page, kind, asked),
     }?;
-    say(rt, b"\n")
+    writeln!(page, "")
 }
 
-fn ask<R: Input + Print>(
-    rt: &R,
-    kind: u8,
-    asked: &mut [u8],
-    row: &mut [u32; CELLS],
-) -> Result<bool> {
-    if console::read_all(&mut rt.reader(), asked)? < asked.len() {
-        return Ok(false);
-    }
-    answer(rt, kind, asked, row)?;
-    Ok(true)
-}
-
-// One question; false where the input ends.
-fn one_more<R: Input + Print>(rt: &R, room: &mut [u8], row: &mut [u32; CELLS]) -> Result<bool> {
-    let mut head = [0u8; 3];
-    if console::read_all(&mut rt.reader(), &mut head)? < 3 {
-        return Ok(false);
+// The kind of the next question, and its size: all its bytes are yet to be used. None where the input ends.
+fn next<R: Read, W: Write, const N: usize>(
+    input: &mut R,
+    room: &mut Room<N>,
+    page: &mut W,
+) -> Result<Option<(u8, usize)>>
+    ensures { IfOk result (λ next. IfSome next (λ question. question.1 ≤ length room.new)) }
+{
+    room.fill(input, page, 3)?;
+    let head = room.unread();
+    if head.len() < 3 {
+        return Ok(None);
     }
     let kind = head[0];
-    let size = wire::u16_at(&head, 1) as usize;
-    if room.len() < size {
-        return Ok(false);
+    let size = wire::u16_at(head, 1) as usize;
+    room.consume(3);
+    room.fill(input, page, size)?;
+    if room.unread().len() < size {
+        return Ok(None);
     }
-    ask(rt, kind, &mut room[0..size], row)
+    Ok(Some((kind, size)))
 }
 
-fn all<R: Input + Print>(rt: &R, room: &mut [u8], row: &mut [u32; CELLS]) -> Result<()> {
-    let mut turns: u64 = 0;
-    while turns < console::LAST_TURN {
-        turns = console::turn_after(turns, one_more(rt, room, row)?);
+// Every question. A proved loop has to end, so the questions are counted, up to a number that no run reaches.
+fn run<R: Read, W: Write>(input: &mut R, page: &mut W) -> Result<()> {
+    let mut room: Room<65536> = Room::new();
+    let mut row = [0; CELLS];
+    for _ in 0..u64::MAX {
+        let Some((kind, size)) = next(input, &mut room, page)? else {
+            break;
+        };
+        answer(page, kind, &room.unread()[..size], &mut row)?;
+        room.consume(size);
     }
     Ok(())
 }
 
 fn main(rt: HostRuntime) -> Result<()> {
-    let mut row = [0u32; CELLS];
-    all(&rt, &mut io::large_buffer(), &mut row)?;
-    say(&rt, b"end\n")
+    let mut page: Page<HostRuntime, 4096> = Page::new(&rt);
+    run(&mut rt.reader(), &mut page)?;
+    writeln!(page, "end")?;
+    page.flush()
 }

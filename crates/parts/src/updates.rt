@@ -1,7 +1,10 @@
 // The rows of an update, read and written.
-use crate::say::{say, say_bytes, say_numbers, say_with};
+use crate::leaves;
 use layout::{BadRow, Form, MOST_ROWS};
-use std::io::Result;
+use std::io::{Result, Write};
+
+// The most bytes of an update's data that are shown.
+const ROOM: usize = 4096;
 
 // The form of a contract that a byte stands for: of D's and of F's one of each level.
 fn form_of(byte: u8) -> Form {
@@ -13,62 +16,52 @@ fn form_of(byte: u8) -> Form {
     }
 }
 
-fn say_cells(rt: &impl Print, cells: &[u64; MOST_ROWS], count: usize) -> Result<()> {
-    say_numbers(rt, cells, count)
+fn put_bad_row(page: &mut impl Write, bad: BadRow) -> Result<()> {
+    match bad {
+        BadRow::Field(row) => write!(page, "field {row}"),
+        BadRow::Range(row) => write!(page, "range {row}"),
+    }
 }
 
-fn say_bad_row(rt: &impl Print, bad: BadRow) -> Result<()> {
-    match bad {
-        BadRow::Field(row) => say_with(rt, b"field ", row as u64),
-        BadRow::Range(row) => say_with(rt, b"range ", row as u64),
+fn put_cells(page: &mut impl Write, cells: &[u64], count: usize) -> Result<()> {
+    write!(page, "good")?;
+    for cell in cells.iter().take(count) {
+        write!(page, " {cell}")?;
     }
+    Ok(())
 }
 
 // A form's byte, and the data.
-pub fn say_read(rt: &impl Print, asked: &[u8]) -> Result<()> {
-    let form = form_of(wire::u8_at(asked, 0));
-    if asked.len() == 0 {
+pub fn put_read(page: &mut impl Write, asked: &[u8]) -> Result<()> {
+    let Some((byte, text)) = asked.split_first() else {
         return Ok(());
-    }
-    let mut cells = [0u64; MOST_ROWS];
-    match layout::read_update(form, &asked[1..], &mut cells) {
-        Ok(()) => {
-            say(rt, b"good")?;
-            say_cells(rt, &cells, rows::count_of(form))
-        }
-        Err(row) => say_bad_row(rt, row),
+    };
+    let form = form_of(*byte);
+    let mut cells = [0; MOST_ROWS];
+    match layout::read_update(form, text, &mut cells) {
+        Ok(()) => put_cells(page, &cells, rows::count_of(form)),
+        Err(bad) => put_bad_row(page, bad),
     }
 }
 
 fn values_in(asked: &[u8]) -> [u64; MOST_ROWS] {
-    let mut values = [0u64; MOST_ROWS];
-    console::u64s_at(asked, 40, &mut values);
+    let mut values = [0; MOST_ROWS];
+    console::cells_at(asked, 40, &mut values);
     values
 }
 
-fn say_data(
-    rt: &impl Print,
-    form: Form,
-    key: &[u8],
-    values: &[u64; MOST_ROWS],
-    data: &mut [u8],
-) -> Result<()> {
-    match compose::write_update(form, key, values, data) {
-        Ok(()) => say_bytes(rt, data),
-        Err(row) => say_bad_row(rt, row),
-    }
-}
-
 // A form's byte, a key of 39 bytes, and a value of eight for each row.
-pub fn say_written(rt: &impl Print, asked: &[u8], data: &mut [u8]) -> Result<()> {
+pub fn put_written(page: &mut impl Write, asked: &[u8]) -> Result<()> {
     if asked.len() < 40 {
         return Ok(());
     }
     let form = form_of(asked[0]);
-    let size = layout::data_length(form);
-    let values = values_in(asked);
-    if size <= data.len() {
-        say_data(rt, form, &asked[1..40], &values, &mut data[0..size])?;
+    let mut room = [0; ROOM];
+    let Some(data) = room.get_mut(..layout::data_length(form)) else {
+        return Ok(());
+    };
+    match compose::write_update(form, &asked[1..40], &values_in(asked), data) {
+        Ok(()) => leaves::put_bytes(page, data),
+        Err(bad) => put_bad_row(page, bad),
     }
-    Ok(())
 }

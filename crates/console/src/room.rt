@@ -1,0 +1,112 @@
+// Standard input in large pieces.
+ghost use Rattle.std.specs.Prelude.{◌≡◌, ℕ, ◌-◌, ◌≤◌, List, [], IfOk, length, take, drop, OnErr};
+ghost use Rattle.io.specs.Counts.{IsPrefixLen};
+
+use std::io::{Read, Result, Write};
+use std::marker::Model;
+
+// A room holds what was read: from `at` up to `end` it is yet to be used.
+#[derive(Drop)]
+pub struct Room<const N: usize> {
+    bytes: [u8; N],
+    at: usize,
+    end: usize,
+}
+
+// Clauses see the bytes that are yet to be used.
+impl<const N: usize> Model for Room<N> {
+    ghost Value = { List ℕ };
+
+    ghost view = { λ r. take (r.end - r.at) (drop r.at r.bytes) };
+
+    ghost invariant = { λ r. (r.at ≤ r.end) × (r.end ≤ N) };
+}
+
+impl<const N: usize> Room<N> {
+    pub fn new() -> Self
+        ensures { result ≡ [] }
+    {
+        Room {
+            bytes: [0; N],
+            at: 0,
+            end: 0,
+        }
+    }
+
+    // What is yet to be used.
+    pub fn unread(&self) -> &[u8]
+        ensures { result.now ≡ self.now }
+    {
+        let all = &self.bytes[..];
+        &all[self.at..self.end]
+    }
+
+    // So many bytes are used.
+    pub fn consume(&mut self, count: usize)
+        requires { count ≤ length self.old }
+        ensures { self.new ≡ drop count self.old }
+    {
+        self.at += count;
+    }
+
+    // Has so many bytes yet to be used, or all that are left of the input. What was said is written out before more is waited for.
+    // Where writing or reading fails, the answer is that error. What was yet to be used still is, in front of what was read, after an
+    // error too: no byte of the input is lost or changed.
+    pub fn fill<R: Read, W: Write>(
+        &mut self,
+        input: &mut R,
+        out: &mut W,
+        wanted: usize,
+    ) -> Result<()>
+        ensures { take (length self.old) self.new ≡ self.old }
+    {
+        let left = self.end - self.at;
+        if wanted <= left {
+            return Ok(());
+        }
+        out.flush()?;
+        self.bytes.copy_within(self.at..self.end, 0);
+        self.at = 0;
+        self.end = left;
+        self.end = read_until(input, &mut self.bytes, left, wanted)?;
+        Ok(())
+    }
+}
+
+// One read behind what is there: where it ends now, and where it ended where nothing came. What is there stays, after an error too.
+fn read_behind<R: Read>(input: &mut R, room: &mut [u8], end: usize) -> Result<usize>
+    requires { end ≤ length room.old }
+    ensures lower_bound { IfOk result (λ answer. (end ≤ answer) × (answer ≤ length room.old)) }
+    ensures room_unchanged { take end room.new ≡ take end room.old }
+{
+    let got = input.read(&mut room[end..])?;
+    Ok(end + got)
+}
+
+// Reads until the room holds so many bytes from its front on, is full, or the input ends: a short read is not the end. What is there
+// stays, after an error too.
+fn read_until<R: Read>(input: &mut R, room: &mut [u8], from: usize, wanted: usize) -> Result<usize>
+    requires { from ≤ length room.old }
+    ensures lower_bound { IfOk result (λ answer. (from ≤ answer) × (answer ≤ length room.old)) }
+    ensures room_unchanged { take from room.new ≡ take from room.old }
+{
+    let mut end = from;
+    while end < wanted {
+        let more = read_behind(input, room, end)?;
+        if more == end {
+            break;
+        }
+        end = more;
+    }
+    Ok(end)
+}
+
+// Reads until the room is full or the input ends, and answers how many bytes it put at the room's start. After an error the room
+// holds some of what came.
+pub fn read_all<R: Read>(input: &mut R, room: &mut [u8]) -> Result<usize>
+    ensures reads { IfOk result (λ size. IsPrefixLen size room.new) }
+    ensures failed { OnErr result (length room.new ≡ length room.old) }
+{
+    let wanted = room.len();
+    read_until(input, room, 0, wanted)
+}

@@ -1,4 +1,6 @@
 // The gaps, listed and written off.
+ghost use Rattle.answers.specs.Room.{SameRoom};
+
 use crate::Lent;
 use std::io::{Result, Write};
 
@@ -19,7 +21,9 @@ pub fn list(page: &mut impl Write, bytes: &[u8], lent: &Lent) -> Result<()> {
     lines::put_listed(page, listed, &cells)
 }
 
-pub fn off(page: &mut impl Write, bytes: &[u8], lent: &mut Lent) -> Result<()> {
+pub fn off(page: &mut impl Write, bytes: &[u8], lent: &mut Lent) -> Result<()>
+    ensures { SameRoom lent.old lent.new }
+{
     let letter = wire::u8_at(bytes, 1);
     let list = lent.list;
     let spreads = lent.spreads;

@@ -5,6 +5,8 @@ mod gaps;
 mod messages;
 mod records;
 
+ghost use Rattle.answers.specs.Room.{SameRoom};
+
 use commands::Command;
 pub use messages::beside;
 use std::io::{Result, Write};
@@ -18,7 +20,9 @@ pub struct Lent<'a> {
     pub records: &'a mut [u64],
 }
 
-fn start(page: &mut impl Write, bytes: &[u8], lent: &mut Lent) -> Result<()> {
+fn start(page: &mut impl Write, bytes: &[u8], lent: &mut Lent) -> Result<()>
+    ensures { SameRoom lent.old lent.new }
+{
     let starts = commands::starts_in(bytes);
     let count = wire::u8_at(bytes, 1) as usize;
     let starts = &starts[..count];
@@ -34,7 +38,9 @@ fn judge(page: &mut impl Write, bytes: &[u8], lent: &Lent) -> Result<()> {
     lines::put_judged(page, "judge", judged)
 }
 
-fn take(page: &mut impl Write, bytes: &[u8], lent: &mut Lent) -> Result<()> {
+fn take(page: &mut impl Write, bytes: &[u8], lent: &mut Lent) -> Result<()>
+    ensures { SameRoom lent.old lent.new }
+{
     let batch = commands::batch_in(bytes);
     let list = lent.list;
     let spreads = lent.spreads;
@@ -48,7 +54,9 @@ pub fn answer(
     command: Command,
     bytes: &[u8],
     lent: &mut Lent,
-) -> Result<()> {
+) -> Result<()>
+    ensures { SameRoom lent.old lent.new }
+{
     match command {
         Command::Start => start(page, bytes, lent),
         Command::Judge => judge(page, bytes, lent),

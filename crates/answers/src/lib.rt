@@ -49,12 +49,7 @@ fn take(page: &mut impl Write, bytes: &[u8], lent: &mut Lent) -> Result<()>
 }
 
 // A command that makes no call has no line.
-pub fn answer(
-    page: &mut impl Write,
-    command: Command,
-    bytes: &[u8],
-    lent: &mut Lent,
-) -> Result<()>
+pub fn answer(page: &mut impl Write, command: Command, bytes: &[u8], lent: &mut Lent) -> Result<()>
     ensures { SameRoom lent.old lent.new }
 {
     match command {

@@ -1,4 +1,7 @@
 // The commands of the test bench, each by its letter.
+ghost use Rattle.std.specs.Prelude.{◌≡◌};
+ghost use Rattle.commands.specs.Letters.{command_of};
+
 use layout::Item;
 
 #[derive(Clone, Copy)]
@@ -19,7 +22,9 @@ pub enum Command {
 }
 
 impl Command {
-    pub fn of(letter: u8) -> Option<Command> {
+    pub fn of(letter: u8) -> Option<Command>
+        ensures { result ≡ command_of letter }
+    {
         match letter {
             b'S' => Some(Command::Start),
             b'J' => Some(Command::Judge),

@@ -12,6 +12,7 @@ pub const MOST_LIST: usize = 16384;
 pub const FILE_ROOM: usize = 16385;
 
 // Puts the file at the start of the room and answers how many bytes it has there: 0 where it is missing or can't be read.
+// Kept: a missing file is an empty list to every caller, so an Option would be taken apart at once.
 pub fn read_contracts(rt: &impl Files, room: &mut [u8]) -> usize
     ensures { IsPrefixLen result room.new }
 {

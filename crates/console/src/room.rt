@@ -91,6 +91,7 @@ fn read_until<R: Read>(input: &mut R, room: &mut [u8], from: usize, wanted: usiz
     ensures room_unchanged { take from room.new ≡ take from room.old }
 {
     let mut end = from;
+    // Kept: no index is counted, since a read brings as many bytes as it likes.
     while end < wanted {
         let more = read_behind(input, room, end)?;
         if more == end {

@@ -26,6 +26,7 @@ pub fn put_bytes(page: &mut impl Write, text: &[u8]) -> io::Result<()> {
 }
 
 fn write_number(kind: u8, below: bool, units: u64, field: &mut [u8]) -> Result<(), FieldFault> {
+    // Kept: as in `answer`, a letter stands once.
     match kind {
         b'p' => Price::of(units).write(field),
         b'd' => Difference::of(below, units).write(field),

@@ -15,6 +15,7 @@ use sequence::CELLS;
 use std::io::{Read, Result, Write};
 
 fn answer(page: &mut impl Write, kind: u8, asked: &[u8], row: &mut [u32; CELLS]) -> Result<()> {
+    // Kept: a letter stands once, in this match, where a table of closures would have a row for it and a search.
     match kind {
         b'C' => leaves::put_sum(page, asked),
         b'P' => leaves::put_number(page, Price::read(asked)),

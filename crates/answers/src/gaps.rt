@@ -1,4 +1,5 @@
 // The gaps, listed and written off.
+ghost use Rattle.std.specs.Prelude.{◌≡◌};
 ghost use Rattle.answers.specs.Room.{SameRoom};
 
 use crate::Lent;
@@ -22,7 +23,8 @@ pub fn list(page: &mut impl Write, bytes: &[u8], lent: &Lent) -> Result<()> {
 }
 
 pub fn off(page: &mut impl Write, bytes: &[u8], lent: &mut Lent) -> Result<()>
-    ensures { SameRoom lent.old lent.new }
+    ensures room { SameRoom lent.old lent.new }
+    ensures records { lent.new.records.now ≡ lent.old.records.now }
 {
     let letter = wire::u8_at(bytes, 1);
     let list = lent.list;

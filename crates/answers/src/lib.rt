@@ -48,10 +48,13 @@ fn take(page: &mut impl Write, bytes: &[u8], lent: &mut Lent) -> Result<()>
     lines::put_judged(page, "take", judged)
 }
 
-// A command that makes no call has no line.
-pub fn answer(page: &mut impl Write, command: Command, bytes: &[u8], lent: &mut Lent) -> Result<()>
+// By the command's letter; another letter, and a command that makes no call, has no line.
+pub fn answer(page: &mut impl Write, bytes: &[u8], lent: &mut Lent) -> Result<()>
     ensures { SameRoom lent.old lent.new }
 {
+    let Some(command) = Command::of(wire::u8_at(bytes, 0)) else {
+        return Ok(());
+    };
     match command {
         Command::Start => start(page, bytes, lent),
         Command::Judge => judge(page, bytes, lent),

@@ -12,7 +12,7 @@ use std::rt::Files;
 // What a command tells is kept, and its call is made with what is then lent.
 fn obey(page: &mut impl Write, command: Command, bytes: &[u8], memory: &mut Memory) -> Result<()> {
     memory.keep(command, bytes);
-    answers::answer(page, command, bytes, &mut memory.lent())
+    answers::answer(page, bytes, &mut memory.lent())
 }
 
 // Every command. A proved loop has to end, so the commands are counted, up to a number that no run reaches.

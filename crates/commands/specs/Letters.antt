@@ -1,6 +1,8 @@
 -- The letters of the test bench's commands: DECISIONS, "The test bench's commands".
 use Rattle.std.specs.Prelude.{ℕ, Option, Some, None, cond, ◌==◌}
 use Rattle.forms.specs.declared.forms.Item.TheVariants.{Contract, Pair}
+use Rattle.forms.specs.declared.rows.Level.{Level}
+use Rattle.forms.specs.declared.rows.Level.TheVariants.{One, Two}
 use Rattle.commands.specs.declared.kind.Command.{Command}
 use Rattle.commands.specs.declared.kind.Command.TheVariants as does
 
@@ -21,3 +23,7 @@ command_of letter =
     cond (letter == 0x58) (Some does.Spreads) (
     cond (letter == 0x50) (Some does.Store) (
     None)))))))))))))
+
+-- the level that a character stands for, `1` or `2`; none for another
+abbrev pub level_by : ℕ → Option Level
+level_by character = cond (character == 0x31) (Some One) (cond (character == 0x32) (Some Two) None)

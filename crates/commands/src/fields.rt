@@ -1,5 +1,7 @@
 // What a command tells.
-ghost use Rattle.std.specs.Prelude.{◌≤◌};
+ghost use Rattle.std.specs.Prelude.{◌≡◌, ◌≤◌, unwrap_or};
+ghost use Rattle.wire.specs.Number.{number_at};
+ghost use Rattle.commands.specs.Letters.{level_by};
 
 use crate::length;
 use layout::{Item, Level};
@@ -21,8 +23,10 @@ pub fn batch_in(bytes: &[u8]) -> &[u8] {
     bytes.get(length::LENGTH_FRONT..).unwrap_or(&[])
 }
 
-// A level's byte is looked at before the command is read: there are no others.
-pub fn level_at(bytes: &[u8], at: usize) -> Level {
+// A level's byte is looked at before the command is read: there are no others, and what is no 1 would be 2.
+pub fn level_at(bytes: &[u8], at: usize) -> Level
+    ensures { result ≡ unwrap_or (level_by (number_at 1 bytes.now at)) Level.Two }
+{
     length::level_of(wire::u8_at(bytes, at)).unwrap_or(Level::Two)
 }
 

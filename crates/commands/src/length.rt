@@ -1,5 +1,6 @@
 // How long a command is, by the bytes at its front.
-ghost use Rattle.std.specs.Prelude.{◌+◌, ◌≤◌};
+ghost use Rattle.std.specs.Prelude.{◌≡◌, ◌+◌, ◌≤◌};
+ghost use Rattle.commands.specs.Letters.{level_by};
 ghost use Rattle.values.specs.Values.{first, most};
 
 use crate::kind::Command;
@@ -56,7 +57,9 @@ pub fn rows_at(item: Item, level: Level) -> usize
     slots::record_rows(item, level)
 }
 
-pub fn level_of(byte: u8) -> Option<Level> {
+pub fn level_of(byte: u8) -> Option<Level>
+    ensures { result ≡ level_by byte }
+{
     match byte {
         b'1' => Some(Level::One),
         b'2' => Some(Level::Two),

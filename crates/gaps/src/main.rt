@@ -33,11 +33,12 @@ fn start<R: Read, W: Write>(
     list: &[u8],
     spreads: &[u8],
 ) -> Result<()> {
+    let mut records = [0; RECORD_CELLS];
     let mut lent = Lent {
         list,
         spreads,
         rows: [Run { first: 0, last: 0 }; RUNS],
-        records: [0; RECORD_CELLS],
+        records: &mut records,
     };
     match lent.start(&[1; contracts::MOST_SEGMENTS]) {
         Err(refusal) => report::put_refused_start(page, refusal),

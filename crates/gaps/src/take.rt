@@ -25,12 +25,7 @@ fn is_whole(batch: &[u8]) -> bool {
 }
 
 // Batch number `batch`, and its line where it is refused.
-fn take_batch<const RECORDS: usize>(
-    page: &mut impl Write,
-    batch: u64,
-    bytes: &[u8],
-    lent: &mut Lent<RECORDS>,
-) -> Result<()> {
+fn take_batch(page: &mut impl Write, batch: u64, bytes: &[u8], lent: &mut Lent) -> Result<()> {
     match lent.take(bytes) {
         Judged::Accepted(_, _, _, _) => Ok(()),
         Judged::Refused(refusal, _) => report::put_refused(page, batch, refusal),
@@ -53,11 +48,7 @@ fn next<R: Read, W: Write, const N: usize>(
 
 // All batches. The reading ends with the input, and behind a batch that is cut short or says it is too long. A proved loop has to end,
 // so the batches are counted, up to a number that no run reaches.
-pub fn take_all<R: Read, W: Write, const RECORDS: usize>(
-    input: &mut R,
-    page: &mut W,
-    lent: &mut Lent<RECORDS>,
-) -> Result<()> {
+pub fn take_all<R: Read, W: Write>(input: &mut R, page: &mut W, lent: &mut Lent) -> Result<()> {
     let mut room: Room<65536> = Room::new();
     for batch in 0..u64::MAX {
         let size = next(input, &mut room, page)?;

@@ -39,11 +39,7 @@ fn put_segment(page: &mut impl Write, letter: u8, highest: u32, runs: &[u32]) ->
     console::put_runs(page, &[letter, b' ', b'g', b'a', b'p', b' '], runs, b"\n")
 }
 
-fn put_listed<const RECORDS: usize>(
-    page: &mut impl Write,
-    lent: &Lent<RECORDS>,
-    letter: u8,
-) -> Result<()> {
+fn put_listed(page: &mut impl Write, lent: &Lent, letter: u8) -> Result<()> {
     let mut cells = [0u32; console::RUN_CELLS];
     match lent.list_gaps(letter, &mut cells) {
         Ok(GapsListed { highest, runs }) => put_segment(
@@ -57,7 +53,7 @@ fn put_listed<const RECORDS: usize>(
 }
 
 // The list: a heading, each segment in list order, and `end`.
-pub fn put_list<const RECORDS: usize>(page: &mut impl Write, lent: &Lent<RECORDS>) -> Result<()> {
+pub fn put_list(page: &mut impl Write, lent: &Lent) -> Result<()> {
     let list = lent.list;
     writeln!(page, "segment highest missing")?;
     for segment in 0..files::segments(list) {

@@ -81,7 +81,8 @@ fn keep(
 }
 
 // By what the update tells of: the records of its segment begin at `fronts`.
-// Kept: how many stores are kept stands beside their memory, since that is lent in one of three sizes and nothing is allocated.
+// Kept: how many stores are kept stands beside their memory, which is the batch's own array of one of five sizes, lent as a slice: a
+// struct of the two would be lent on in the same places and name both in each clause.
 pub fn keep_update(
     stores: &mut [u64],
     kept: usize,

@@ -18,6 +18,7 @@ impl Difference {
 
     pub const ZERO: Difference = Difference(false, 0);
 
+    // Kept: each kind has its constants and its constructor, so that no call takes one kind for another.
     pub fn of(below: bool, units: u64) -> Self
         ensures { (result.0 ≡ below) × (result.1 ≡ units) }
     {

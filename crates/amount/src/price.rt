@@ -17,6 +17,7 @@ impl Price {
 
     pub const ZERO: Price = Price(0);
 
+    // Kept: each kind has its constants and its constructor, so that no call takes one kind for another.
     pub fn of(units: u64) -> Self
         ensures { result.0 ≡ units }
     {

@@ -17,6 +17,7 @@ impl Quantity {
 
     pub const ZERO: Quantity = Quantity(0);
 
+    // Kept: each kind has its constants and its constructor, so that no call takes one kind for another.
     pub fn of(units: u64) -> Self
         ensures { result.0 ≡ units }
     {

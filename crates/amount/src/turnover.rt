@@ -17,6 +17,7 @@ impl Turnover {
 
     pub const ZERO: Turnover = Turnover(0);
 
+    // Kept: each kind has its constants and its constructor, so that no call takes one kind for another.
     pub fn of(units: u64) -> Self
         ensures { result.0 ≡ units }
     {

@@ -75,8 +75,7 @@ def point4():
     """small functions that compare, convert or pick a case by hand, and types that derive no more than Clone and Copy"""
     yield from lines(r"\bfn (least|at_most|is_\w+|takes_length|order_\w+|of_\w+|byte_in|session_\w+|\w+_numbers)\b")
     yield from lines(r"=> (true|false),$")
-    for n in lines(r"derive\(Clone, Copy\)"):
-        yield n
+    yield from lines(r"derive\(Clone, Copy\)")
 
 
 def point5():

@@ -35,7 +35,7 @@ fn start(page: &mut impl Write, bytes: &[u8], lent: &mut Lent) -> Result<()>
 fn judge(page: &mut impl Write, bytes: &[u8], lent: &Lent) -> Result<()> {
     let batch = commands::batch_in(bytes);
     let judged = quotebox::judge(lent.list, lent.spreads, lent.rows, lent.records, batch);
-    lines::put_judged(page, "judge", judged)
+    lines::put_judged(page, b"judge", judged)
 }
 
 fn take(page: &mut impl Write, bytes: &[u8], lent: &mut Lent) -> Result<()>
@@ -45,7 +45,7 @@ fn take(page: &mut impl Write, bytes: &[u8], lent: &mut Lent) -> Result<()>
     let list = lent.list;
     let spreads = lent.spreads;
     let judged = quotebox::take(list, spreads, lent.rows, lent.records, batch);
-    lines::put_judged(page, "take", judged)
+    lines::put_judged(page, b"take", judged)
 }
 
 // By the command's letter; another letter, and a command that makes no call, has no line.

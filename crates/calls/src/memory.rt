@@ -3,6 +3,7 @@ ghost use Rattle.std.specs.Prelude.{◌≤◌};
 
 use answers::Lent;
 use commands::Command;
+use std::rt::Files;
 
 // A gap row for each of as many segments as a list may have.
 const ROW_CELLS: usize = contracts::MOST_SEGMENTS * sequence::CELLS;
@@ -19,10 +20,6 @@ struct Cells<T: Copy + Drop, const N: usize> {
 }
 
 impl<T: Copy + Drop, const N: usize> Cells<T, N> {
-    fn new(all: [T; N]) -> Self {
-        Cells { all, lent: N }
-    }
-
     fn lend(&mut self, count: usize) {
         self.lent = count.min(N);
     }
@@ -55,14 +52,29 @@ pub struct Memory {
 }
 
 impl Memory {
-    // All of it is lent at first, beside a list of so many bytes.
-    pub fn new(list: [u8; console::FILE_ROOM], size: usize) -> Self {
+    // All of it is lent at first, beside the file `contracts` as the list; one that is too long counts as an empty list. Each array is
+    // made where it stays: handed on by value they took the program more than twice the stack.
+    pub fn new(rt: &impl Files) -> Self {
         let mut memory = Memory {
-            list: Cells::new(list),
-            spreads: Cells::new([0; console::MOST_LIST]),
-            rows: Cells::new([0; ROW_CELLS]),
-            records: Cells::new([0; RECORD_CELLS]),
+            list: Cells {
+                all: [0; console::FILE_ROOM],
+                lent: 0,
+            },
+            spreads: Cells {
+                all: [0; console::MOST_LIST],
+                lent: 0,
+            },
+            rows: Cells {
+                all: [0; ROW_CELLS],
+                lent: ROW_CELLS,
+            },
+            records: Cells {
+                all: [0; RECORD_CELLS],
+                lent: RECORD_CELLS,
+            },
         };
+        let size = console::read_contracts(rt, &mut memory.list.all);
+        let size = if console::MOST_LIST < size { 0 } else { size };
         memory.list.lend(size);
         memory.go_beside();
         memory

@@ -1,6 +1,7 @@
--- What putting a text on a page promises.
-use Rattle.std.specs.Prelude.{ℕ, ◌+◌, ◌≤◌, ◌≡◌, cond, List, leb, length}
+-- What putting a text on a page promises, and what reading leaves of a page.
+use Rattle.std.specs.Prelude.{ℕ, ◌+◌, ◌≤◌, ◌≡◌, ◌⊎◌, cond, List, leb, length}
 use Rattle.std.proofs.lemmas.List.Edits.{sets}
+use Rattle.console.specs.declared.page.Page.{Page}
 
 -- a word of our own: a text goes behind what the page has where both fit; else the page is empty again: how much of it is used
 abbrev pub used_with : List ℕ → ℕ → List ℕ → ℕ
@@ -15,3 +16,8 @@ pub record Put (page : List ℕ) (used : ℕ) (text : List ℕ) (answer : ℕ) (
   pub within : answer ≤ length page
   pub uses : answer ≡ used_with page used text
   pub says : page' ≡ page_with page used text
+
+-- a word of our own: the page has the bytes that it had; of these as many are used as were, or none, where they were written out
+pub record Stays {P : Type 0} {N : ℕ} (before after : Page P N) : Type 0 where
+  pub bytes : after.bytes ≡ before.bytes
+  pub used : (after.used ≡ before.used) ⊎ (after.used ≡ 0)

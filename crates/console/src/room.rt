@@ -2,6 +2,7 @@
 ghost use Rattle.std.specs.Prelude.{◌≡◌, ℕ, ◌-◌, ◌≤◌, List, [], IfOk, length, take, drop, OnErr};
 ghost use Rattle.io.specs.Counts.{IsPrefixLen};
 
+use crate::page::Page;
 use std::io::{Read, Result, Write};
 use std::marker::Model;
 
@@ -23,6 +24,8 @@ impl<const N: usize> Model for Room<N> {
 }
 
 impl<const N: usize> Room<N> {
+    ghost use Rattle.console.specs.Page.{Stays};
+
     pub fn new() -> Self
         ensures { result ≡ [] }
     {
@@ -51,20 +54,21 @@ impl<const N: usize> Room<N> {
 
     // Has so many bytes yet to be used, or all that are left of the input. What was said is written out before more is waited for.
     // Where writing or reading fails, the answer is that error. What was yet to be used still is, in front of what was read, after an
-    // error too: no byte of the input is lost or changed.
-    pub fn fill<R: Read, W: Write>(
+    // error too: no byte of the input is lost or changed, and none on the page.
+    pub fn fill<R: Read, P: Print, const M: usize>(
         &mut self,
         input: &mut R,
-        out: &mut W,
+        page: &mut Page<'_, P, M>,
         wanted: usize,
     ) -> Result<()>
-        ensures { take (length self.old) self.new ≡ self.old }
+        ensures kept { take (length self.old) self.new ≡ self.old }
+        ensures page { Stays page.old page.new }
     {
         let left = self.end - self.at;
         if wanted <= left {
             return Ok(());
         }
-        out.flush()?;
+        page.flush()?;
         self.bytes.copy_within(self.at..self.end, 0);
         self.at = 0;
         self.end = left;

@@ -27,9 +27,9 @@ fn has_too_many(list: &[u8]) -> bool {
 }
 
 // Every batch of standard input, and then the list.
-fn start<R: Read, W: Write>(
+fn start<R: Read, P: Print, const M: usize>(
     input: &mut R,
-    page: &mut W,
+    page: &mut Page<'_, P, M>,
     list: &[u8],
     spreads: &[u8],
 ) -> Result<()> {
@@ -51,7 +51,11 @@ fn start<R: Read, W: Write>(
 }
 
 // Starts with no spreads: a list that has no spread list without pairs is refused for the same reason at start.
-fn answer<R: Read, W: Write>(input: &mut R, page: &mut W, list: &[u8]) -> Result<()> {
+fn answer<R: Read, P: Print, const M: usize>(
+    input: &mut R,
+    page: &mut Page<'_, P, M>,
+    list: &[u8],
+) -> Result<()> {
     if console::MOST_LIST < list.len() {
         return report::put_refused_start(page, NO_ROOM);
     }

@@ -1,7 +1,9 @@
 // Taking the batches of standard input, one after the other.
 ghost use Rattle.std.specs.Prelude.{◌≤◌, IfOk, length};
+ghost use Rattle.console.specs.Page.{Stays};
+ghost use Rattle.lent.specs.Lists.{SameLists};
 
-use console::Room;
+use console::{Page, Room};
 use lent::Lent;
 use quotebox::Judged;
 use std::io::{Read, Result, Write};
@@ -25,7 +27,9 @@ fn is_whole(batch: &[u8]) -> bool {
 }
 
 // Batch number `batch`, and its line where it is refused.
-fn take_batch(page: &mut impl Write, batch: u64, bytes: &[u8], lent: &mut Lent) -> Result<()> {
+fn take_batch(page: &mut impl Write, batch: u64, bytes: &[u8], lent: &mut Lent) -> Result<()>
+    ensures { SameLists lent.old lent.new }
+{
     match lent.take(bytes) {
         Judged::Accepted(_, _, _, _) => Ok(()),
         Judged::Refused(refusal, _) => report::put_refused(page, batch, refusal),
@@ -33,12 +37,13 @@ fn take_batch(page: &mut impl Write, batch: u64, bytes: &[u8], lent: &mut Lent) 
 }
 
 // How many bytes the next batch has, as far as the input has them: all of these are yet to be used.
-fn next<R: Read, W: Write, const N: usize>(
+fn next<R: Read, P: Print, const N: usize, const M: usize>(
     input: &mut R,
     room: &mut Room<N>,
-    page: &mut W,
+    page: &mut Page<'_, P, M>,
 ) -> Result<usize>
-    ensures { IfOk result (λ size. size ≤ length room.new) }
+    ensures page { Stays page.old page.new }
+    ensures size { IfOk result (λ size. size ≤ length room.new) }
 {
     room.fill(input, page, FRONT)?;
     let wanted = length_of(room.unread());
@@ -48,7 +53,13 @@ fn next<R: Read, W: Write, const N: usize>(
 
 // All batches. The reading ends with the input, and behind a batch that is cut short or says it is too long. A proved loop has to end,
 // so the batches are counted, up to a number that no run reaches.
-pub fn take_all<R: Read, W: Write>(input: &mut R, page: &mut W, lent: &mut Lent) -> Result<()> {
+pub fn take_all<R: Read, P: Print, const M: usize>(
+    input: &mut R,
+    page: &mut Page<'_, P, M>,
+    lent: &mut Lent,
+) -> Result<()>
+    ensures { SameLists lent.old lent.new }
+{
     let mut room: Room<65536> = Room::new();
     for batch in 0..u64::MAX {
         let size = next(input, &mut room, page)?;

@@ -6,7 +6,8 @@ use Rattle.laws.specs.Lists.{take_min, drop_min, sets_append}
 use Rattle.std.proofs.lemmas.List.Edits.{sets, sets-eq}
 use Rattle.decimal.specs.declared.Kind.{Kind}
 use Rattle.decimal.specs.declared.Held.TheVariants.{Nothing, Units, Below}
-use Rattle.scan.specs.Answers.{Number, Says}
+use Rattle.scan.specs.Answers.{Number, Says, number_numbers}
+use Rattle.scan.specs.AnswersLaws.{number_told}
 use Rattle.scan.specs.Read.{read_as}
 use Rattle.scan.specs.ReadLaws.{reads_exactly}
 use Rattle.forms.specs.declared.rows.Row.{Row}
@@ -17,9 +18,10 @@ use Rattle.layout.specs.Cells.{minus, zeros_behind}
 use Rattle.layout.specs.Read.{SmallRead, of_number, number_cell, Outcome, read_rows, row_then, read_row, ReadsRows}
 
 -- what the number reader answers of a field, as its row's
-pub of_numbers : (kind : Kind) (field : List ℕ) (number : Number) {row : List ℕ} → number ≡ read_as kind field
+pub of_numbers : (kind : Kind) (field : List ℕ) (number : Number) {row : List ℕ} → number_numbers number ≡ number_numbers (read_as kind field)
     → row ≡ row_numbers (of_number number) → row ≡ row_numbers (number_cell kind field)
-of_numbers kind field number same e = e ∙ ap (λ (n : Number). row_numbers (of_number n)) same
+of_numbers kind field number same e =
+    e ∙ ap (λ (n : Number). row_numbers (of_number n)) (number_told number (read_as kind field) same)
 
 -- an amount that was read is in range, and every kind's range has cells
 read_said : (kind : Kind) → kind.most < minus - 2 → (field : List ℕ) (number : Number) → Says kind field number → SmallRead number
@@ -28,8 +30,8 @@ read_said kind small field (Ok (Units n)) says = omega (arith, says.1)
 read_said kind small field (Ok (Below n)) says = omega (arith, says.1)
 read_said kind small field (Err fault) says = tt
 
-pub read_small : (kind : Kind) → kind.most < minus - 2 → (field : List ℕ) (number : Number) → number ≡ read_as kind field → SmallRead number
-read_small kind small field number same = read_said kind small field number ((reads_exactly kind field number).0 (sym same))
+pub read_small : (kind : Kind) → kind.most < minus - 2 → (field : List ℕ) (number : Number) → number_numbers number ≡ number_numbers (read_as kind field) → SmallRead number
+read_small kind small field number same = read_said kind small field number ((reads_exactly kind field number).0 (sym (number_told number (read_as kind field) same)))
 
 -- cells read earlier stand in front
 abbrev pub behind : List ℕ → Outcome → Outcome

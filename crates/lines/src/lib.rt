@@ -24,17 +24,15 @@ pub fn put_started(page: &mut impl Write, answer: Result<(), Refusal>) -> io::Re
 }
 
 // `NAME ok` or `NAME refused`, the numbers of either, and how many keys were compared.
-pub fn put_judged(page: &mut impl Write, name: &str, answer: Judged) -> io::Result<()> {
+pub fn put_judged(page: &mut impl Write, name: &[u8], answer: Judged) -> io::Result<()> {
+    page.write_all(name)?;
     match answer {
         Judged::Accepted(taken, old, heartbeats, compared) => {
-            writeln!(page, "{name} ok {taken} {old} {heartbeats} {compared}")
+            writeln!(page, " ok {taken} {old} {heartbeats} {compared}")
         }
         Judged::Refused(refusal, compared) => {
             let [number, message, row, cells] = state::refusal_numbers(refusal);
-            writeln!(
-                page,
-                "{name} refused {number} {message} {row} {cells} {compared}"
-            )
+            writeln!(page, " refused {number} {message} {row} {cells} {compared}")
         }
     }
 }

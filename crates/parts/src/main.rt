@@ -40,10 +40,10 @@ fn answer(page: &mut impl Write, kind: u8, asked: &[u8], row: &mut [u32; CELLS])
 }
 
 // The kind of the next question, and its size: all its bytes are yet to be used. None where the input ends.
-fn next<R: Read, W: Write, const N: usize>(
+fn next<R: Read, P: Print, const N: usize, const M: usize>(
     input: &mut R,
     room: &mut Room<N>,
-    page: &mut W,
+    page: &mut Page<'_, P, M>,
 ) -> Result<Option<(u8, usize)>>
     ensures { IfOk result (λ next. IfSome next (λ question. question.1 ≤ length room.new)) }
 {
@@ -63,7 +63,7 @@ fn next<R: Read, W: Write, const N: usize>(
 }
 
 // Every question. A proved loop has to end, so the questions are counted, up to a number that no run reaches.
-fn run<R: Read, W: Write>(input: &mut R, page: &mut W) -> Result<()> {
+fn run<R: Read, P: Print, const M: usize>(input: &mut R, page: &mut Page<'_, P, M>) -> Result<()> {
     let mut room: Room<65536> = Room::new();
     let mut row = [0; CELLS];
     for _ in 0..u64::MAX {

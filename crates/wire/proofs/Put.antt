@@ -1,6 +1,6 @@
 -- Bytes that are put at a place: as many as there is room for.
 use Rattle.std.specs.Prelude.{ℕ, suc, ◌+◌, ◌-◌, ◌≤◌, ◌<◌, ◌≡◌, refl, ◌⊎◌, List, [], ◌∷◌, ◌++◌, length, take, drop, min}
-use Rattle.std.proofs.Common.{ap, ap₂, sym, ◌∙◌, inl, inr, arith, length-take-le, drop_of_length-le}
+use Rattle.std.proofs.Common.{ap, ap₂, sym, ◌∙◌, inl, inr, arith, length-take-le, take_all, drop_of_length-le}
 use Rattle.std.proofs.lemmas.List.{set_past, take-append-drop}
 use Rattle.std.proofs.lemmas.List.Edits.{sets, sets-eq}
 use borrow.Rule.Slice.PartMut.{put_mid}
@@ -56,3 +56,9 @@ put_part vs s at a n k e f same =
     sym (take-append-drop (a + n) part)
     ∙ ap₂ ◌++◌ (take-put_mid a k s (take n vs) (a + n) (omega arith) (omega arith)) (drop-put_mid a k s (take n vs) (a + n) (omega arith) (omega arith) (omega arith))
     ∙ put_there vs s at a n e f
+
+-- after a write of all of them
+pub put_all : (vs s : List ℕ) (at a k : ℕ) → a ≡ min at (length s) → length vs ≤ length s - a → k ≡ length vs → put_mid a k s vs ≡ sets s at vs
+put_all vs s at a k e room same =
+    let all : take (length vs) vs ≡ vs = take_all (length vs) vs (omega arith) in
+    ap (put_mid a k s) (sym all) ∙ put_part vs s at a (length vs) k e (omega arith) same

@@ -49,11 +49,16 @@ pub fn u64_at(s: &[u8], at: usize) -> u64
     u64::from_be_bytes(eight_at(s, at))
 }
 
+// The bytes of a number that has room are stored at once: how many they are is known when it is compiled.
 fn put_bytes<const N: usize>(s: &mut [u8], at: usize, bytes: [u8; N])
     ensures { s.new ≡ sets s.old at bytes.entry }
 {
     let at = at.min(s.len());
     let room = N.min(s.len() - at);
+    if room == N {
+        s[at..at + N].copy_from_slice(&bytes);
+        return;
+    }
     s[at..at + room].copy_from_slice(&bytes[..room]);
 }
 

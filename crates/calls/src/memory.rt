@@ -53,7 +53,7 @@ pub struct Memory {
 
 impl Memory {
     // All of it is lent at first, beside the file `contracts` as the list; one that is too long counts as an empty list. Each array is
-    // made where it stays: handed on by value they took the program more than twice the stack.
+    // made in its place: handed on by value they took another 129 KiB of stack.
     pub fn new(rt: &impl Files) -> Self {
         let mut memory = Memory {
             list: Cells {

@@ -7,7 +7,7 @@ use std::io::Write;
 const DIGITS: &[u8; 16] = b"0123456789abcdef";
 
 // Two digits for a byte, the high one first.
-// Kept: by `write!` and `{byte:02x}` a message takes twice the time and more, most of a command's.
+// Kept: by `write!` and `{byte:02x}` a command that writes a message takes three times the instructions.
 fn put_message(page: &mut impl Write, message: &[u8]) -> io::Result<()> {
     let size = message.len();
     write!(page, "write ok {size} ")?;

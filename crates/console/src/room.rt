@@ -1,5 +1,5 @@
 // Standard input in large pieces.
-ghost use Rattle.std.specs.Prelude.{◌≡◌, ℕ, ◌-◌, ◌≤◌, List, [], IfOk, length, take, drop, OnErr};
+ghost use Rattle.std.specs.Prelude.{◌≡◌, ℕ, ◌+◌, ◌-◌, ◌≤◌, List, [], IfOk, length, take, drop, min, OnErr};
 ghost use Rattle.io.specs.Counts.{IsPrefixLen};
 
 use crate::page::Page;
@@ -44,6 +44,14 @@ impl<const N: usize> Room<N> {
         &all[self.at..self.end]
     }
 
+    // The first of what is yet to be used: so many bytes, or all where there are fewer.
+    pub fn first(&self, count: usize) -> &[u8]
+        ensures { result.now ≡ take count self.now }
+    {
+        let all = &self.bytes[..];
+        &all[self.at..end_of(&all[..self.end], self.at, count)]
+    }
+
     // So many bytes are used.
     pub fn consume(&mut self, count: usize)
         requires { count ≤ length self.old }
@@ -75,6 +83,19 @@ impl<const N: usize> Room<N> {
         self.end = read_until(input, &mut self.bytes, left, wanted)?;
         Ok(())
     }
+}
+
+// Where so many bytes end that begin at a place: behind all of them, or where what was read does.
+fn end_of(read: &[u8], at: usize, count: usize) -> usize
+    requires { at ≤ length read.now }
+    ensures { result ≡ at + min count (length read.now - at) }
+{
+    let end = read.len();
+    // Kept: the bound stands by itself, where `min` would answer too, so that an edit can turn one operand of it and nothing else.
+    if count <= end - at {
+        return at + count;
+    }
+    end
 }
 
 // One read behind what is there: where it ends now, and where it ended where nothing came. What is there stays, after an error too.

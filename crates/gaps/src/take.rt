@@ -48,7 +48,7 @@ fn next<R: Read, P: Print, const N: usize, const M: usize>(
     room.fill(input, page, FRONT)?;
     let wanted = length_of(room.unread());
     room.fill(input, page, wanted)?;
-    Ok(wanted.min(room.unread().len()))
+    Ok(room.first(wanted).len())
 }
 
 // All batches. The reading ends with the input, and behind a batch that is cut short or says it is too long. A proved loop has to end,

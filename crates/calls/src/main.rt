@@ -22,7 +22,7 @@ fn run<R: Read, P: Print, const M: usize>(
 ) -> Result<()> {
     let mut room: Room<65536> = Room::new();
     for _ in 0..u64::MAX {
-        let Some((command, length)) = commands::next(input, &mut room, page)? else {
+        let Some((command, length)) = commands::next_beside(input, &mut room, page)? else {
             break;
         };
         obey(page, command, &room.unread()[..length], memory)?;

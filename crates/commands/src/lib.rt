@@ -7,6 +7,6 @@ mod kind;
 mod length;
 
 pub use fields::{batch_in, code_in, key_at, level_at, quote_in, room_in, spread_in, starts_in};
-pub use input::next;
+pub use input::{next, next_beside};
 pub use kind::Command;
 pub use length::{LENGTH_FRONT, READ_KEY, WRITE_KEY};

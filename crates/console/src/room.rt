@@ -62,8 +62,25 @@ impl<const N: usize> Room<N> {
 
     // Has so many bytes yet to be used, or all that are left of the input. What was said is written out before more is waited for.
     // Where writing or reading fails, the answer is that error. What was yet to be used still is, in front of what was read, after an
-    // error too: no byte of the input is lost or changed, and none on the page.
-    pub fn fill<R: Read, P: Print, const M: usize>(
+    // error too; what the same call read before an error is lost.
+    pub fn fill<R: Read, W: Write>(
+        &mut self,
+        input: &mut R,
+        out: &mut W,
+        wanted: usize,
+    ) -> Result<()>
+        ensures { take (length self.old) self.new ≡ self.old }
+    {
+        if wanted <= self.end - self.at {
+            return Ok(());
+        }
+        out.flush()?;
+        self.read_on(input, wanted)
+    }
+
+    // As `fill`, where what was said stands on a page: no byte of it is lost or changed.
+    // Kept: `fill` takes any writer, and of one that isn't known `Stays` can't be said.
+    pub fn fill_beside<R: Read, P: Print, const M: usize>(
         &mut self,
         input: &mut R,
         page: &mut Page<'_, P, M>,
@@ -72,11 +89,18 @@ impl<const N: usize> Room<N> {
         ensures kept { take (length self.old) self.new ≡ self.old }
         ensures page { Stays page.old page.new }
     {
-        let left = self.end - self.at;
-        if wanted <= left {
+        if wanted <= self.end - self.at {
             return Ok(());
         }
         page.flush()?;
+        self.read_on(input, wanted)
+    }
+
+    // What is yet to be used moves to the front, and what is read goes behind it.
+    fn read_on<R: Read>(&mut self, input: &mut R, wanted: usize) -> Result<()>
+        ensures { take (length self.old) self.new ≡ self.old }
+    {
+        let left = self.end - self.at;
         self.bytes.copy_within(self.at..self.end, 0);
         self.at = 0;
         self.end = left;
@@ -135,4 +159,56 @@ pub fn read_all<R: Read>(input: &mut R, room: &mut [u8]) -> Result<usize>
 {
     let wanted = room.len();
     read_until(input, room, 0, wanted)
+}
+
+#[cfg(test)]
+mod tests {
+    use super::*;
+    use std::io::ErrorKind;
+
+    // A writer that is no page: so many times it is still told to write out what was said, and then it fails.
+    #[derive(Drop)]
+    struct Other {
+        left: u8,
+    }
+
+    impl Write for Other {
+        fn write(&mut self, buf: &[u8]) -> Result<usize> {
+            Ok(buf.len())
+        }
+
+        fn flush(&mut self) -> Result<()> {
+            let Some(left) = self.left.checked_sub(1) else {
+                return Err(ErrorKind::WriteZero.into());
+            };
+            self.left = left;
+            Ok(())
+        }
+    }
+
+    // How many bytes are wanted, what is then yet to be used, how many of these are used, and how often the writer was not told yet.
+    const TURNS: [(usize, &str, usize, u8); 5] = [
+        (2, "abcd", 1, 2),
+        (3, "bcd", 0, 2),
+        (4, "bcde", 2, 1),
+        (3, "def", 0, 0),
+        (2, "def", 3, 0),
+    ];
+
+    #[test]
+    fn fill_tells_any_writer_before_it_reads(rt: HostRuntime) -> Result<()> {
+        let mut room: Room<4> = Room::new();
+        let mut input: &[u8] = b"abcdef";
+        let mut out = Other { left: 3 };
+        for (wanted, unread, used, left) in TURNS {
+            room.fill(&mut input, &mut out, wanted)?;
+            assert_eq!(rt; room.unread(), unread.as_bytes(), "{wanted} wanted");
+            assert_eq!(rt; out.left, left, "{wanted} wanted");
+            room.consume(used.min(room.unread().len()));
+        }
+        let mut more: &[u8] = b"g";
+        assert!(rt; room.fill(&mut more, &mut out, 1).is_err());
+        assert!(rt; room.unread().is_empty());
+        Ok(())
+    }
 }

@@ -45,9 +45,9 @@ fn next<R: Read, P: Print, const N: usize, const M: usize>(
     ensures page { Stays page.old page.new }
     ensures size { IfOk result (λ size. size ≤ length room.new) }
 {
-    room.fill(input, page, FRONT)?;
+    room.fill_beside(input, page, FRONT)?;
     let wanted = length_of(room.unread());
-    room.fill(input, page, wanted)?;
+    room.fill_beside(input, page, wanted)?;
     Ok(room.first(wanted).len())
 }
 

@@ -47,7 +47,7 @@ fn next<R: Read, P: Print, const N: usize, const M: usize>(
 ) -> Result<Option<(u8, usize)>>
     ensures { IfOk result (λ next. IfSome next (λ question. question.1 ≤ length room.new)) }
 {
-    room.fill(input, page, 3)?;
+    room.fill_beside(input, page, 3)?;
     let head = room.unread();
     if head.len() < 3 {
         return Ok(None);
@@ -55,7 +55,7 @@ fn next<R: Read, P: Print, const N: usize, const M: usize>(
     let kind = head[0];
     let size = wire::u16_at(head, 1) as usize;
     room.consume(3);
-    room.fill(input, page, size)?;
+    room.fill_beside(input, page, size)?;
     if room.unread().len() < size {
         return Ok(None);
     }

@@ -186,7 +186,7 @@ mod tests {
         }
     }
 
-    // How many bytes are wanted, what is then yet to be used, how many of these are used, and how often the writer was not told yet.
+    // How many bytes are wanted, what is then yet to be used, how many of these are used, and how many times are left.
     const TURNS: [(usize, &str, usize, u8); 5] = [
         (2, "abcd", 1, 2),
         (3, "bcd", 0, 2),
